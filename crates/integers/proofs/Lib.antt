@@ -1,0 +1,6 @@
+pub mod Z
+pub mod Division
+pub mod Bytes
+pub mod Twos
+pub mod Lists
+mod Goals

@@ -1,0 +1,4 @@
+pub mod Order
+pub mod Bound
+pub mod Division
+pub mod Bytes
