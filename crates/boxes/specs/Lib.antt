@@ -1,0 +1,4 @@
+pub mod Box
+pub mod Machine
+pub mod Step
+pub mod Reach
