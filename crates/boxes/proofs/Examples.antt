@@ -5,9 +5,9 @@ use mathlib.Core.List.{List, [], _∷_, _++_}
 use Prim.Native.Nat.{ℕ}
 use lib.IntN.{ℤ, pos, negsuc}
 use lib.ListN.{replicate}
-use Rattle.boxes.specs.Machine.{baseline, command, machine}
+use Rattle.rates.specs.Machine.{baseline, command, machine}
 use Rattle.boxes.specs.Step.{Got, got}
-use Rattle.boxes.specs.Reach.{Reached, reach, anywhere}
+use Rattle.boxes.specs.Reach.{Reached, reach, clear}
 use Rattle.boxes.proofs.Everything.{everything}
 
 zeros : ℕ → List ℤ
@@ -22,10 +22,10 @@ A = (pos 1 ∷ pos 1 ∷ pos 1 ∷ pos 0 ∷ pos 4 ∷ pos 4 ∷ pos 4 ∷ negsu
     ++ ((negsuc 1999999 ∷ pos 0 ∷ pos 0 ∷ negsuc 0 ∷ pos 0 ∷ pos 0 ∷ pos 0 ∷ pos 4 ∷ pos 0 ∷ pos 0 ∷ pos 20 ∷ zeros 24)
     ++ (zeros 245 ++ (box (negsuc 99) (pos 100) ++ (box (pos 130) (pos 2000000) ++ zeros 56))))
 
-after-δ : reach false 0 (machine A (command (pos 25))) anywhere 4 (box (pos 0) (pos 0)) 4 0 ≡ got (record { end = box (pos 16) (pos 20); swept = box (pos 0) (pos 20) }) 2
+after-δ : reach false 0 (machine A (command (pos 25))) (clear 1 A 1) 4 (box (pos 0) (pos 0)) 4 0 ≡ got (record { end = box (pos 16) (pos 20); swept = box (pos 0) (pos 20) }) 2
 unfolding everything zeros box A
 after-δ = refl
 
-after-α : reach false 0 (machine A baseline) anywhere 4 (box (pos 16) (pos 20)) 4 2 ≡ got (record { end = box (pos 12) (pos 20); swept = box (pos 12) (pos 20) }) 4
+after-α : reach false 0 (machine A baseline) (clear 1 A 1) 4 (box (pos 16) (pos 20)) 4 2 ≡ got (record { end = box (pos 12) (pos 20); swept = box (pos 12) (pos 20) }) 4
 unfolding everything zeros box A
 after-α = refl

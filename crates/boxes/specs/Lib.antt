@@ -1,4 +1,2 @@
-pub mod Box
-pub mod Machine
 pub mod Step
 pub mod Reach

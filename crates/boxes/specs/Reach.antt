@@ -1,14 +1,14 @@
 -- The reach (document 01, "One lifted step", its last paragraph), and the public reach with its refusals. All of it computes.
-use mathlib.Core.Bool.{Bool, true, false, cond, _&&_}
+use mathlib.Core.Bool.{Bool, true, false, not, cond, _&&_}
 use mathlib.Core.List.{List}
 use Prim.Native.Nat.{ℕ, zero, suc, _+_, _-_, min}
 use lib.Dec.{leb}
 use lib.IntN.{ℤ, pos, negℤ}
 use lib.Signed.{leZ}
 use lib.ListN.{replicate}
-use Rattle.sheet.specs.Slots.{_!_, boxSize, vars, leastCommand, greatestCommand}
-use Rattle.boxes.specs.Box.{lo, hi, all, hull, trim}
-use Rattle.boxes.specs.Machine.{Law, baseline, command, Machine, machine}
+use Rattle.sheet.specs.Slots.{boxSize, vars, leastCommand, greatestCommand, unsafeBox}
+use Rattle.rates.specs.Box.{lo, hi, all, any, hull, meets, trim}
+use Rattle.rates.specs.Machine.{Law, baseline, command, Machine, machine}
 use Rattle.boxes.specs.Step.{Got, got, failed, out, unsafe, unsettled, andThen, Step, step, swept}
 
 pub record Reached : Type 0 where
@@ -37,10 +37,11 @@ module _ (limited : Bool) (allowance : ℕ) (m : Machine) (clear : List ℤ → 
   unfoldable pub reach : List ℤ → ℕ → ℕ → Got Reached
   reach S ticks c = walk (suc ticks) S S ticks c
 
--- ---- the public reach of a sheet v: no boxes to keep clear of, no allowance
+-- the box shares no state with the first `count` no-go boxes of the sheet v
+unfoldable pub clear : ℕ → List ℤ → ℕ → List ℤ → Bool
+clear n v count B = not (any count (λ j. meets n B (unsafeBox v j)))
 
-abbrev pub anywhere : List ℤ → Bool
-anywhere B = true
+-- ---- the public reach of a sheet v: no boxes to keep clear of, no allowance
 
 -- 14: a command outside the head's
 unfoldable pub lawRefusal : List ℤ → Law → ℕ
@@ -88,4 +89,4 @@ ifAccepted (suc r) a = refused (suc r)
 
 -- a reach of an accepted sheet's value
 unfoldable pub reachOf : List ℤ → ℕ → ℕ → Law → List ℤ → Answer
-reachOf v ticks w l B = ifAccepted (reachRefusal v ticks w l B) (answer (reach false 0 (machine v l) anywhere w (trim (vars v) B) ticks 0))
+reachOf v ticks w l B = ifAccepted (reachRefusal v ticks w l B) (answer (reach false 0 (machine v l) (clear (vars v) v 0) w (trim (vars v) B) ticks 0))

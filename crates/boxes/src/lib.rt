@@ -1,1 +1,1 @@
-// Boxes: the machine on a sheet, the lifted step and the reach (document 01, "One lifted step").
+// The lifted step and the reach (document 01, "One lifted step").

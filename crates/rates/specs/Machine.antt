@@ -11,7 +11,7 @@ use Rattle.integers.specs.Order.{minZ, maxZ}
 use Rattle.integers.specs.Division.{floorDiv, ceilDiv}
 use Rattle.sheet.specs.Slots.{_!_, Row, vars, bands, bandVar, row}
 use Rattle.sheet.specs.Slots as sheet
-use Rattle.boxes.specs.Box.{sum}
+use Rattle.rates.specs.Box.{sum}
 
 -- what acts on the motor: the plain law, or one command
 pub data Law : Type 0 where
