@@ -1,2 +1,3 @@
 pub mod Everything
 mod Examples
+mod Reference

@@ -1,0 +1,3 @@
+pub mod Everything
+pub mod Starred
+mod Reference

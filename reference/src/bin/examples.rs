@@ -1,0 +1,916 @@
+//! Prints `examples.txt`: worked examples with the answers of the second guard.
+//! Each one names what it covers, and the program stops where it does not cover it.
+
+use second_guard::decision::{
+    check_recovery_watched, decide, decide_watched, read_question, Decision, Faults, RecoveryCheck,
+};
+use second_guard::machine::StateBox;
+use second_guard::reach::{reach, Budget, Face, Law, Step, Watch};
+use second_guard::sheet::{self, Band, CommandRange, Row, Sheet};
+use std::fmt::Write;
+use std::ops::ControlFlow;
+
+/// What an example shows.
+#[derive(Clone, Copy, Debug, PartialEq, Eq)]
+enum Covers {
+    Variables(i32),
+    /// A neighborhood over so many bands.
+    BandsMet(usize),
+    /// A row with a spread that a round used.
+    Spread,
+    NegativeCoefficient,
+    /// A bound that the cap cuts.
+    Clamped,
+    /// A bound that the cap leaves.
+    Unclamped,
+    /// A step that begins again so often.
+    Halvings(u32),
+    Keep,
+    Finest,
+    Spent,
+    /// The answer's width is the first, second ... in turn.
+    WidthInTurn(u32),
+    WidthOne,
+    /// The allowance was used up by a failed attempt at the width before.
+    SpentBetweenWidths,
+    /// A keep whose last round is the allowance's last.
+    KeepWithExactAllowance,
+    /// An attempt that failed at an unsafe box before its last tick.
+    UnsafeMet,
+    DeltaNotAlpha,
+    CheckPasses,
+    CheckFails,
+    /// A reach under a command, or under the baseline.
+    UnderCommand,
+    UnderBaseline,
+    /// A reach of no ticks.
+    NoTicks,
+    /// A width above the ticks left.
+    ShorterLastStep,
+    Refused(u8),
+}
+
+impl Covers {
+    fn text(self) -> String {
+        match self {
+            Covers::Variables(n) => format!("n = {n}"),
+            Covers::BandsMet(bands) => format!("a neighborhood over {bands} bands"),
+            Covers::Spread => "a spread".into(),
+            Covers::NegativeCoefficient => "negative coefficients".into(),
+            Covers::Clamped => "clamped changes".into(),
+            Covers::Unclamped => "unclamped changes".into(),
+            Covers::Halvings(times) => format!("a step that halves {times} times"),
+            Covers::Keep => "keep".into(),
+            Covers::Finest => "finest".into(),
+            Covers::Spent => "spent".into(),
+            Covers::WidthInTurn(turn) => {
+                let ordinal = ["first", "second", "third", "fourth"][turn as usize - 1];
+                format!("the {ordinal} width")
+            }
+            Covers::WidthOne => "width 1".into(),
+            Covers::SpentBetweenWidths => "the allowance ends with a failed attempt".into(),
+            Covers::KeepWithExactAllowance => "the last round allowed".into(),
+            Covers::UnsafeMet => "a no-go box met before the last tick".into(),
+            Covers::DeltaNotAlpha => "delta other than alpha".into(),
+            Covers::CheckPasses => "a recovery check that passes".into(),
+            Covers::CheckFails => "a recovery check that fails".into(),
+            Covers::UnderCommand => "under a command".into(),
+            Covers::UnderBaseline => "under the plain law".into(),
+            Covers::NoTicks => "no ticks".into(),
+            Covers::ShorterLastStep => "a last step below the width".into(),
+            Covers::Refused(number) => format!("refused by {number}"),
+        }
+    }
+}
+
+/// What all examples together must show.
+const REQUIRED: &[Covers] = &[
+    Covers::Variables(1),
+    Covers::Variables(2),
+    Covers::Variables(3),
+    Covers::Variables(4),
+    Covers::BandsMet(2),
+    Covers::BandsMet(3),
+    Covers::Spread,
+    Covers::NegativeCoefficient,
+    Covers::Clamped,
+    Covers::Unclamped,
+    Covers::Halvings(2),
+    Covers::Keep,
+    Covers::Finest,
+    Covers::Spent,
+    Covers::WidthInTurn(1),
+    Covers::WidthInTurn(2),
+    Covers::WidthInTurn(3),
+    Covers::WidthOne,
+    Covers::SpentBetweenWidths,
+    Covers::KeepWithExactAllowance,
+    Covers::UnsafeMet,
+    Covers::DeltaNotAlpha,
+    Covers::CheckPasses,
+    Covers::CheckFails,
+    Covers::UnderCommand,
+    Covers::UnderBaseline,
+    Covers::NoTicks,
+    Covers::ShorterLastStep,
+];
+
+/// The most rounds an example may take.
+const ROUNDS: u64 = 60;
+
+/// Counts what the engine did.
+#[derive(Default)]
+struct Counts {
+    bands_met: [bool; sheet::BANDS + 1],
+    clamped: u64,
+    unclamped: u64,
+    halvings: u32,
+    most_halvings: u32,
+    steps: Vec<Step>,
+}
+
+impl Watch for Counts {
+    fn neighborhood(&mut self, _variable: usize, _face: Face, bands: usize) {
+        self.bands_met[bands] = true;
+    }
+
+    fn bound(&mut self, before: i64, after: i64) {
+        if before == after {
+            self.unclamped += 1;
+        } else {
+            self.clamped += 1;
+        }
+    }
+
+    fn halved(&mut self, _ticks: u32) {
+        self.halvings += 1;
+        self.most_halvings = self.most_halvings.max(self.halvings);
+    }
+
+    fn settled(&mut self, step: &Step) -> ControlFlow<()> {
+        self.halvings = 0;
+        self.steps.push(*step);
+        ControlFlow::Continue(())
+    }
+}
+
+/// What is asked of the guard.
+enum Call {
+    Decide {
+        allowance: u32,
+        command: i32,
+        measured: StateBox,
+    },
+    Check,
+    Reach {
+        ticks: u32,
+        width: u32,
+        law: Law,
+        start: StateBox,
+    },
+}
+
+struct Example {
+    name: &'static str,
+    sheet: Sheet,
+    call: Call,
+    covers: Vec<Covers>,
+}
+
+fn sides<const N: usize>(pairs: [(i64, i64); N]) -> StateBox {
+    let mut sides = StateBox::default();
+    for (i, (lower, upper)) in pairs.into_iter().enumerate() {
+        sides.lower[i] = lower;
+        sides.upper[i] = upper;
+    }
+    sides
+}
+
+fn row<const N: usize>(a: [i32; N], b: i32, c: i32, d: i32, q: i32) -> Row {
+    let mut row = Row {
+        a: [0; 4],
+        b,
+        c,
+        d,
+        q,
+    };
+    row.a[..N].copy_from_slice(&a);
+    row
+}
+
+fn band<const N: usize>(edge: i32, safety: (i32, i32), rows: [Row; N]) -> Band {
+    let mut band = Band {
+        edge,
+        safety: CommandRange {
+            least: safety.0,
+            greatest: safety.1,
+        },
+        ..Band::default()
+    };
+    band.rows[..N].copy_from_slice(&rows);
+    band
+}
+
+/// A sheet without bands and boxes yet.
+fn head<const N: usize>(
+    band_variable: i32,
+    times: (i32, i32, i32),
+    commands: (i32, i32),
+    caps: [i32; N],
+) -> Sheet {
+    let mut sheet = Sheet {
+        variables: N as i32,
+        band_variable,
+        delta: times.0,
+        alpha: times.1,
+        rho: times.2,
+        commands: CommandRange {
+            least: commands.0,
+            greatest: commands.1,
+        },
+        ..Sheet::default()
+    };
+    sheet.caps[..N].copy_from_slice(&caps);
+    sheet
+}
+
+fn with<const B: usize, const U: usize>(
+    mut sheet: Sheet,
+    bands: [Band; B],
+    unsafe_boxes: [StateBox; U],
+    recovery: StateBox,
+) -> Sheet {
+    sheet.band_count = B as i32;
+    sheet.bands[..B].copy_from_slice(&bands);
+    sheet.unsafe_count = U as i32;
+    sheet.unsafe_boxes[..U].copy_from_slice(&unsafe_boxes);
+    sheet.recovery = recovery;
+    sheet
+}
+
+const FIRST: i32 = sheet::FIRST_EDGE;
+
+/// A sledge with place and speed, and three bands of the place.
+fn sledge(recovery: StateBox) -> Sheet {
+    let place = row([0, 1], 0, 0, 1, 4);
+    with(
+        head(0, (4, 8, 8), (-20, 20), [8, 6]),
+        [
+            band(FIRST, (0, 5), [place, row([-1, -6], 4, 0, 3, 16)]),
+            band(0, (-2, 2), [place, row([-2, -6], 4, 0, 3, 16)]),
+            band(
+                40,
+                (-10, -5),
+                [row([0, 1], 0, 0, 2, 4), row([-2, -8], 4, 10, 5, 16)],
+            ),
+        ],
+        [sides([(1_000, 2_000_000), (-2_000_000, 2_000_000)])],
+        recovery,
+    )
+}
+
+/// Grows slowly away from 0, so that long steps do not settle.
+fn slow_growth() -> Sheet {
+    let grow = row([1, 0], 0, 0, 0, 4);
+    with(
+        head(1, (8, 1, 4), (-9, 9), [1_000, 3]),
+        [
+            band(FIRST, (0, 0), [grow, row([0, -1], 1, 0, 0, 4)]),
+            band(50, (0, 0), [grow, row([0, -1], 1, 0, 0, 2)]),
+        ],
+        [sides([(-2_000_000, -5_000), (-2_000_000, 2_000_000)])],
+        sides([(0, 3_000), (-60, 60)]),
+    )
+}
+
+/// Four variables in a chain, two bands of the last one.
+fn chain() -> Sheet {
+    let rows = |pull| {
+        [
+            row([-2, 1, 0, 0], 1, 0, 0, 16),
+            row([1, -3, 1, 0], 0, 2, 1, 16),
+            row([0, 1, -3, 1], -1, 0, 2, 16),
+            row([0, 0, 1, pull], 2, -1, 3, 16),
+        ]
+    };
+    with(
+        head(3, (3, 5, 4), (-30, 30), [4, 4, 4, 5]),
+        [band(FIRST, (-1, 1), rows(-4)), band(5, (-3, 0), rows(-6))],
+        [
+            sides([(60, 90), (-100, 100), (-100, 100), (-100, 100)]),
+            sides([(-100, 100), (-90, -60), (-100, 100), (-100, 100)]),
+        ],
+        sides([(-40, 40), (-40, 40), (-40, 40), (-40, 40)]),
+    )
+}
+
+/// Three variables, one band, every change far from its cap.
+fn gentle() -> Sheet {
+    with(
+        head(2, (2, 6, 6), (-5, 5), [900, 900, 900]),
+        [band(
+            FIRST,
+            (-1, 1),
+            [
+                row([-5, 1, 0], 3, 0, 0, 32),
+                row([0, -5, -1], 2, 0, 4, 32),
+                row([1, 0, -5], -1, 5, 0, 32),
+            ],
+        )],
+        [sides([(500, 600), (500, 600), (500, 600)])],
+        sides([(-90, 90), (-90, 90), (-90, 90)]),
+    )
+}
+
+/// One variable with a strong push back: every change is cut by its cap.
+fn stiff() -> Sheet {
+    with(
+        head(0, (5, 3, 6), (-10, 10), [3]),
+        [
+            band(FIRST, (10, 10), [row([0], 1_000, 100_000, 0, 1)]),
+            band(-20, (0, 0), [row([-1], 4, 0, 0, 4)]),
+            band(20, (-10, -10), [row([0], 1_000, -100_000, 50_000, 1)]),
+        ],
+        [sides([(90, 200)]), sides([(-200, -90)])],
+        sides([(-25, 25)]),
+    )
+}
+
+fn examples() -> Vec<Example> {
+    use Covers::*;
+    let origin = sides([(0, 0), (0, 0)]);
+    let wide = sides([(-100, 100), (-70, 75)]);
+    let push = |allowance| Call::Decide {
+        allowance,
+        command: 20,
+        measured: origin,
+    };
+    let ask = |allowance, command, measured| Call::Decide {
+        allowance,
+        command,
+        measured,
+    };
+    let refused = |name, sheet, call, number| Example {
+        name,
+        sheet,
+        call,
+        covers: vec![Refused(number)],
+    };
+    vec![
+        Example {
+            name: "keep_first_width",
+            sheet: sledge(wide),
+            call: push(100),
+            covers: vec![
+                Keep,
+                WidthInTurn(1),
+                Variables(2),
+                BandsMet(3),
+                Spread,
+                DeltaNotAlpha,
+            ],
+        },
+        Example {
+            name: "keep_second_width",
+            sheet: sledge(sides([(-100, 100), (-70, 65)])),
+            call: push(100),
+            covers: vec![
+                Keep,
+                WidthInTurn(2),
+                Clamped,
+                Unclamped,
+                NegativeCoefficient,
+            ],
+        },
+        Example {
+            name: "keep_third_width",
+            sheet: sledge(sides([(-100, 100), (-50, 50)])),
+            call: push(100),
+            covers: vec![Keep, WidthInTurn(3), BandsMet(2)],
+        },
+        Example {
+            name: "keep_width_1",
+            sheet: sledge(sides([(-100, 100), (-30, 30)])),
+            call: push(1_000_000),
+            covers: vec![Keep, WidthInTurn(4), WidthOne],
+        },
+        Example {
+            name: "keep_with_the_last_round",
+            sheet: sledge(sides([(-100, 100), (-70, 65)])),
+            call: push(19),
+            covers: vec![Keep, KeepWithExactAllowance, WidthInTurn(2)],
+        },
+        Example {
+            name: "finest_outside_recovery",
+            sheet: sledge(sides([(-100, 100), (-26, 30)])),
+            call: push(100),
+            covers: vec![Finest, WidthOne, Variables(2)],
+        },
+        Example {
+            name: "finest_at_an_unsafe_box",
+            sheet: Sheet {
+                unsafe_boxes: {
+                    let mut boxes = sledge(wide).unsafe_boxes;
+                    boxes[0] = sides([(10, 10), (20, 21)]);
+                    boxes
+                },
+                ..sledge(wide)
+            },
+            call: push(100),
+            covers: vec![Finest, WidthOne, UnsafeMet],
+        },
+        Example {
+            name: "spent_at_once",
+            sheet: sledge(wide),
+            call: push(0),
+            covers: vec![Spent, WidthInTurn(1)],
+        },
+        Example {
+            name: "spent_first_width",
+            sheet: sledge(wide),
+            call: push(7),
+            covers: vec![Spent, WidthInTurn(1), BandsMet(3)],
+        },
+        Example {
+            name: "spent_between_widths",
+            sheet: sledge(sides([(-100, 100), (-70, 65)])),
+            call: push(8),
+            covers: vec![Spent, WidthInTurn(2), SpentBetweenWidths],
+        },
+        Example {
+            name: "spent_second_width",
+            sheet: sledge(sides([(-100, 100), (-70, 65)])),
+            call: push(18),
+            covers: vec![Spent, WidthInTurn(2)],
+        },
+        Example {
+            name: "spent_third_width",
+            sheet: sledge(sides([(-100, 100), (-50, 30)])),
+            call: push(30),
+            covers: vec![Spent, WidthInTurn(3)],
+        },
+        Example {
+            name: "spent_width_1",
+            sheet: sledge(sides([(-100, 100), (-50, 30)])),
+            call: push(51),
+            covers: vec![Spent, WidthInTurn(4), WidthOne],
+        },
+        Example {
+            name: "two_halvings",
+            sheet: slow_growth(),
+            call: ask(100, 9, sides([(20, 20), (0, 0)])),
+            covers: vec![Keep, Halvings(2), Variables(2), Clamped, Unclamped],
+        },
+        Example {
+            name: "two_halvings_spent",
+            sheet: slow_growth(),
+            call: ask(17, -9, sides([(20, 22), (48, 52)])),
+            covers: vec![Spent, Halvings(2), BandsMet(2)],
+        },
+        Example {
+            name: "chain_keep",
+            sheet: chain(),
+            call: ask(60, 12, sides([(-5, 5), (0, 3), (-2, 2), (1, 6)])),
+            covers: vec![Keep, Variables(4), BandsMet(2), Spread, NegativeCoefficient],
+        },
+        Example {
+            name: "chain_over",
+            sheet: chain(),
+            call: ask(60, -30, sides([(-95, -95), (-58, -57), (-95, -94), (3, 6)])),
+            covers: vec![Finest, Variables(4), WidthOne, UnsafeMet],
+        },
+        Example {
+            name: "gentle_keep",
+            sheet: gentle(),
+            call: ask(200, 5, sides([(-4, 8), (60, 70), (-88, -70)])),
+            covers: vec![Keep, Variables(3), Unclamped],
+        },
+        Example {
+            name: "stiff_keep",
+            sheet: stiff(),
+            call: ask(200, 10, sides([(18, 19)])),
+            covers: vec![Keep, Variables(1), BandsMet(2), Clamped, DeltaNotAlpha],
+        },
+        Example {
+            name: "check_passes",
+            sheet: stiff(),
+            call: Call::Check,
+            covers: vec![CheckPasses, WidthInTurn(1), BandsMet(2), Variables(1)],
+        },
+        Example {
+            name: "check_passes_at_width_1",
+            sheet: chain(),
+            call: Call::Check,
+            covers: vec![CheckPasses, WidthInTurn(3), WidthOne, Variables(4)],
+        },
+        Example {
+            name: "check_fails",
+            sheet: Sheet {
+                recovery: sides([(-10, 10), (-1, 1)]),
+                ..sledge(wide)
+            },
+            call: Call::Check,
+            covers: vec![CheckFails, WidthOne, Variables(2)],
+        },
+        Example {
+            name: "reach_under_command",
+            sheet: sledge(wide),
+            call: Call::Reach {
+                ticks: 9,
+                width: 4,
+                law: Law::Command(-7),
+                start: sides([(36, 41), (-3, 5)]),
+            },
+            covers: vec![UnderCommand, ShorterLastStep, BandsMet(2), Spread],
+        },
+        Example {
+            name: "reach_under_baseline",
+            sheet: chain(),
+            call: Call::Reach {
+                ticks: 6,
+                width: 3,
+                law: Law::Baseline,
+                start: sides([(-20, 20), (-9, 7), (0, 0), (2, 5)]),
+            },
+            covers: vec![UnderBaseline, Variables(4), BandsMet(2), Spread],
+        },
+        Example {
+            name: "reach_with_two_halvings",
+            sheet: slow_growth(),
+            call: Call::Reach {
+                ticks: 9,
+                width: 8,
+                law: Law::Command(3),
+                start: sides([(-20, 20), (46, 51)]),
+            },
+            covers: vec![UnderCommand, Halvings(2), BandsMet(2), ShorterLastStep],
+        },
+        Example {
+            name: "reach_of_no_ticks",
+            sheet: gentle(),
+            call: Call::Reach {
+                ticks: 0,
+                width: 1_000,
+                law: Law::Command(5),
+                start: sides([(-1, 2), (-3, 4), (-5, 6)]),
+            },
+            covers: vec![UnderCommand, NoTicks, Variables(3)],
+        },
+        refused(
+            "refused_row",
+            {
+                let mut sheet = sledge(wide);
+                sheet.bands[1].rows[1].q = 4_097;
+                sheet
+            },
+            push(1),
+            10,
+        ),
+        refused(
+            "refused_recovery_side",
+            sledge(sides([(-1_000_001, 100), (-70, 75)])),
+            Call::Check,
+            11,
+        ),
+        refused(
+            "refused_measured_side",
+            sledge(wide),
+            ask(1, 0, sides([(0, 0), (1, 0)])),
+            15,
+        ),
+        refused(
+            "refused_reach",
+            gentle(),
+            Call::Reach {
+                ticks: 1_001,
+                width: 1,
+                law: Law::Command(6),
+                start: origin,
+            },
+            16,
+        ),
+    ]
+}
+
+fn hex(bytes: &[u8]) -> String {
+    bytes.iter().fold(String::new(), |mut text, byte| {
+        let _ = write!(text, "{byte:02x}");
+        text
+    })
+}
+
+fn pairs(sides: &StateBox, n: usize) -> Vec<u8> {
+    let mut bytes = Vec::new();
+    for i in 0..n {
+        bytes.extend((sides.lower[i] as i32).to_be_bytes());
+        bytes.extend((sides.upper[i] as i32).to_be_bytes());
+    }
+    bytes
+}
+
+fn ranges(sides: &StateBox, n: usize) -> String {
+    let ranges: Vec<String> = (0..n)
+        .map(|i| format!("{}..{}", sides.lower[i], sides.upper[i]))
+        .collect();
+    ranges.join(",")
+}
+
+/// The sheet's bytes, also where the writer would refuse its values:
+/// those are written as allowed ones and then put in their places.
+fn sheet_bytes(sheet: &Sheet) -> Vec<u8> {
+    let mut bytes = vec![0; sheet.length()];
+    if sheet::write(sheet, &mut bytes, 0).is_ok() {
+        return bytes;
+    }
+    let mut allowed = *sheet;
+    let (n, bands) = (sheet.n(), sheet.band_count as usize);
+    for band in &mut allowed.bands[..bands] {
+        for row in &mut band.rows[..n] {
+            row.q = row.q.min(4_096);
+        }
+    }
+    for i in 0..n {
+        allowed.recovery.lower[i] = allowed.recovery.lower[i].max(-1_000_000);
+    }
+    sheet::write(&allowed, &mut bytes, 0).expect("only these values are beyond their bounds");
+    let row_length = 2 * n + 12;
+    let band_length = 14 + n * row_length;
+    for (k, band) in sheet.bands().iter().enumerate() {
+        for (i, row) in band.rows[..n].iter().enumerate() {
+            let end = 20 + 2 * n + k * band_length + 14 + (i + 1) * row_length;
+            bytes[end - 2..end].copy_from_slice(&(row.q as u16).to_be_bytes());
+        }
+    }
+    let recovery = bytes.len() - 8 * n;
+    bytes[recovery..].copy_from_slice(&pairs(&sheet.recovery, n));
+    bytes
+}
+
+/// An example's answer and what was counted on the way.
+struct Answer {
+    code: u8,
+    width: u32,
+    rounds: u64,
+    first_width: u32,
+    counts: Counts,
+    reach: Option<(StateBox, StateBox)>,
+}
+
+fn refused(refusal: sheet::Refusal) -> Answer {
+    Answer {
+        code: 3,
+        width: u32::from(refusal.number()),
+        rounds: 0,
+        first_width: 0,
+        counts: Counts::default(),
+        reach: None,
+    }
+}
+
+fn question_bytes(allowance: u32, command: i32, measured: &StateBox, n: usize) -> Vec<u8> {
+    let mut bytes = b"QS".to_vec();
+    bytes.extend(allowance.to_be_bytes());
+    bytes.extend(command.to_be_bytes());
+    bytes.extend(pairs(measured, n));
+    bytes
+}
+
+fn answer(bytes: &[u8], call: &Call, n: usize) -> Answer {
+    let mut counts = Counts::default();
+    let sheet = match sheet::read(bytes) {
+        Ok(sheet) => sheet,
+        Err(refusal) => return refused(refusal),
+    };
+    match call {
+        Call::Decide {
+            allowance,
+            command,
+            measured,
+        } => {
+            let question_bytes = question_bytes(*allowance, *command, measured, n);
+            let question = match read_question(&sheet, &question_bytes) {
+                Ok(question) => question,
+                Err(refusal) => return refused(refusal),
+            };
+            let decision = decide_watched(&sheet, &question, Faults::default(), &mut counts);
+            assert_eq!(decision, decide(bytes, &question_bytes));
+            let (code, width, rounds) = match decision {
+                Decision::Keep { width, rounds } => (0, width, rounds),
+                Decision::Finest { width, rounds } => (1, width, rounds),
+                Decision::Spent { width, rounds } => (2, width, rounds),
+                Decision::Refused(_) => unreachable!("sheet and question were read"),
+            };
+            Answer {
+                code,
+                width,
+                rounds,
+                first_width: sheet.delta.max(sheet.alpha) as u32,
+                counts,
+                reach: None,
+            }
+        }
+        Call::Check => {
+            let (code, width, rounds) = match check_recovery_watched(&sheet, &mut counts) {
+                RecoveryCheck::Pass { width, rounds } => (0, width, rounds),
+                RecoveryCheck::Fail { width, rounds } => (1, width, rounds),
+                RecoveryCheck::Refused(_) => unreachable!("the sheet was read"),
+            };
+            Answer {
+                code,
+                width,
+                rounds,
+                first_width: sheet.rho as u32,
+                counts,
+                reach: None,
+            }
+        }
+        Call::Reach {
+            ticks,
+            width,
+            law,
+            start,
+        } => {
+            let reached = match reach(&sheet, *ticks, *width, *law, start) {
+                Ok(reached) => reached,
+                Err(refusal) => return refused(refusal),
+            };
+            let mut budget = Budget::unlimited();
+            let end = second_guard::reach::advance(
+                &sheet,
+                *law,
+                start,
+                *ticks,
+                *width,
+                &mut budget,
+                &mut counts,
+            );
+            assert_eq!(end, Ok(reached.end));
+            Answer {
+                code: 0,
+                width: *width,
+                rounds: reached.rounds,
+                first_width: *width,
+                counts,
+                reach: Some((reached.end, reached.swept)),
+            }
+        }
+    }
+}
+
+/// Whether the example really shows it.
+fn shows(covers: Covers, example: &Example, answer: &Answer) -> bool {
+    let sheet = &example.sheet;
+    let n = sheet.n();
+    let counts = &answer.counts;
+    let any_row = |test: fn(&Row) -> bool| {
+        sheet
+            .bands()
+            .iter()
+            .any(|band| band.rows[..n].iter().any(test))
+    };
+    let decides = matches!(example.call, Call::Decide { .. });
+    let decided = |code| decides && answer.code == code;
+    let allowance = match example.call {
+        Call::Decide { allowance, .. } => u64::from(allowance),
+        _ => u64::MAX,
+    };
+    match covers {
+        Covers::Variables(n) => sheet.variables == n,
+        Covers::BandsMet(bands) => counts.bands_met[bands],
+        Covers::Spread => answer.rounds > 0 && any_row(|row| row.d > 0),
+        Covers::NegativeCoefficient => {
+            answer.rounds > 0 && any_row(|row| row.a.iter().any(|&a| a < 0))
+        }
+        Covers::Clamped => counts.clamped > 0,
+        Covers::Unclamped => counts.unclamped > 0,
+        Covers::Halvings(times) => counts.most_halvings == times,
+        Covers::Keep => decided(0),
+        Covers::Finest => decided(1),
+        Covers::Spent => decided(2) && answer.rounds == allowance,
+        Covers::WidthInTurn(turn) => answer.width == answer.first_width >> (turn - 1),
+        Covers::WidthOne => answer.width == 1,
+        Covers::SpentBetweenWidths => {
+            // The last width has had no step, and no round is missing from the settled ones.
+            let settled: u64 = counts.steps.iter().map(|s| u64::from(s.rounds)).sum();
+            decided(2) && settled == answer.rounds && answer.width < answer.first_width
+        }
+        Covers::KeepWithExactAllowance => decided(0) && answer.rounds == allowance,
+        Covers::UnsafeMet => counts
+            .steps
+            .iter()
+            .any(|step| sheet.unsafe_boxes().iter().any(|u| u.meets(&step.swept))),
+        Covers::DeltaNotAlpha => decides && sheet.delta != sheet.alpha,
+        Covers::CheckPasses => matches!(example.call, Call::Check) && answer.code == 0,
+        Covers::CheckFails => matches!(example.call, Call::Check) && answer.code == 1,
+        Covers::UnderCommand => matches!(
+            example.call,
+            Call::Reach {
+                law: Law::Command(_),
+                ..
+            }
+        ),
+        Covers::UnderBaseline => matches!(
+            example.call,
+            Call::Reach {
+                law: Law::Baseline,
+                ..
+            }
+        ),
+        Covers::NoTicks => matches!(example.call, Call::Reach { ticks: 0, .. }),
+        Covers::ShorterLastStep => counts.steps.last().is_some_and(|s| s.ticks < answer.width),
+        Covers::Refused(number) => answer.code == 3 && answer.width == u32::from(number),
+    }
+}
+
+/// The example's line.
+fn line(example: &Example, bytes: &[u8], answer: &Answer) -> String {
+    let n = example.sheet.n();
+    let mut line = format!("{} ", example.name);
+    let _ = match &example.call {
+        Call::Decide {
+            allowance,
+            command,
+            measured,
+        } => write!(
+            line,
+            "decide sheet={} question={}",
+            hex(bytes),
+            hex(&question_bytes(*allowance, *command, measured, n))
+        ),
+        Call::Check => write!(line, "check sheet={}", hex(bytes)),
+        Call::Reach {
+            ticks,
+            width,
+            law,
+            start,
+        } => {
+            let (law, command) = match law {
+                Law::Baseline => (0, 0),
+                Law::Command(command) => (1, *command),
+            };
+            write!(
+                line,
+                "reach sheet={} ticks={ticks} width={width} law={law} command={command} start={}",
+                hex(bytes),
+                hex(&pairs(start, n))
+            )
+        }
+    };
+    let _ = match answer {
+        Answer {
+            reach: Some((end, swept)),
+            rounds,
+            ..
+        } => write!(
+            line,
+            " end={} swept={} rounds={rounds}",
+            ranges(end, n),
+            ranges(swept, n)
+        ),
+        Answer { code: 3, width, .. } => write!(line, " refused={width}"),
+        Answer {
+            code,
+            width,
+            rounds,
+            ..
+        } => write!(line, " code={code} width={width} rounds={rounds}"),
+    };
+    line
+}
+
+fn main() {
+    println!("# Worked examples, as printed by the program `print_examples`. A line has a name, the call,");
+    println!("# its bytes in hex, and the answer. Law 0 is the plain law, law 1 the command.");
+    println!("# Codes: 0 keep or pass, 1 finest or fail, 2 spent.");
+    let mut covered = Vec::new();
+    for example in examples() {
+        let bytes = sheet_bytes(&example.sheet);
+        let answer = answer(&bytes, &example.call, example.sheet.n());
+        assert!(
+            answer.rounds <= ROUNDS,
+            "{} takes {} rounds",
+            example.name,
+            answer.rounds
+        );
+        let texts: Vec<String> = example.covers.iter().map(|covers| covers.text()).collect();
+        for &covers in &example.covers {
+            assert!(
+                shows(covers, &example, &answer),
+                "{} does not show: {}",
+                example.name,
+                covers.text()
+            );
+            covered.push(covers);
+        }
+        println!();
+        println!("# {}", texts.join("; "));
+        println!("{}", line(&example, &bytes, &answer));
+    }
+    for covers in REQUIRED {
+        assert!(
+            covered.contains(covers),
+            "no example shows {}",
+            covers.text()
+        );
+    }
+}

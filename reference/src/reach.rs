@@ -1,0 +1,352 @@
+//! Reach boxes: one step of face lifting, and a reach of several steps at one width.
+//! The engine is generic over a `Watch`, which sees each step and may stop the reach.
+
+use crate::machine::{bands_met, greatest_change, least_change, State, StateBox};
+use crate::sheet::{Refusal, Row, Sheet, START_LIMIT, TICKS_LIMIT};
+use std::ops::ControlFlow;
+
+/// A step that has not settled after this many rounds begins again with half its ticks.
+const ROUNDS_PER_LENGTH: u32 = 8;
+
+/// Which commands the ticks use.
+#[derive(Clone, Copy, Debug, PartialEq, Eq)]
+pub enum Law {
+    /// The plain law: any command of the band's safety range.
+    Baseline,
+    /// This command in every band.
+    Command(i32),
+}
+
+/// A settled step.
+#[derive(Clone, Copy, Debug, PartialEq, Eq)]
+pub struct Step {
+    pub law: Law,
+    pub ticks: u32,
+    pub rounds: u32,
+    pub start: StateBox,
+    pub end: StateBox,
+    pub swept: StateBox,
+}
+
+/// The end box, the swept box and the rounds of a reach.
+#[derive(Clone, Copy, Debug, PartialEq, Eq)]
+pub struct Reach {
+    pub end: StateBox,
+    pub swept: StateBox,
+    pub rounds: u64,
+}
+
+/// The side of a box in one variable.
+#[derive(Clone, Copy, Debug, PartialEq, Eq)]
+pub enum Face {
+    Lower,
+    Upper,
+}
+
+/// Sees what the engine does. Methods left as they are cost nothing.
+pub trait Watch {
+    /// A face's neighborhood meets `bands` bands.
+    #[inline]
+    fn neighborhood(&mut self, _variable: usize, _face: Face, _bands: usize) {}
+
+    /// A band's bound on the change, before and after the clamp.
+    #[inline]
+    fn bound(&mut self, _before: i64, _after: i64) {}
+
+    /// The step begins again with so many ticks.
+    #[inline]
+    fn halved(&mut self, _ticks: u32) {}
+
+    /// A step has settled; `Break` fails the reach.
+    #[inline]
+    fn settled(&mut self, _step: &Step) -> ControlFlow<()> {
+        ControlFlow::Continue(())
+    }
+}
+
+/// Sees nothing.
+pub struct NoWatch;
+
+impl Watch for NoWatch {}
+
+/// The rounds taken so far, and how many there may be.
+#[derive(Clone, Copy, Debug)]
+pub struct Budget {
+    pub rounds: u64,
+    pub allowance: u64,
+}
+
+impl Budget {
+    pub fn limited(allowance: u64) -> Budget {
+        Budget {
+            rounds: 0,
+            allowance,
+        }
+    }
+
+    pub fn unlimited() -> Budget {
+        Budget::limited(u64::MAX)
+    }
+}
+
+/// Why a reach ended before its last tick.
+#[derive(Clone, Copy, Debug, PartialEq, Eq)]
+pub enum Stop {
+    /// A round was due with the allowance used up.
+    Spent,
+    /// The watch stopped it.
+    Failed,
+}
+
+/// How far each face moves in a tick.
+#[derive(Clone, Copy, Default)]
+struct Rates {
+    lower: State,
+    upper: State,
+}
+
+/// The least value of coefficient · x for x from `lower` to `upper`.
+#[inline]
+fn least_product(coefficient: i32, lower: i64, upper: i64) -> i64 {
+    i64::from(coefficient) * if coefficient >= 0 { lower } else { upper }
+}
+
+/// The greatest value likewise.
+#[inline]
+fn greatest_product(coefficient: i32, lower: i64, upper: i64) -> i64 {
+    i64::from(coefficient) * if coefficient >= 0 { upper } else { lower }
+}
+
+/// The least value of a row's numerator over a neighborhood, side by side:
+/// each variable, and the command, at the end that makes its own term least.
+#[inline]
+fn least_numerator<const N: usize>(row: &Row, around: &StateBox, commands: (i64, i64)) -> i64 {
+    let mut sum = least_product(row.b, commands.0, commands.1) + i64::from(row.c);
+    for j in 0..N {
+        sum += least_product(row.a[j], around.lower[j], around.upper[j]);
+    }
+    sum
+}
+
+/// The greatest value likewise.
+#[inline]
+fn greatest_numerator<const N: usize>(row: &Row, around: &StateBox, commands: (i64, i64)) -> i64 {
+    let mut sum = greatest_product(row.b, commands.0, commands.1) + i64::from(row.c);
+    for j in 0..N {
+        sum += greatest_product(row.a[j], around.lower[j], around.upper[j]);
+    }
+    sum
+}
+
+/// One round: the rate of every face over its neighborhood within the enclosure.
+#[inline]
+fn round<const N: usize, W: Watch>(
+    sheet: &Sheet,
+    law: Law,
+    start: &StateBox,
+    enclosure: &StateBox,
+    ticks: u32,
+    watch: &mut W,
+) -> Rates {
+    let v = sheet.band_variable as usize;
+    let bands = sheet.bands();
+    let met_by_all = bands_met(sheet, enclosure.lower[v], enclosure.upper[v]);
+    let mut rates = Rates::default();
+    // The part of the enclosure that is looked at; only the face's own side differs from it.
+    let mut around = *enclosure;
+    for i in 0..N {
+        let cap = i64::from(sheet.caps[i]);
+        let depth = i64::from(ticks + 1) * cap;
+
+        let inner = enclosure.upper[i].min(start.lower[i] + depth);
+        around.upper[i] = inner;
+        let met = if i == v {
+            bands_met(sheet, enclosure.lower[i], inner)
+        } else {
+            met_by_all.clone()
+        };
+        watch.neighborhood(i, Face::Lower, met.len());
+        let mut rate = cap;
+        for band in &bands[met] {
+            let row = &band.rows[i];
+            let numerator = least_numerator::<N>(row, &around, commands(law, band));
+            let change = least_change(row, numerator);
+            let clamped = change.clamp(-cap, cap);
+            watch.bound(change, clamped);
+            rate = rate.min(clamped);
+        }
+        rates.lower[i] = rate;
+        around.upper[i] = enclosure.upper[i];
+
+        let inner = enclosure.lower[i].max(start.upper[i] - depth);
+        around.lower[i] = inner;
+        let met = if i == v {
+            bands_met(sheet, inner, enclosure.upper[i])
+        } else {
+            met_by_all.clone()
+        };
+        watch.neighborhood(i, Face::Upper, met.len());
+        let mut rate = -cap;
+        for band in &bands[met] {
+            let row = &band.rows[i];
+            let numerator = greatest_numerator::<N>(row, &around, commands(law, band));
+            let change = greatest_change(row, numerator);
+            let clamped = change.clamp(-cap, cap);
+            watch.bound(change, clamped);
+            rate = rate.max(clamped);
+        }
+        rates.upper[i] = rate;
+        around.lower[i] = enclosure.lower[i];
+    }
+    rates
+}
+
+/// The least and the greatest command that the law has in a band.
+#[inline]
+fn commands(law: Law, band: &crate::sheet::Band) -> (i64, i64) {
+    match law {
+        Law::Baseline => (
+            i64::from(band.safety.least),
+            i64::from(band.safety.greatest),
+        ),
+        Law::Command(command) => (i64::from(command), i64::from(command)),
+    }
+}
+
+/// The start box with each face moved by so many rates.
+#[inline]
+fn moved<const N: usize>(start: &StateBox, rates: &Rates, times: u32) -> StateBox {
+    let times = i64::from(times);
+    let mut moved = *start;
+    for i in 0..N {
+        moved.lower[i] += times * rates.lower[i];
+        moved.upper[i] += times * rates.upper[i];
+    }
+    moved
+}
+
+/// One lifted step from a start box; nothing where the allowance ends first.
+#[inline]
+fn step<const N: usize, W: Watch>(
+    sheet: &Sheet,
+    law: Law,
+    start: &StateBox,
+    ticks: u32,
+    budget: &mut Budget,
+    watch: &mut W,
+) -> Option<Step> {
+    let before = budget.rounds;
+    let mut ticks = ticks;
+    loop {
+        let mut enclosure = *start;
+        for _ in 0..ROUNDS_PER_LENGTH {
+            if budget.rounds == budget.allowance {
+                return None;
+            }
+            budget.rounds += 1;
+            let rates = round::<N, W>(sheet, law, start, &enclosure, ticks, watch);
+            let on_the_way = start.hull_in::<N>(&moved::<N>(start, &rates, ticks - 1));
+            if on_the_way.inside_in::<N>(&enclosure) {
+                let end = moved::<N>(start, &rates, ticks);
+                return Some(Step {
+                    law,
+                    ticks,
+                    rounds: (budget.rounds - before) as u32,
+                    start: *start,
+                    end,
+                    swept: start.hull_in::<N>(&end),
+                });
+            }
+            enclosure = enclosure.hull_in::<N>(&on_the_way);
+        }
+        ticks /= 2;
+        watch.halved(ticks);
+    }
+}
+
+/// Steps of at most `width` ticks until `ticks` are covered; gives the last end box.
+pub fn advance<W: Watch>(
+    sheet: &Sheet,
+    law: Law,
+    start: &StateBox,
+    ticks: u32,
+    width: u32,
+    budget: &mut Budget,
+    watch: &mut W,
+) -> Result<StateBox, Stop> {
+    // The engine is compiled once for each number of variables.
+    match sheet.variables {
+        1 => advance_in::<1, W>(sheet, law, start, ticks, width, budget, watch),
+        2 => advance_in::<2, W>(sheet, law, start, ticks, width, budget, watch),
+        3 => advance_in::<3, W>(sheet, law, start, ticks, width, budget, watch),
+        _ => advance_in::<4, W>(sheet, law, start, ticks, width, budget, watch),
+    }
+}
+
+fn advance_in<const N: usize, W: Watch>(
+    sheet: &Sheet,
+    law: Law,
+    start: &StateBox,
+    ticks: u32,
+    width: u32,
+    budget: &mut Budget,
+    watch: &mut W,
+) -> Result<StateBox, Stop> {
+    let mut at = *start;
+    let mut left = ticks;
+    while left > 0 {
+        let step =
+            step::<N, W>(sheet, law, &at, width.min(left), budget, watch).ok_or(Stop::Spent)?;
+        if watch.settled(&step).is_break() {
+            return Err(Stop::Failed);
+        }
+        at = step.end;
+        left -= step.ticks;
+    }
+    Ok(at)
+}
+
+/// Grows the swept box of a reach.
+struct Sweep {
+    swept: StateBox,
+}
+
+impl Watch for Sweep {
+    #[inline]
+    fn settled(&mut self, step: &Step) -> ControlFlow<()> {
+        self.swept = self.swept.hull(&step.swept);
+        ControlFlow::Continue(())
+    }
+}
+
+/// A reach of `ticks` ticks at a width from a caller's start box.
+pub fn reach(
+    sheet: &Sheet,
+    ticks: u32,
+    width: u32,
+    law: Law,
+    start: &StateBox,
+) -> Result<Reach, Refusal> {
+    let limit = TICKS_LIMIT as u32;
+    if ticks > limit || width == 0 || width > limit {
+        return Err(Refusal::Reach);
+    }
+    if let Law::Command(command) = law {
+        if !sheet.commands.holds(command) {
+            return Err(Refusal::Command);
+        }
+    }
+    if !start.ordered_within(sheet.n(), START_LIMIT) {
+        return Err(Refusal::Start);
+    }
+    let mut budget = Budget::unlimited();
+    let mut sweep = Sweep { swept: *start };
+    match advance(sheet, law, start, ticks, width, &mut budget, &mut sweep) {
+        Ok(end) => Ok(Reach {
+            end,
+            swept: sweep.swept,
+            rounds: budget.rounds,
+        }),
+        Err(_) => unreachable!("neither the budget nor the watch stops this reach"),
+    }
+}

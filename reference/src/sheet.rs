@@ -1,0 +1,525 @@
+//! Sheets: the values of one machine, the bytes that carry them, and the refusals.
+//! Reader and writer share the tests of the values; the reader adds marks and lengths.
+
+use crate::machine::StateBox;
+
+/// The most variables, bands and unsafe boxes that a sheet has.
+pub const VARIABLES: usize = 4;
+pub const BANDS: usize = 8;
+pub const UNSAFE_BOXES: usize = 8;
+
+/// The bounds that document 01 sets for the values.
+pub const SIDE_LIMIT: i64 = 2_000_000;
+pub const START_LIMIT: i64 = 1_000_000;
+pub const FIRST_EDGE: i32 = -2_000_000;
+pub const LAST_EDGE: i32 = 2_000_000;
+pub const TICKS_LIMIT: i32 = 1_000;
+const COMMAND_LIMIT: i32 = 10_000;
+const CAP_LIMIT: i32 = 1_000;
+const COEFFICIENT_LIMIT: i32 = 1_000;
+const OFFSET_LIMIT: i32 = 100_000_000;
+const DIVISOR_LIMIT: i32 = 4_096;
+
+/// The head's bytes before the caps.
+const HEAD: usize = 20;
+
+/// How many numbers `Sheet::numbers` lists, and where its parts begin.
+pub const NUMBERS: usize = 365;
+const CAPS_AT: usize = 9;
+const BANDS_AT: usize = CAPS_AT + VARIABLES;
+const ROW_NUMBERS: usize = VARIABLES + 4;
+const BAND_NUMBERS: usize = 3 + VARIABLES * ROW_NUMBERS;
+const RECOVERY_AT: usize = BANDS_AT + BANDS * BAND_NUMBERS;
+const UNSAFE_AT: usize = RECOVERY_AT + 2 * VARIABLES;
+
+/// Why a call is refused; the value is document 01's number.
+#[derive(Clone, Copy, Debug, PartialEq, Eq)]
+#[repr(u8)]
+pub enum Refusal {
+    Head = 1,
+    Counts = 2,
+    Times = 3,
+    Commands = 4,
+    Length = 5,
+    Cap = 6,
+    Mark = 7,
+    Edge = 8,
+    SafetyRange = 9,
+    Row = 10,
+    Side = 11,
+    Question = 12,
+    Allowance = 13,
+    Command = 14,
+    Start = 15,
+    Reach = 16,
+    Room = 17,
+}
+
+impl Refusal {
+    pub fn number(self) -> u8 {
+        self as u8
+    }
+}
+
+/// Commands from the least to the greatest, both counted.
+#[derive(Clone, Copy, Debug, Default, PartialEq, Eq)]
+pub struct CommandRange {
+    pub least: i32,
+    pub greatest: i32,
+}
+
+impl CommandRange {
+    pub fn holds(&self, command: i32) -> bool {
+        self.least <= command && command <= self.greatest
+    }
+}
+
+/// How one variable changes in one band: coefficients, spread and divisor.
+#[derive(Clone, Copy, Debug, Default, PartialEq, Eq)]
+pub struct Row {
+    pub a: [i32; VARIABLES],
+    pub b: i32,
+    pub c: i32,
+    pub d: i32,
+    pub q: i32,
+}
+
+/// One mode of the machine: it runs from its edge to just below the next one's.
+#[derive(Clone, Copy, Debug, Default)]
+pub struct Band {
+    pub edge: i32,
+    pub safety: CommandRange,
+    pub rows: [Row; VARIABLES],
+}
+
+/// A sheet's values. What lies beyond the counts has no meaning; the reader leaves it 0.
+#[derive(Clone, Copy, Debug, Default)]
+pub struct Sheet {
+    pub variables: i32,
+    pub band_count: i32,
+    pub unsafe_count: i32,
+    pub band_variable: i32,
+    pub delta: i32,
+    pub alpha: i32,
+    pub rho: i32,
+    pub commands: CommandRange,
+    pub caps: [i32; VARIABLES],
+    pub bands: [Band; BANDS],
+    pub recovery: StateBox,
+    pub unsafe_boxes: [StateBox; UNSAFE_BOXES],
+}
+
+fn within(value: i32, least: i32, greatest: i32) -> bool {
+    least <= value && value <= greatest
+}
+
+fn require(holds: bool, refusal: Refusal) -> Result<(), Refusal> {
+    if holds {
+        Ok(())
+    } else {
+        Err(refusal)
+    }
+}
+
+/// The length in bytes of a sheet with these counts.
+pub fn length(variables: usize, bands: usize, unsafe_boxes: usize) -> usize {
+    let n = variables;
+    HEAD + 2 * n + bands * (14 + n * (2 * n + 12)) + (2 + 8 * n) * (unsafe_boxes + 1)
+}
+
+impl Sheet {
+    /// n, as an index bound.
+    pub fn n(&self) -> usize {
+        self.variables as usize
+    }
+
+    /// The bands up to their count.
+    pub fn bands(&self) -> &[Band] {
+        &self.bands[..self.band_count as usize]
+    }
+
+    /// The unsafe boxes up to their count.
+    pub fn unsafe_boxes(&self) -> &[StateBox] {
+        &self.unsafe_boxes[..self.unsafe_count as usize]
+    }
+
+    /// The sheet's length in bytes; the counts are in range.
+    pub fn length(&self) -> usize {
+        length(
+            self.n(),
+            self.band_count as usize,
+            self.unsafe_count as usize,
+        )
+    }
+
+    fn test_head(&self) -> Result<(), Refusal> {
+        let counts = within(self.variables, 1, VARIABLES as i32)
+            && within(self.band_count, 1, BANDS as i32)
+            && within(self.unsafe_count, 1, UNSAFE_BOXES as i32)
+            && within(self.band_variable, 0, self.variables - 1);
+        require(counts, Refusal::Counts)?;
+        let times = within(self.delta, 1, TICKS_LIMIT)
+            && within(self.alpha, 1, TICKS_LIMIT)
+            && self.delta + self.alpha <= TICKS_LIMIT
+            && within(self.rho, 1, TICKS_LIMIT);
+        require(times, Refusal::Times)?;
+        let CommandRange { least, greatest } = self.commands;
+        let commands = -COMMAND_LIMIT <= least && least <= greatest && greatest <= COMMAND_LIMIT;
+        require(commands, Refusal::Commands)
+    }
+
+    fn test_caps(&self) -> Result<(), Refusal> {
+        let caps = &self.caps[..self.n()];
+        require(
+            caps.iter().all(|&cap| within(cap, 1, CAP_LIMIT)),
+            Refusal::Cap,
+        )
+    }
+
+    fn test_band(&self, k: usize) -> Result<(), Refusal> {
+        let band = &self.bands[k];
+        let edge = match k {
+            0 => band.edge == FIRST_EDGE,
+            _ => self.bands[k - 1].edge < band.edge && band.edge <= LAST_EDGE,
+        };
+        require(edge, Refusal::Edge)?;
+        let CommandRange { least, greatest } = band.safety;
+        let safety =
+            self.commands.least <= least && least <= greatest && greatest <= self.commands.greatest;
+        require(safety, Refusal::SafetyRange)?;
+        let n = self.n();
+        let rows = band.rows[..n].iter().all(|row| {
+            row.a[..n]
+                .iter()
+                .all(|&a| within(a, -COEFFICIENT_LIMIT, COEFFICIENT_LIMIT))
+                && within(row.b, -COEFFICIENT_LIMIT, COEFFICIENT_LIMIT)
+                && within(row.c, -OFFSET_LIMIT, OFFSET_LIMIT)
+                && within(row.d, 0, OFFSET_LIMIT)
+                && within(row.q, 1, DIVISOR_LIMIT)
+        });
+        require(rows, Refusal::Row)
+    }
+
+    fn test_sides(&self, sides: &StateBox, limit: i64) -> Result<(), Refusal> {
+        require(sides.ordered_within(self.n(), limit), Refusal::Side)
+    }
+
+    /// All tests of the values, in the order of the file.
+    fn test(&self) -> Result<(), Refusal> {
+        self.test_head()?;
+        self.test_caps()?;
+        for k in 0..self.bands().len() {
+            self.test_band(k)?;
+        }
+        for unsafe_box in self.unsafe_boxes() {
+            self.test_sides(unsafe_box, SIDE_LIMIT)?;
+        }
+        self.test_sides(&self.recovery, START_LIMIT)
+    }
+
+    /// The values as numbers in fixed slots: head, caps, bands, recovery box, unsafe boxes.
+    pub fn numbers(&self) -> [i32; NUMBERS] {
+        let mut out = [0; NUMBERS];
+        let head = [
+            self.variables,
+            self.band_count,
+            self.unsafe_count,
+            self.band_variable,
+            self.delta,
+            self.alpha,
+            self.rho,
+            self.commands.least,
+            self.commands.greatest,
+        ];
+        out[..CAPS_AT].copy_from_slice(&head);
+        out[CAPS_AT..BANDS_AT].copy_from_slice(&self.caps);
+        for (k, band) in self.bands.iter().enumerate() {
+            let slots = &mut out[BANDS_AT + k * BAND_NUMBERS..][..BAND_NUMBERS];
+            slots[..3].copy_from_slice(&[band.edge, band.safety.least, band.safety.greatest]);
+            for (row, slots) in band
+                .rows
+                .iter()
+                .zip(slots[3..].chunks_exact_mut(ROW_NUMBERS))
+            {
+                slots[..VARIABLES].copy_from_slice(&row.a);
+                slots[VARIABLES..].copy_from_slice(&[row.b, row.c, row.d, row.q]);
+            }
+        }
+        let boxes = std::iter::once(&self.recovery).chain(&self.unsafe_boxes);
+        for (sides, slots) in boxes.zip(out[RECOVERY_AT..].chunks_exact_mut(2 * VARIABLES)) {
+            for i in 0..VARIABLES {
+                slots[i] = sides.lower[i] as i32;
+                slots[VARIABLES + i] = sides.upper[i] as i32;
+            }
+        }
+        out
+    }
+
+    /// The inverse of `numbers`; nothing is tested.
+    pub fn from_numbers(numbers: &[i32; NUMBERS]) -> Sheet {
+        let sides = |at: usize| {
+            let mut sides = StateBox::default();
+            for i in 0..VARIABLES {
+                sides.lower[i] = i64::from(numbers[at + i]);
+                sides.upper[i] = i64::from(numbers[at + VARIABLES + i]);
+            }
+            sides
+        };
+        let coefficients = |at: usize| std::array::from_fn(|i| numbers[at + i]);
+        let row = |at: usize| Row {
+            a: coefficients(at),
+            b: numbers[at + VARIABLES],
+            c: numbers[at + VARIABLES + 1],
+            d: numbers[at + VARIABLES + 2],
+            q: numbers[at + VARIABLES + 3],
+        };
+        let band = |at: usize| Band {
+            edge: numbers[at],
+            safety: CommandRange {
+                least: numbers[at + 1],
+                greatest: numbers[at + 2],
+            },
+            rows: std::array::from_fn(|i| row(at + 3 + i * ROW_NUMBERS)),
+        };
+        Sheet {
+            variables: numbers[0],
+            band_count: numbers[1],
+            unsafe_count: numbers[2],
+            band_variable: numbers[3],
+            delta: numbers[4],
+            alpha: numbers[5],
+            rho: numbers[6],
+            commands: CommandRange {
+                least: numbers[7],
+                greatest: numbers[8],
+            },
+            caps: coefficients(CAPS_AT),
+            bands: std::array::from_fn(|k| band(BANDS_AT + k * BAND_NUMBERS)),
+            recovery: sides(RECOVERY_AT),
+            unsafe_boxes: std::array::from_fn(|j| sides(UNSAFE_AT + j * 2 * VARIABLES)),
+        }
+    }
+}
+
+/// Two sheets are the same when their values up to their counts are.
+impl PartialEq for Sheet {
+    fn eq(&self, other: &Sheet) -> bool {
+        let head = |sheet: &Sheet| {
+            (
+                (sheet.variables, sheet.band_count, sheet.unsafe_count),
+                (sheet.band_variable, sheet.delta, sheet.alpha, sheet.rho),
+                sheet.commands,
+            )
+        };
+        if head(self) != head(other) {
+            return false;
+        }
+        let n = self.variables.clamp(0, VARIABLES as i32) as usize;
+        let bands = self.band_count.clamp(0, BANDS as i32) as usize;
+        let boxes = self.unsafe_count.clamp(0, UNSAFE_BOXES as i32) as usize;
+        let same_row = |(x, y): (&Row, &Row)| {
+            x.a[..n] == y.a[..n] && (x.b, x.c, x.d, x.q) == (y.b, y.c, y.d, y.q)
+        };
+        let same_band = |(x, y): (&Band, &Band)| {
+            (x.edge, x.safety) == (y.edge, y.safety)
+                && x.rows[..n].iter().zip(&y.rows[..n]).all(same_row)
+        };
+        let same_box = |(x, y): (&StateBox, &StateBox)| {
+            x.lower[..n] == y.lower[..n] && x.upper[..n] == y.upper[..n]
+        };
+        self.caps[..n] == other.caps[..n]
+            && self.bands[..bands]
+                .iter()
+                .zip(&other.bands[..bands])
+                .all(same_band)
+            && self.unsafe_boxes[..boxes]
+                .iter()
+                .zip(&other.unsafe_boxes[..boxes])
+                .all(same_box)
+            && same_box((&self.recovery, &other.recovery))
+    }
+}
+
+/// Takes big-endian fields off the front; the length was tested before.
+pub(crate) struct Fields<'a>(pub(crate) &'a [u8]);
+
+impl Fields<'_> {
+    #[inline(always)]
+    fn take<const L: usize>(&mut self) -> [u8; L] {
+        let (field, rest) = self
+            .0
+            .split_first_chunk::<L>()
+            .expect("the length was tested");
+        self.0 = rest;
+        *field
+    }
+
+    pub(crate) fn mark(&mut self, letters: &[u8; 2]) -> bool {
+        self.take::<2>() == *letters
+    }
+
+    fn u8(&mut self) -> i32 {
+        i32::from(self.take::<1>()[0])
+    }
+
+    fn u16(&mut self) -> i32 {
+        i32::from(u16::from_be_bytes(self.take()))
+    }
+
+    fn i16(&mut self) -> i32 {
+        i32::from(i16::from_be_bytes(self.take()))
+    }
+
+    pub(crate) fn u32(&mut self) -> u32 {
+        u32::from_be_bytes(self.take())
+    }
+
+    pub(crate) fn i32(&mut self) -> i32 {
+        i32::from_be_bytes(self.take())
+    }
+
+    /// n pairs of lower and upper side.
+    pub(crate) fn sides(&mut self, n: usize) -> StateBox {
+        let mut sides = StateBox::default();
+        for i in 0..n {
+            sides.lower[i] = i64::from(self.i32());
+            sides.upper[i] = i64::from(self.i32());
+        }
+        sides
+    }
+}
+
+/// Reads a sheet from all of these bytes.
+pub fn read(bytes: &[u8]) -> Result<Sheet, Refusal> {
+    let mut fields = Fields(bytes);
+    if bytes.len() < HEAD || !fields.mark(b"SH") {
+        return Err(Refusal::Head);
+    }
+    let mut sheet = Sheet {
+        variables: fields.u8(),
+        band_count: fields.u8(),
+        unsafe_count: fields.u8(),
+        band_variable: fields.u8(),
+        delta: fields.u16(),
+        alpha: fields.u16(),
+        rho: fields.u16(),
+        commands: CommandRange {
+            least: fields.i32(),
+            greatest: fields.i32(),
+        },
+        ..Sheet::default()
+    };
+    sheet.test_head()?;
+    require(bytes.len() == sheet.length(), Refusal::Length)?;
+    let n = sheet.n();
+    for cap in &mut sheet.caps[..n] {
+        *cap = fields.u16();
+    }
+    sheet.test_caps()?;
+    for k in 0..sheet.band_count as usize {
+        require(fields.mark(b"BD"), Refusal::Mark)?;
+        let band = &mut sheet.bands[k];
+        band.edge = fields.i32();
+        band.safety.least = fields.i32();
+        band.safety.greatest = fields.i32();
+        for row in &mut band.rows[..n] {
+            for a in &mut row.a[..n] {
+                *a = fields.i16();
+            }
+            row.b = fields.i16();
+            row.c = fields.i32();
+            row.d = fields.i32();
+            row.q = fields.u16();
+        }
+        sheet.test_band(k)?;
+    }
+    for j in 0..sheet.unsafe_count as usize {
+        require(fields.mark(b"NG"), Refusal::Mark)?;
+        sheet.unsafe_boxes[j] = fields.sides(n);
+        sheet.test_sides(&sheet.unsafe_boxes[j], SIDE_LIMIT)?;
+    }
+    require(fields.mark(b"RC"), Refusal::Mark)?;
+    sheet.recovery = fields.sides(n);
+    sheet.test_sides(&sheet.recovery, START_LIMIT)?;
+    Ok(sheet)
+}
+
+/// Puts big-endian fields at the front; the room was tested before.
+struct Pen<'a>(&'a mut [u8]);
+
+impl Pen<'_> {
+    fn put<const L: usize>(&mut self, bytes: [u8; L]) {
+        let (field, rest) = std::mem::take(&mut self.0)
+            .split_first_chunk_mut::<L>()
+            .expect("the room was tested");
+        *field = bytes;
+        self.0 = rest;
+    }
+
+    fn u8(&mut self, value: i32) {
+        self.put([value as u8]);
+    }
+
+    /// Two bytes, signed or not: the value is in range for its field.
+    fn two(&mut self, value: i32) {
+        self.put((value as u16).to_be_bytes());
+    }
+
+    fn i32(&mut self, value: i32) {
+        self.put(value.to_be_bytes());
+    }
+
+    fn sides(&mut self, sides: &StateBox, n: usize) {
+        for i in 0..n {
+            self.i32(sides.lower[i] as i32);
+            self.i32(sides.upper[i] as i32);
+        }
+    }
+}
+
+/// Writes a sheet into the buffer from `place` on and returns its length.
+/// A refused call leaves the buffer as it was.
+pub fn write(sheet: &Sheet, buffer: &mut [u8], place: u64) -> Result<usize, Refusal> {
+    sheet.test()?;
+    let length = sheet.length();
+    let room = usize::try_from(place)
+        .ok()
+        .and_then(|place| buffer.get_mut(place..)?.get_mut(..length));
+    let mut pen = Pen(room.ok_or(Refusal::Room)?);
+    let n = sheet.n();
+    pen.put(*b"SH");
+    pen.u8(sheet.variables);
+    pen.u8(sheet.band_count);
+    pen.u8(sheet.unsafe_count);
+    pen.u8(sheet.band_variable);
+    pen.two(sheet.delta);
+    pen.two(sheet.alpha);
+    pen.two(sheet.rho);
+    pen.i32(sheet.commands.least);
+    pen.i32(sheet.commands.greatest);
+    for &cap in &sheet.caps[..n] {
+        pen.two(cap);
+    }
+    for band in sheet.bands() {
+        pen.put(*b"BD");
+        pen.i32(band.edge);
+        pen.i32(band.safety.least);
+        pen.i32(band.safety.greatest);
+        for row in &band.rows[..n] {
+            for &a in &row.a[..n] {
+                pen.two(a);
+            }
+            pen.two(row.b);
+            pen.i32(row.c);
+            pen.i32(row.d);
+            pen.two(row.q);
+        }
+    }
+    for unsafe_box in sheet.unsafe_boxes() {
+        pen.put(*b"NG");
+        pen.sides(unsafe_box, n);
+    }
+    pen.put(*b"RC");
+    pen.sides(&sheet.recovery, n);
+    Ok(length)
+}
