@@ -6,11 +6,11 @@ use lib.Seq.{sets}
 use Rattle.integers.specs.Bytes.{be, beBytes, decode}
 use Rattle.sheet.specs.Refusals.{firstRefusal}
 use Rattle.sheet.specs.Fields.{decoded, encoded, test, offset, filled, coded, bad}
-use Rattle.sheet.specs.Layout.{_▸_, first, groups, headFields, edgeField, rowFields, bandFields, boxFields, fields}
+use Rattle.sheet.specs.Layout.{_▸_, first, groups, headFields, edgeField, rowRest, rowFields, bandFields, sideFields, boxFields, fields}
 use Rattle.sheet.specs.File.{recordAt, start, filledAll, codedAll, marked, badAll}
 use Rattle.sheet.specs.Sheet.{zeros, headOf, shapeOf, contents, stage, refusal, values, valueRefusal, length-of, bytesOf, writeRefusal, written}
 use Rattle.sheet.specs.SheetA.{fileA}
 
 unfoldable pub everything : ℕ
-unfolding be beBytes decode firstRefusal decoded encoded test offset filled coded bad _▸_ first groups headFields edgeField rowFields bandFields boxFields fields recordAt start filledAll codedAll marked badAll zeros headOf shapeOf contents stage refusal values valueRefusal length-of bytesOf writeRefusal written fileA
+unfolding be beBytes decode firstRefusal decoded encoded test offset filled coded bad _▸_ first groups headFields edgeField rowRest rowFields bandFields sideFields boxFields fields recordAt start filledAll codedAll marked badAll zeros headOf shapeOf contents stage refusal values valueRefusal length-of bytesOf writeRefusal written fileA
 everything = 0

@@ -30,12 +30,15 @@ width u16 = 2
 width i16 = 2
 width i32 = 4
 
--- the number that bytes begin with
+-- the number that bytes are, and the one that they begin with
+abbrev pub numberOf : Kind → List ℕ → ℤ
+numberOf u8 bs = pos (be bs)
+numberOf u16 bs = pos (be bs)
+numberOf i16 bs = decode w16 bs
+numberOf i32 bs = decode w32 bs
+
 unfoldable pub decoded : Kind → List ℕ → ℤ
-decoded u8 bs = pos (be (take 1 bs))
-decoded u16 bs = pos (be (take 2 bs))
-decoded i16 bs = decode w16 (take 2 bs)
-decoded i32 bs = decode w32 (take 4 bs)
+decoded k bs = numberOf k (take (width k) bs)
 
 -- a number's bytes, the last of its two's complement
 unfoldable pub encoded : Kind → ℤ → List ℕ

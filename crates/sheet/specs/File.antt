@@ -54,6 +54,10 @@ codedAll s v (suc r) = codedAll s v r ++ recordBytes (s .vars) (recordAt s r) v
 unfoldable pub marked : List ℕ → ℕ → Record → Bool
 marked f at x = eqb (getD f at 0) (mark x .0) && eqb (getD f (at + 1) 0) (mark x .1)
 
+-- whether record r's mark stands where it starts
+abbrev pub markedAt : Shape → List ℕ → ℕ → Bool
+markedAt s f r = marked f (start s r) (recordAt s r)
+
 -- the first refusal of the first r records, a record's mark before its fields. `marks` says which marks are right
 abbrev pub badRecord : (ℕ → Bool) → Shape → List ℤ → ℕ → ℕ
 badRecord marks s v r = elim (marks r) [ true ↦ bad (fieldsAt s r) v (countAt s r) | false ↦ number Cause.mark ]

@@ -72,6 +72,9 @@ greatestSlot = 8
 abbrev pub maxVars : ℕ
 maxVars = 4
 
+abbrev pub capField : ℕ → Field
+capField i = fromTo u16 (capSlot i) 1 1000 Cause.cap
+
 -- n, bands, no-go boxes, band variable; δ, α, ρ; least and greatest command; caps
 unfoldable pub headFields : ℕ → Field
 headFields =
@@ -84,21 +87,24 @@ headFields =
     ▸ fromTo u16 ρSlot 1 1000 Cause.times
     ▸ within i32 leastSlot 10000 Cause.commands
     ▸ ranged i32 greatestSlot (λ v. v ! leastSlot) (λ v. pos 10000) Cause.commands
-    ▸ (λ i. fromTo u16 (capSlot i) 1 1000 Cause.cap)
+    ▸ capField
 
 -- the first edge is given, a later one is greater than the one before it
 unfoldable pub edgeField : ℕ → Field
 edgeField zero = ranged i32 (bandSlot 0) (λ v. negℤ (pos 2000000)) (λ v. negℤ (pos 2000000)) Cause.edge
 edgeField (suc k) = ranged i32 (bandSlot (suc k)) (λ v. v ! bandSlot k +ℤ pos 1) (λ v. pos 2000000) Cause.edge
 
--- the row at a slot: n coefficients a, then b, c, d, q
+-- b, c, d, q from a slot on
+unfoldable pub rowRest : ℕ → ℕ → Field
+rowRest s =
+    within i16 s 1000 Cause.row
+    ▸ within i32 (s + 1) 100000000 Cause.row
+    ▸ fromTo i32 (s + 2) 0 100000000 Cause.row
+    ▸ always (fromTo u16 (s + 3) 1 4096 Cause.row)
+
+-- the row at a slot: n coefficients a, then the rest
 unfoldable pub rowFields : ℕ → ℕ → ℕ → Field
-rowFields n s =
-    first n (λ j. within i16 (s + j) 1000 Cause.row)
-    (within i16 (s + N) 1000 Cause.row
-    ▸ within i32 (s + N + 1) 100000000 Cause.row
-    ▸ fromTo i32 (s + N + 2) 0 100000000 Cause.row
-    ▸ always (fromTo u16 (s + N + 3) 1 4096 Cause.row))
+rowFields n s = first n (λ j. within i16 (s + j) 1000 Cause.row) (rowRest (s + N))
 
 -- edge, safety least and greatest, n rows
 unfoldable pub bandFields : ℕ → ℕ → ℕ → Field
@@ -108,10 +114,13 @@ bandFields n k =
     ▸ ranged i32 (bandSlot k + 2) (λ v. v ! (bandSlot k + 1)) (λ v. v ! greatestSlot) Cause.safety
     ▸ groups (n + 4) (λ i. rowFields n (rowSlot k i))
 
--- the box at a slot, within ±h: pairs of lower and upper side
+-- a lower side at a slot, within ±h, and its upper side
+unfoldable pub sideFields : ℕ → ℕ → ℕ → Field
+sideFields h s = within i32 s h Cause.side ▸ always (ranged i32 (s + N) (λ v. v ! s) (λ v. pos h) Cause.side)
+
+-- the box at a slot: for each variable the two sides
 unfoldable pub boxFields : ℕ → ℕ → ℕ → Field
-boxFields h s =
-    groups 2 (λ i. within i32 (s + i) h Cause.side ▸ always (ranged i32 (s + i + N) (λ v. v ! (s + i)) (λ v. pos h) Cause.side))
+boxFields h s = groups 2 (λ i. sideFields h (s + i))
 
 -- ---- records
 

@@ -11,7 +11,7 @@ use Rattle.sheet.specs.Slots.{_!_, headSize, slots}
 use Rattle.sheet.specs.Refusals.{Cause, unless, firstRefusal}
 use Rattle.sheet.specs.Fields.{filled, bad}
 use Rattle.sheet.specs.Layout.{head, headFields}
-use Rattle.sheet.specs.File.{Shape, shape, records, recordAt, fieldsAt, countAt, start, filledAll, codedAll, marked, badAll}
+use Rattle.sheet.specs.File.{Shape, shape, records, fieldsAt, countAt, start, filledAll, codedAll, marked, markedAt, badAll}
 
 unfoldable pub zeros : List ℤ
 zeros = replicate slots (pos 0)
@@ -34,7 +34,7 @@ unfoldable pub stage : List ℕ → ℕ → ℕ
 stage f zero = unless (leb 20 (length f) && marked f 0 head) Cause.beginning
 stage f (suc zero) = bad headFields (headOf f) headSize
 stage f (suc (suc zero)) = let s = shapeOf f in unless (eqb (length f) (start s (records s))) Cause.size
-stage f (suc (suc (suc i))) = let s = shapeOf f in badAll (λ r. marked f (start s r) (recordAt s r)) s (contents f) (records s)
+stage f (suc (suc (suc i))) = let s = shapeOf f in badAll (markedAt s f) s (contents f) (records s)
 
 -- 0 where the file is accepted, else why it is refused
 unfoldable pub refusal : List ℕ → ℕ

@@ -1,0 +1,168 @@
+-- An accepted sheet is valid, and the value of any file has its length and fits 32 bits. Assumes nothing.
+use mathlib.Core.Path.{_≡_, refl, sym, ap, _∙_, subst}
+use mathlib.Core.List.{List}
+use mathlib.Core.Logic.{_⊎_, ⊎-elim}
+use Prim.Native.Nat.{ℕ, zero, suc, _+_, _*_, _≤_, _<_}
+use native.Mathlib.Omega.{arith}
+use lib.IntN.{ℤ, pos, negsuc, negℤ, natAbs, _+ℤ_, _-ℤ_}
+use lib.Signed.{_≤ℤ_}
+use lib.ListN.{length}
+use mir.Syntax.{w32}
+use mir.Val.{SFits}
+use Rattle.integers.proofs.Z.{ints, flat}
+use Rattle.sheet.specs.Slots.{_!_, N, slots, headSize, bandSlot, rowSlot, recoverySlot, unsafeSlot, vars, bands, boxes, row}
+use Rattle.sheet.specs.Valid.{Between, ValidRow, ValidBox, Valid}
+use Rattle.sheet.specs.Fields.{Kind, u8, u16, i16, i32}
+use Rattle.sheet.specs.Layout.{_▸_, varsSlot, bandsSlot, boxesSlot, bandVarSlot, δSlot, αSlot, ρSlot, headFields, edgeField, rowRest, rowFields, bandFields, sideFields, boxFields}
+use Rattle.sheet.specs.File.{Shape, shape, records, fieldsAt}
+use Rattle.sheet.specs.Sheet.{zeros, shapeOf, contents, refusal, values}
+use Rattle.sheet.proofs.Streams.{Each, each-next, each-low, each-high}
+use Rattle.sheet.proofs.Laws.{InRange, AllGood}
+use Rattle.sheet.proofs.Places.{head-slot}
+use Rattle.sheet.proofs.Read.{TakenAll, origin-all, length-all}
+use Rattle.sheet.proofs.Ranges.{abs-in, Fit, all-fit, head-good, band-good, unsafe-good, recovery-good, each-cap, each-row, each-side}
+use Rattle.sheet.proofs.Accepted.{Accepted, accepted, contents-good, same-shape, length-zeros, zeros-at}
+
+fits-kind : (k : Kind) {z : ℤ} → Fit k z → SFits w32 z
+fits-kind u8 r = simp flat (omega (ints, r .low, r .high))
+fits-kind u16 r = simp flat (omega (ints, r .low, r .high))
+fits-kind i16 r = simp flat (omega (ints, r .low, r .high))
+fits-kind i32 r = simp flat (omega (ints, r .low, r .high))
+
+module _ (v : List ℤ) (g : AllGood v) where
+  valid-row : (k i : ℕ) → k < bands v → i < vars v → ValidRow (vars v) (row v k i)
+  unfolding rowFields rowRest _▸_
+  valid-row k i l m =
+      let h = each-row (vars v) k (band-good v g k l) i m in
+      let a = each-low (vars v) 4 _ _ h in
+      let b = each-high (vars v) 4 _ _ h in
+      record { a = a .at; b = b .at 0 (omega arith); c = b .at 1 (omega arith); d = b .at 2 (omega arith); q = b .at 3 (omega arith) }
+
+  valid-box : (h s : ℕ) → Each (InRange v) (boxFields h s) (vars v * 2) → ValidBox (vars v) (pos h) v s
+  unfolding sideFields _▸_
+  valid-box h s b =
+      let p = each-side (vars v) h s b in
+      record {
+        lower = λ i l. p i l .at 0 (omega arith) .low;
+        ordered = λ i l. p i l .at 1 (omega arith) .low;
+        upper = λ i l. p i l .at 1 (omega arith) .high;
+      }
+
+  -- the numbers before the commands are not below 0
+  not-below : Each (λ x. pos 0 ≤ℤ v ! x .slot) headFields 7
+  unfolding headFields _▸_
+  not-below =
+      let h = head-good v g in
+      each-next _ _ (omega (ints, h .at 0 (omega arith) .low))
+      (each-next _ _ (omega (ints, h .at 1 (omega arith) .low))
+      (each-next _ _ (omega (ints, h .at 2 (omega arith) .low))
+      (each-next _ _ (h .at 3 (omega arith) .low)
+      (each-next _ _ (omega (ints, h .at 4 (omega arith) .low))
+      (each-next _ _ (omega (ints, h .at 5 (omega arith) .low))
+      (each-next _ _ (omega (ints, h .at 6 (omega arith) .low)) (record { at = λ j l. absurd (let z : ⊥ = omega arith in z) })))))))
+
+  head-pos : (i : ℕ) → i < 7 → pos 0 ≤ℤ v ! i
+  head-pos i l = subst (λ (i : ℕ). pos 0 ≤ℤ v ! i) (let e : headFields i .slot ≡ i = omega (arith, head-slot i) in e) (not-below .at i l)
+
+  abs-is : (i : ℕ) → i < 7 → v ! i ≡ pos (natAbs (v ! i))
+  abs-is i l = go (v ! i) (head-pos i l)
+    where
+      go : (z : ℤ) → pos 0 ≤ℤ z → z ≡ pos (natAbs z)
+      go (pos n) h = refl
+      go (negsuc n) h = absurd (h .le)
+
+  edge-at : (k : ℕ) → k < bands v → InRange v (edgeField k)
+  unfolding bandFields _▸_
+  edge-at k l = band-good v g k l .at 0 (omega arith)
+
+  edge-high : (k : ℕ) → k < bands v → v ! bandSlot k ≤ℤ pos 2000000
+  unfolding edgeField
+  edge-high zero l = omega (ints, edge-at 0 l .high)
+  edge-high (suc k) l = edge-at (suc k) l .high
+
+  valid-of : length v ≡ slots → ((i : ℕ) → SFits w32 (v ! i)) → Valid v
+  unfolding headFields bandFields edgeField _▸_
+  valid-of size fits =
+      let h = head-good v g in
+      let n = h .at 0 (omega arith) in
+      let b = h .at 1 (omega arith) in
+      let c = h .at 2 (omega arith) in
+      let x = h .at 3 (omega arith) in
+      let d = h .at 4 (omega arith) in
+      let a = h .at 5 (omega arith) in
+      let r = h .at 6 (omega arith) in
+      let l = h .at 7 (omega arith) in
+      let u = h .at 8 (omega arith) in
+      record {
+        size = size;
+        fits = fits;
+        head = head-pos;
+        vars-low = abs-in (v ! varsSlot) n .0;
+        vars-high = abs-in (v ! varsSlot) n .1;
+        bands-low = abs-in (v ! bandsSlot) b .0;
+        bands-high = abs-in (v ! bandsSlot) b .1;
+        boxes-low = abs-in (v ! boxesSlot) c .0;
+        boxes-high = abs-in (v ! boxesSlot) c .1;
+        var = omega (ints, abs-is bandVarSlot (omega arith), abs-is varsSlot (omega arith), simp flat at (x .high));
+        δ-low = abs-in (v ! δSlot) d .0;
+        α-low = omega (ints, abs-is αSlot (omega arith), a .low);
+        sum-high = omega (ints, abs-is δSlot (omega arith), abs-is αSlot (omega arith), simp flat at (a .high));
+        ρ-low = abs-in (v ! ρSlot) r .0;
+        ρ-high = abs-in (v ! ρSlot) r .1;
+        commands = u .low;
+        commands-low = l .low;
+        commands-high = u .high;
+        caps = each-cap (vars v) h .at;
+        first-edge = (let l : 0 < bands v = omega (arith, abs-in (v ! bandsSlot) b .0) in omega (ints, edge-at 0 l .low, edge-at 0 l .high));
+        edges = λ k l. omega (ints, simp flat at (edge-at (suc k) l .low));
+        edges-high = edge-high;
+        safety = λ k l. band-good v g k l .at 2 (omega arith) .low;
+        safety-low = λ k l. band-good v g k l .at 1 (omega arith) .low;
+        safety-high = λ k l. band-good v g k l .at 2 (omega arith) .high;
+        rows = valid-row;
+        recovery = valid-box 1000000 recoverySlot (recovery-good v g);
+        unsafe = λ j l. valid-box 2000000 (unsafeSlot j) (unsafe-good v g j l);
+      }
+
+module _ (f : List ℕ) (a : Accepted f) where
+  contents-fit : (i : ℕ) → SFits w32 (contents f ! i)
+  unfolding contents
+  contents-fit i =
+      ⊎-elim (λ e. subst (SFits w32) (sym (e ∙ zeros-at i)) (record { sfits = omega arith }))
+      (λ u.
+      let t = subst (λ (s : Shape). TakenAll s (records s) i) (sym (same-shape f (a .small))) u in
+      let x = fieldsAt (shape (contents f)) (t .r) (t .taken .j) in
+      subst (λ (i : ℕ). SFits w32 (contents f ! i)) (t .taken .is) (fits-kind (x .kind) (all-fit (contents f) (contents-good f a) (t .r) (t .below) .at (t .taken .j) (t .taken .below))))
+      (origin-all (shapeOf f) f (records (shapeOf f)) zeros i)
+
+  contents-valid : Valid (contents f)
+  unfolding contents
+  contents-valid = valid-of (contents f) (contents-good f a) (length-all (shapeOf f) f (records (shapeOf f)) zeros ∙ length-zeros) contents-fit
+
+pub valid : (f : List ℕ) → refusal f ≡ 0 → Valid (values f)
+valid f e = let a = accepted f e in subst Valid (sym (a .values)) (contents-valid f a)
+
+-- ---- any file
+
+module _ (f : List ℕ) where
+  -- a refused file has zeros
+  refused : (c : ℕ) → refusal f ≡ suc c → values f ≡ zeros
+  unfolding values
+  refused c e = rw (e, values)
+
+  -- what holds of an accepted sheet and of zeros holds of every value
+  cases : (P : List ℤ → Type 0) → (refusal f ≡ 0 → P (values f)) → P zeros → P (values f)
+  cases P a z = go (refusal f) refl
+    where
+      go : (c : ℕ) → refusal f ≡ c → P (values f)
+      go zero e = a e
+      go (suc c) e = subst P (sym (refused c e)) z
+
+  pub values-zero : (refusal f ≡ 0 → ⊥) → values f ≡ zeros
+  values-zero n = cases (λ v. v ≡ zeros) (λ e. absurd (n e)) refl
+
+  pub length-values : length (values f) ≡ slots
+  length-values = cases (λ v. length v ≡ slots) (λ e. valid f e .size) length-zeros
+
+  pub values-fit : (i : ℕ) → SFits w32 (values f ! i)
+  values-fit i = cases (λ v. SFits w32 (v ! i)) (λ e. valid f e .fits i) (subst (SFits w32) (sym (zeros-at i)) (record { sfits = omega arith }))
