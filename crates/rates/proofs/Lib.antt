@@ -1,1 +1,6 @@
 pub mod Everything
+pub mod Box
+pub mod Face
+pub mod Bands
+pub mod Sound
+pub mod Progress
