@@ -8,7 +8,7 @@ use lib.Dec.{T}
 use lib.IntN.{ℤ}
 use lib.ListN.{getD, length, replicate}
 use Rattle.sheet.specs.Slots.{vars, boxes, δ, α, recoveryBox, unsafeBox}
-use Rattle.sheet.specs.Sheet.{refusal, values}
+use Rattle.sheet.specs.Sheet.{values}
 use Rattle.rates.specs.Box.{In}
 use Rattle.rates.specs.Machine.{Law, baseline, command, machine, Tick}
 use Rattle.decision.specs.Question.{commandOf, measured}
@@ -62,8 +62,8 @@ pub record Safe (f : List ℕ) (qs : List Period) (x : ℕ → List ℤ) : Type 
       → ((t : ℕ) → t < α (values f) → lawAt f qs (suc p * δ (values f) + t) ≡ baseline)
       → In (vars (values f)) (recoveryBox (values f)) (x (suc p * δ (values f) + α (values f)))
 
--- demand 3: if the sheet is accepted and passed its recovery check and the first state is in the recovery box, every run is safe
+-- demand 3: if the sheet passed its recovery check (so it was accepted) and the first state is in the recovery box, every run is safe
 abbrev pub SafeRuns : Type 0
 SafeRuns =
-    (f : List ℕ) → refusal f ≡ 0 → T (isKeep (checkRecovery f))
+    (f : List ℕ) → T (isKeep (checkRecovery f))
     → (qs : List Period) (x : ℕ → List ℤ) → In (vars (values f)) (recoveryBox (values f)) (x 0) → Run f qs x → Safe f qs x
