@@ -1,9 +1,9 @@
 -- What it tells that a file is accepted. Assumes nothing.
-use mathlib.Core.Path.{_≡_, refl, sym, ap, _∙_, subst}
-use mathlib.Core.Bool.{Bool, true, false, _&&_}
+use mathlib.Core.Path.{_≡_, sym, _∙_, subst}
+use mathlib.Core.Bool.{true, _&&_}
 use mathlib.Core.List.{List}
-use mathlib.Core.Logic.{_⊎_, ⊎-elim}
-use Prim.Native.Nat.{ℕ, zero, suc, _+_, _≤_, _<_}
+use mathlib.Core.Logic.{⊎-elim}
+use Prim.Native.Nat.{ℕ, _+_, _≤_, _<_}
 use native.Mathlib.Omega.{arith}
 use lib.Dec.{eqb, leb}
 use lib.IntN.{ℤ, pos, natAbs}
@@ -13,12 +13,13 @@ use Rattle.sheet.specs.Slots.{_!_, slots, headSize, vars}
 use Rattle.sheet.specs.Fields.{decoded, offset}
 use Rattle.sheet.specs.Refusals.{Cause}
 use Rattle.sheet.specs.Layout.{_▸_, Record, varsSlot, bandsSlot, boxesSlot, headFields, fields, count, head}
-use Rattle.sheet.specs.File.{Shape, shape, records, recordAt, fieldsAt, countAt, start, marked, markedAt}
-use Rattle.sheet.specs.Sheet.{zeros, headOf, shapeOf, contents, stage, refusal, values, valueRefusal}
-use Rattle.sheet.proofs.Streams.{Each, lt-or-le}
-use Rattle.sheet.proofs.Laws.{Good, AllGood, first-none, unless-zero, both, bad-ranges, all-marks, all-good, good-all}
-use Rattle.sheet.proofs.Places.{Small, head-at, head-slot}
-use Rattle.sheet.proofs.Read.{filled-at, all-at, length-all}
+use Rattle.sheet.specs.File.{shape, records, fieldsAt, countAt, start, marked, markedAt}
+use Rattle.sheet.specs.Sheet.{zeros, headOf, shapeOf, contents, stage, refusal, values}
+use Rattle.sheet.proofs.Streams.{lt-or-le}
+use Rattle.sheet.proofs.Laws.{InRange, AllGood, first-none, unless-zero, both, bad-ranges, all-marks, all-good}
+use Rattle.sheet.proofs.Records.{EachField, head-at}
+use Rattle.sheet.proofs.Places.{Small, head-slot}
+use Rattle.sheet.proofs.Read.{filled-at, all-at}
 use Rattle.sheet.proofs.Ranges.{small}
 
 pub length-zeros : length zeros ≡ slots
@@ -36,7 +37,7 @@ pub record Accepted (f : List ℕ) : Type 0 where
   pub small : Small (shapeOf f)
   pub size : length f ≡ start (shapeOf f) (records (shapeOf f))
   pub marks : (r : ℕ) → r < records (shapeOf f) → markedAt (shapeOf f) f r ≡ true
-  pub good : Each (Good (shapeOf f .vars) (contents f)) (recordAt (shapeOf f)) (records (shapeOf f))
+  pub good : EachField (InRange (contents f)) (shapeOf f)
   pub values : values f ≡ contents f
 
 pub accepted : (f : List ℕ) → refusal f ≡ 0 → Accepted f
@@ -59,12 +60,12 @@ module _ (v w : List ℤ) where
   pub shape-same : v ! varsSlot ≡ w ! varsSlot → v ! bandsSlot ≡ w ! bandsSlot → v ! boxesSlot ≡ w ! boxesSlot → shape v ≡ shape w
   shape-same p q r = λ i. record { vars = natAbs (p i); bands = natAbs (q i); boxes = natAbs (r i) }
 
-module _ (f : List ℕ) (m : Small (shapeOf f)) where
-  head-number : (j : ℕ) → j < headSize → headOf f ! headFields j .slot ≡ decoded (headFields j .kind) (drop (2 + offset headFields j) f)
-  unfolding headOf
-  head-number =
-      filled-at headFields f 2 headSize zeros (λ i j a b e. omega (arith, head-slot i, head-slot j)) (λ j l. omega (arith, head-slot j, length-zeros))
+pub head-number : (f : List ℕ) (j : ℕ) → j < headSize → headOf f ! headFields j .slot ≡ decoded (headFields j .kind) (drop (2 + offset headFields j) f)
+unfolding headOf
+head-number f =
+    filled-at headFields f 2 headSize zeros (λ i j a b e. omega (arith, head-slot i, head-slot j)) (λ j l. omega (arith, head-slot j, length-zeros))
 
+module _ (f : List ℕ) (m : Small (shapeOf f)) where
   pub number-at : (r : ℕ) → r < records (shapeOf f) → (j : ℕ) → j < countAt (shapeOf f) r
       → contents f ! fieldsAt (shapeOf f) r j .slot ≡ decoded (fieldsAt (shapeOf f) r j .kind) (drop (start (shapeOf f) r + 2 + offset (fieldsAt (shapeOf f) r) j) f)
   unfolding contents
@@ -75,11 +76,11 @@ module _ (f : List ℕ) (m : Small (shapeOf f)) where
   same-head j l =
       let s = shapeOf f in
       let P : Record → Type 0 = λ x. j < count (s .vars) x → contents f ! fields (s .vars) x j .slot ≡ decoded (fields (s .vars) x j .kind) (drop (0 + 2 + offset (fields (s .vars) x) j) f) in
-      subst P (head-at s) (number-at 0 (omega arith) j) (omega arith) ∙ sym (head-number j l)
+      subst P (head-at s) (number-at 0 (omega arith) j) (omega arith) ∙ sym (head-number f j l)
 
   pub same-shape : shape (contents f) ≡ shapeOf f
   unfolding headFields _▸_ shapeOf
   same-shape = shape-same (contents f) (headOf f) (same-head 0 (omega arith)) (same-head 1 (omega arith)) (same-head 2 (omega arith))
 
 pub contents-good : (f : List ℕ) → Accepted f → AllGood (contents f)
-contents-good f a = subst (λ (s : Shape). Each (Good (s .vars) (contents f)) (recordAt s) (records s)) (sym (same-shape f (a .small))) (a .good)
+contents-good f a = subst (EachField (InRange (contents f))) (sym (same-shape f (a .small))) (a .good)

@@ -1,8 +1,5 @@
 -- To compute with a sheet's definitions: `unfolding everything` opens them all. Assumes nothing.
-use mathlib.Core.List.{_++_}
 use Prim.Native.Nat.{ℕ}
-use lib.ListN.{getD, set, take, drop, length, replicate}
-use lib.Seq.{sets}
 use Rattle.integers.specs.Bytes.{be, beBytes, decode}
 use Rattle.sheet.specs.Refusals.{firstRefusal}
 use Rattle.sheet.specs.Fields.{decoded, encoded, test, offset, filled, coded, bad}

@@ -3,7 +3,7 @@ use mathlib.Core.Path.{_≡_, refl}
 use mathlib.Core.List.{List, [], _∷_, _++_, map}
 use Prim.Native.Nat.{ℕ, _+_, _^_}
 use lib.IntN.{ℤ, pos, negsuc}
-use lib.ListN.{take, length, replicate}
+use lib.ListN.{take, replicate}
 use lib.Seq.{sets}
 use Rattle.sheet.specs.Slots.{N, bandSlot, rowSlot, recoverySlot, unsafeSlot}
 use Rattle.sheet.specs.Sheet.{zeros, refusal, values, bytesOf, length-of, writeRefusal, written}

@@ -1,5 +1,5 @@
 -- The laws of `firstRefusal` and `test`: a turn of a loop that tests, and what a test that passed tells. Assumes nothing.
-use mathlib.Core.Path.{_≡_, refl, sym, ap, _∙_}
+use mathlib.Core.Path.{_≡_, refl, sym}
 use mathlib.Core.Bool.{Bool, true, false, _&&_}
 use mathlib.Core.List.{List}
 use mathlib.Core.Logic.{⊎-elim}
@@ -11,14 +11,14 @@ use lib.Dec.{T}
 use lib.IntN.{ℤ}
 use lib.Signed.{leZ, leZ-yes, _≤ℤ_, _<ℤ_}
 use Rattle.integers.proofs.Z.{ints, le-true}
-use Rattle.sheet.specs.Slots.{_!_, vars}
+use Rattle.sheet.specs.Slots.{_!_}
 use Rattle.sheet.specs.Valid.{Between}
 use Rattle.sheet.specs.Refusals.{Cause, number, unless, firstRefusal}
 use Rattle.sheet.specs.Fields.{Field, test, bad}
-use Rattle.sheet.specs.Layout.{Record, fields, count}
 use Rattle.sheet.specs.File.{Shape, shape, records, recordAt, fieldsAt, countAt, badRecord, badAll}
 use Rattle.sheet.specs.Sheet.{valueRefusal}
 use Rattle.sheet.proofs.Streams.{Each}
+use Rattle.sheet.proofs.Records.{EachOf, EachField}
 
 -- ---- the first refusal
 
@@ -129,10 +129,6 @@ pub ranges-bad : (p : ℕ → Field) (v : List ℤ) (k : ℕ) → Each (InRange 
 unfolding bad
 ranges-bad p v k a = none-first (λ j. test v (p j)) k (record { at = λ j l. sym (test-passed v (p j) (a .at j l)) })
 
--- every number of a record lies in its range
-abbrev pub Good : ℕ → List ℤ → Record → Type 0
-Good n v x = Each (InRange v) (fields n x) (count n x)
-
 module _ (marks : ℕ → Bool) (s : Shape) (v : List ℤ) (k : ℕ) where
   passed : (b : Bool) (c : ℕ) → _≡_ {A = ℕ} (elim b [ true ↦ c | false ↦ number Cause.mark ]) 0 → (b ≡ true) × (c ≡ 0)
   passed true c e = (refl, e)
@@ -142,19 +138,19 @@ module _ (marks : ℕ → Bool) (s : Shape) (v : List ℤ) (k : ℕ) where
   unfolding badAll
   all-marks e r l = passed (marks r) (bad (fieldsAt s r) v (countAt s r)) (first-none (badRecord marks s v) k e .at r l) .0
 
-  pub all-good : badAll marks s v k ≡ 0 → Each (Good (s .vars) v) (recordAt s) k
+  pub all-good : badAll marks s v k ≡ 0 → Each (EachOf (InRange v) (s .vars)) (recordAt s) k
   unfolding badAll
   all-good e = record {
     at = λ r l. bad-ranges (fieldsAt s r) v (countAt s r) (passed (marks r) (bad (fieldsAt s r) v (countAt s r)) (first-none (badRecord marks s v) k e .at r l) .1);
   }
 
-  pub good-all : ((r : ℕ) → r < k → marks r ≡ true) → Each (Good (s .vars) v) (recordAt s) k → badAll marks s v k ≡ 0
+  pub good-all : ((r : ℕ) → r < k → marks r ≡ true) → Each (EachOf (InRange v) (s .vars)) (recordAt s) k → badAll marks s v k ≡ 0
   unfolding badAll
   good-all m g = none-first (badRecord marks s v) k (record { at = λ r l. rw (m r l, badRecord) (ranges-bad (fieldsAt s r) v (countAt s r) (g .at r l)) })
 
 -- every number of a sheet, up to its counts, lies in its range
 abbrev pub AllGood : List ℤ → Type 0
-AllGood v = Each (Good (vars v) v) (recordAt (shape v)) (records (shape v))
+AllGood v = EachField (InRange v) (shape v)
 
 module _ (v : List ℤ) where
   pub value-good : valueRefusal v ≡ 0 → AllGood v

@@ -1,9 +1,16 @@
 pub mod Streams
+pub mod Records
 pub mod Laws
 pub mod Places
 pub mod Read
 pub mod Ranges
 pub mod Accepted
 pub mod Valid
+pub mod Answers
+pub mod Length
+pub mod Numbers
+pub mod Says
+pub mod Same
+pub mod RoundTrip
 pub mod Everything
 mod Examples

@@ -1,14 +1,15 @@
 -- No two numbers of a sheet have one slot, and each slot is within the value. Assumes nothing.
 use mathlib.Core.Path.{_≡_, refl, sym, ap, _∙_, subst}
-use mathlib.Core.Logic.{_⊎_, inl, inr, ⊎-elim}
+use mathlib.Core.Logic.{⊎-elim}
 use Prim.Native.Nat.{ℕ, zero, suc, _+_, _*_, _-_, _/_, _%_, _≤_, _<_}
 use native.Mathlib.Omega.{arith}
 use native.Mathlib.Nat.{mod-lt, div-add-mod', div-lt-iff-lt-mul, mul-le-mul-right}
-use Rattle.sheet.specs.Slots.{N, maxBands, maxBoxes, headSize, rowSize, bandSize, boxSize, bandSlot, rowSlot, recoverySlot, unsafeSlot, slots}
+use Rattle.sheet.specs.Slots.{N, maxBands, maxBoxes, rowSize, bandSize, boxSize, bandSlot, rowSlot, recoverySlot, unsafeSlot, slots}
 use Rattle.sheet.specs.Fields.{Field}
 use Rattle.sheet.specs.Layout.{_▸_, first, groups, always, maxVars, headFields, edgeField, rowRest, rowFields, bandFields, sideFields, boxFields, fields, count, Record, head, band, unsafe, recovery}
 use Rattle.sheet.specs.File.{Shape, records, recordAt, fieldsAt, countAt}
-use Rattle.sheet.proofs.Streams.{Each, each-next, each-first, next, first-low, first-high, first-after, lt-or-le}
+use Rattle.sheet.proofs.Streams.{each-first, first-low, first-high, lt-or-le}
+use Rattle.sheet.proofs.Records.{record-cases}
 
 -- the slots of the first k fields lie from lo to below hi, and no two are one
 pub record Spread (p : ℕ → Field) (k lo hi : ℕ) : Type 0 where
@@ -175,43 +176,6 @@ module _ (n : ℕ) (l : n ≤ N) where
   spread-record recovery = spread-box 1000000 recoverySlot
 
 -- ---- the file's records
-
-module _ (s : Shape) where
-  pub head-at : recordAt s 0 ≡ head
-  unfolding recordAt _▸_
-  head-at = refl
-
-  pub band-at : (k : ℕ) → k < s .bands → recordAt s (1 + k) ≡ band k
-  unfolding recordAt
-  band-at k l = next _ _ k ∙ first-low (s .bands) _ _ k l
-
-  pub unsafe-at : (j : ℕ) → j < s .boxes → recordAt s (1 + (s .bands + j)) ≡ unsafe j
-  unfolding recordAt
-  unsafe-at j l = next _ _ (s .bands + j) ∙ first-after (s .bands) _ _ j ∙ first-low (s .boxes) _ _ j l
-
-  pub recovery-at : recordAt s (1 + (s .bands + s .boxes)) ≡ recovery
-  unfolding recordAt
-  recovery-at = next _ _ (s .bands + s .boxes) ∙ first-after (s .bands) _ _ (s .boxes) ∙ first-high (s .boxes) _ _ (s .boxes) (omega arith)
-
-  -- what holds of the four kinds holds of each record
-  module _ (P : ℕ → Record → Type 0) where
-    put : (m r : ℕ) {x : Record} → m ≡ r → recordAt s m ≡ x → P m x → P r (recordAt s r)
-    put m r e q a = subst (λ (r : ℕ). P r (recordAt s r)) e (subst (P m) (sym q) a)
-
-    pub record-cases : P 0 head → ((k : ℕ) → k < s .bands → P (1 + k) (band k)) → ((j : ℕ) → j < s .boxes → P (1 + (s .bands + j)) (unsafe j))
-        → P (1 + (s .bands + s .boxes)) recovery → (r : ℕ) → r < records s → P r (recordAt s r)
-    record-cases a b c d r l =
-        ⊎-elim (λ (q : r < 1). put 0 r (omega arith) head-at a)
-        (λ (p : 1 ≤ r).
-        let k = r - 1 in
-        ⊎-elim (λ (q : k < s .bands). put (1 + k) r (omega arith) (band-at k q) (b k q))
-        (λ (o : s .bands ≤ k).
-        let j = k - s .bands in
-        ⊎-elim (λ (q : j < s .boxes). put (1 + (s .bands + j)) r (omega arith) (unsafe-at j q) (c j q))
-        (λ (q : s .boxes ≤ j). put (1 + (s .bands + s .boxes)) r (omega arith) recovery-at d)
-        (lt-or-le j (s .boxes)))
-        (lt-or-le k (s .bands)))
-        (lt-or-le r 1)
 
 -- record r is the one that has slot x
 record Owner (s : Shape) (x r : ℕ) : Type 0 where

@@ -1,26 +1,23 @@
 -- What it tells that every number of a sheet lies in its range: the counts are small, and each number fits its kind. Assumes nothing.
-use mathlib.Core.Path.{_≡_, refl, sym, ap, _∙_, subst}
+use mathlib.Core.Path.{_≡_, subst}
 use mathlib.Core.Bool.{_&&_}
 use mathlib.Core.List.{List}
-use Prim.Native.Nat.{ℕ, zero, suc, _+_, _*_, _-_, _≤_, _<_}
+use Prim.Native.Nat.{ℕ, zero, suc, _+_, _*_, _≤_, _<_}
 use native.Mathlib.Omega.{arith}
 use lib.Dec.{T}
-use lib.IntN.{ℤ, pos, negsuc, negℤ, natAbs, _+ℤ_, _-ℤ_}
-use lib.Signed.{leZ, leZ-yes, _≤ℤ_, _<ℤ_}
-use mir.Syntax.{w32}
-use mir.Val.{SFits}
+use lib.IntN.{ℤ, pos, negsuc, negℤ, natAbs}
+use lib.Signed.{leZ, leZ-yes}
 use mir.Facts.{and-yes}
-use Rattle.integers.proofs.Z.{ints, flat, sum, sub}
-use Rattle.sheet.specs.Slots.{_!_, N, headSize, bandSlot, rowSlot, recoverySlot, unsafeSlot, vars, bands, boxes}
+use Rattle.integers.proofs.Z.{ints, flat}
+use Rattle.sheet.specs.Slots.{_!_, headSize, bandSlot, rowSlot, recoverySlot, unsafeSlot, vars, bands, boxes}
 use Rattle.sheet.specs.Valid.{Between}
 use Rattle.sheet.specs.Fields.{Kind, u8, u16, i16, i32, Field}
-use Rattle.sheet.specs.Layout.{_▸_, capField, varsSlot, bandsSlot, boxesSlot, leastSlot, greatestSlot, δSlot, headFields, edgeField, rowRest, rowFields, bandFields, sideFields, boxFields, fields, count, head, band, unsafe, recovery}
-use Rattle.sheet.specs.File.{Shape, shape, records, recordAt, fieldsAt, countAt}
-use Rattle.sheet.proofs.Streams.{Each, each-next, each-first, each-groups, each-rest, each-low, each-high, each-group}
-use Rattle.sheet.proofs.Laws.{InRange, Good, AllGood}
-use Rattle.sheet.proofs.Places.{Small, head-at, band-at, unsafe-at, recovery-at, record-cases}
-
--- ---- the parts of a sheet whose numbers are all in range
+use Rattle.sheet.specs.Layout.{_▸_, varsSlot, bandsSlot, boxesSlot, headFields, edgeField, rowRest, rowFields, bandFields, sideFields, boxFields}
+use Rattle.sheet.specs.File.{shape}
+use Rattle.sheet.proofs.Streams.{Each, each-next, each-first, each-groups, each-low, each-high}
+use Rattle.sheet.proofs.Laws.{InRange, AllGood}
+use Rattle.sheet.proofs.Records.{EachField, each-field, each-head, each-band, each-unsafe, each-recovery, each-cap, each-row, each-side}
+use Rattle.sheet.proofs.Places.{Small}
 
 pub abs-in : {l h : ℕ} (z : ℤ) → Between (pos l) (pos h) z → (l ≤ natAbs z) × (natAbs z ≤ h)
 abs-in (pos n) r = (omega (ints, r .low), omega (ints, r .high))
@@ -33,38 +30,6 @@ small v h = record {
   bands = abs-in (v ! bandsSlot) (h .at 1 (omega arith)) .1;
   boxes = abs-in (v ! boxesSlot) (h .at 2 (omega arith)) .1;
 }
-
-module _ (v : List ℤ) (g : AllGood v) where
-  pub head-good : Each (InRange v) headFields (headSize + vars v)
-  unfolding fields
-  head-good = subst (Good (vars v) v) (head-at (shape v)) (g .at 0 (omega arith))
-
-  pub band-good : (k : ℕ) → k < bands v → Each (InRange v) (bandFields (vars v) k) (3 + vars v * (vars v + 4))
-  unfolding fields
-  band-good k l = subst (Good (vars v) v) (band-at (shape v) k l) (g .at (1 + k) (omega arith))
-
-  pub unsafe-good : (j : ℕ) → j < boxes v → Each (InRange v) (boxFields 2000000 (unsafeSlot j)) (vars v * 2)
-  unfolding fields
-  unsafe-good j l = subst (Good (vars v) v) (unsafe-at (shape v) j l) (g .at (1 + (bands v + j)) (omega arith))
-
-  pub recovery-good : Each (InRange v) (boxFields 1000000 recoverySlot) (vars v * 2)
-  unfolding fields
-  recovery-good = subst (Good (vars v) v) (recovery-at (shape v)) (g .at (1 + (bands v + boxes v)) (omega arith))
-
-module _ {P : Field → Type 0} (n : ℕ) where
-  pub each-cap : Each P headFields (headSize + n) → Each P capField n
-  unfolding headFields _▸_
-  each-cap h = record { at = λ i l. (let e : headSize + i ≡ suc (suc (suc (suc (suc (suc (suc (suc (suc i)))))))) = omega arith in rw e at (h .at (headSize + i) (omega arith))) }
-
-  pub each-row : (k : ℕ) → Each P (bandFields n k) (3 + n * (n + 4)) → (i : ℕ) → i < n → Each P (rowFields n (rowSlot k i)) (n + 4)
-  unfolding bandFields
-  each-row k b =
-      let e : 3 + n * (n + 4) ≡ suc (suc (suc (n * (n + 4)))) = omega arith in
-      each-group n (n + 4) _ (each-rest _ _ (each-rest _ _ (each-rest _ _ (subst (Each P (bandFields n k)) e b))))
-
-  pub each-side : (h s : ℕ) → Each P (boxFields h s) (n * 2) → (i : ℕ) → i < n → Each P (sideFields h (s + i)) 2
-  unfolding boxFields
-  each-side h s = each-group n 2 (λ i. sideFields h (s + i))
 
 -- ---- kinds
 
@@ -141,10 +106,10 @@ module _ (v : List ℤ) (n : ℕ) where
 module _ (v : List ℤ) (g : AllGood v) where
   edge-in : (k : ℕ) → k < bands v → Between (negℤ (pos 2000000)) (pos 2000000) (v ! bandSlot k)
   unfolding bandFields edgeField _▸_
-  edge-in zero l = known (band-good v g 0 l .at 0 (omega arith)) tt tt
+  edge-in zero l = known (each-band (shape v) g 0 l .at 0 (omega arith)) tt tt
   edge-in (suc k) l =
       let e = edge-in k (omega arith) in
-      let b = band-good v g (suc k) l .at 0 (omega arith) in
+      let b = each-band (shape v) g (suc k) l .at 0 (omega arith) in
       record { low = omega (ints, e .low, simp flat at (b .low)); high = b .high }
 
   edge-fit : (k : ℕ) → k < bands v → FieldFits v (edgeField k)
@@ -157,18 +122,16 @@ module _ (v : List ℤ) (g : AllGood v) where
   band-fit k l =
       let n = vars v in
       let e : suc (suc (suc (n * (n + 4)))) ≡ 3 + n * (n + 4) = omega arith in
-      let h = head-fit v n (head-good v g) in
+      let h = head-fit v n (each-head (shape v) g) in
       let greatest = h .at 8 (omega arith) in
-      let b = band-good v g k l in
+      let b = each-band (shape v) g k l in
       let safety = between (b .at 1 (omega arith)) (h .at 7 (omega arith)) greatest in
       subst (Each (FieldFits v) (bandFields n k)) e
       (each-next _ _ (edge-fit k l) (each-next _ _ safety (each-next _ _ (between (b .at 2 (omega arith)) safety greatest)
       (each-groups n (n + 4) _ (λ i m. row-fit v n (rowSlot k i) (each-row n k b i m))))))
 
   -- every number of a sheet whose numbers are all in range fits its kind
-  pub all-fit : (r : ℕ) → r < records (shape v) → Each (FieldFits v) (fieldsAt (shape v) r) (countAt (shape v) r)
-  unfolding fields
+  pub all-fit : EachField (FieldFits v) (shape v)
   all-fit =
-      record-cases (shape v) (λ r x. Each (FieldFits v) (fields (vars v) x) (count (vars v) x))
-      (head-fit v (vars v) (head-good v g)) band-fit
-      (λ j l. box-fit v (vars v) 2000000 (unsafeSlot j) (omega arith) (unsafe-good v g j l)) (box-fit v (vars v) 1000000 recoverySlot (omega arith) (recovery-good v g))
+      each-field (shape v) (head-fit v (vars v) (each-head (shape v) g)) band-fit
+      (λ j l. box-fit v (vars v) 2000000 (unsafeSlot j) (omega arith) (each-unsafe (shape v) g j l)) (box-fit v (vars v) 1000000 recoverySlot (omega arith) (each-recovery (shape v) g))

@@ -1,26 +1,27 @@
 -- An accepted sheet is valid, and the value of any file has its length and fits 32 bits. Assumes nothing.
-use mathlib.Core.Path.{_≡_, refl, sym, ap, _∙_, subst}
+use mathlib.Core.Path.{_≡_, refl, sym, _∙_, subst}
 use mathlib.Core.List.{List}
-use mathlib.Core.Logic.{_⊎_, ⊎-elim}
-use Prim.Native.Nat.{ℕ, zero, suc, _+_, _*_, _≤_, _<_}
+use mathlib.Core.Logic.{⊎-elim}
+use Prim.Native.Nat.{ℕ, zero, suc, _*_, _<_}
 use native.Mathlib.Omega.{arith}
-use lib.IntN.{ℤ, pos, negsuc, negℤ, natAbs, _+ℤ_, _-ℤ_}
+use lib.IntN.{ℤ, pos, negsuc, natAbs}
 use lib.Signed.{_≤ℤ_}
 use lib.ListN.{length}
 use mir.Syntax.{w32}
 use mir.Val.{SFits}
 use Rattle.integers.proofs.Z.{ints, flat}
-use Rattle.sheet.specs.Slots.{_!_, N, slots, headSize, bandSlot, rowSlot, recoverySlot, unsafeSlot, vars, bands, boxes, row}
-use Rattle.sheet.specs.Valid.{Between, ValidRow, ValidBox, Valid}
+use Rattle.sheet.specs.Slots.{_!_, slots, bandSlot, recoverySlot, unsafeSlot, vars, bands, row}
+use Rattle.sheet.specs.Valid.{ValidRow, ValidBox, Valid}
 use Rattle.sheet.specs.Fields.{Kind, u8, u16, i16, i32}
 use Rattle.sheet.specs.Layout.{_▸_, varsSlot, bandsSlot, boxesSlot, bandVarSlot, δSlot, αSlot, ρSlot, headFields, edgeField, rowRest, rowFields, bandFields, sideFields, boxFields}
 use Rattle.sheet.specs.File.{Shape, shape, records, fieldsAt}
 use Rattle.sheet.specs.Sheet.{zeros, shapeOf, contents, refusal, values}
 use Rattle.sheet.proofs.Streams.{Each, each-next, each-low, each-high}
 use Rattle.sheet.proofs.Laws.{InRange, AllGood}
+use Rattle.sheet.proofs.Records.{each-head, each-band, each-unsafe, each-recovery, each-cap, each-row, each-side}
 use Rattle.sheet.proofs.Places.{head-slot}
 use Rattle.sheet.proofs.Read.{TakenAll, origin-all, length-all}
-use Rattle.sheet.proofs.Ranges.{abs-in, Fit, all-fit, head-good, band-good, unsafe-good, recovery-good, each-cap, each-row, each-side}
+use Rattle.sheet.proofs.Ranges.{abs-in, Fit, all-fit}
 use Rattle.sheet.proofs.Accepted.{Accepted, accepted, contents-good, same-shape, length-zeros, zeros-at}
 
 fits-kind : (k : Kind) {z : ℤ} → Fit k z → SFits w32 z
@@ -33,7 +34,7 @@ module _ (v : List ℤ) (g : AllGood v) where
   valid-row : (k i : ℕ) → k < bands v → i < vars v → ValidRow (vars v) (row v k i)
   unfolding rowFields rowRest _▸_
   valid-row k i l m =
-      let h = each-row (vars v) k (band-good v g k l) i m in
+      let h = each-row (vars v) k (each-band (shape v) g k l) i m in
       let a = each-low (vars v) 4 _ _ h in
       let b = each-high (vars v) 4 _ _ h in
       record { a = a .at; b = b .at 0 (omega arith); c = b .at 1 (omega arith); d = b .at 2 (omega arith); q = b .at 3 (omega arith) }
@@ -52,7 +53,7 @@ module _ (v : List ℤ) (g : AllGood v) where
   not-below : Each (λ x. pos 0 ≤ℤ v ! x .slot) headFields 7
   unfolding headFields _▸_
   not-below =
-      let h = head-good v g in
+      let h = each-head (shape v) g in
       each-next _ _ (omega (ints, h .at 0 (omega arith) .low))
       (each-next _ _ (omega (ints, h .at 1 (omega arith) .low))
       (each-next _ _ (omega (ints, h .at 2 (omega arith) .low))
@@ -73,7 +74,7 @@ module _ (v : List ℤ) (g : AllGood v) where
 
   edge-at : (k : ℕ) → k < bands v → InRange v (edgeField k)
   unfolding bandFields _▸_
-  edge-at k l = band-good v g k l .at 0 (omega arith)
+  edge-at k l = each-band (shape v) g k l .at 0 (omega arith)
 
   edge-high : (k : ℕ) → k < bands v → v ! bandSlot k ≤ℤ pos 2000000
   unfolding edgeField
@@ -83,7 +84,7 @@ module _ (v : List ℤ) (g : AllGood v) where
   valid-of : length v ≡ slots → ((i : ℕ) → SFits w32 (v ! i)) → Valid v
   unfolding headFields bandFields edgeField _▸_
   valid-of size fits =
-      let h = head-good v g in
+      let h = each-head (shape v) g in
       let n = h .at 0 (omega arith) in
       let b = h .at 1 (omega arith) in
       let c = h .at 2 (omega arith) in
@@ -116,12 +117,12 @@ module _ (v : List ℤ) (g : AllGood v) where
         first-edge = (let l : 0 < bands v = omega (arith, abs-in (v ! bandsSlot) b .0) in omega (ints, edge-at 0 l .low, edge-at 0 l .high));
         edges = λ k l. omega (ints, simp flat at (edge-at (suc k) l .low));
         edges-high = edge-high;
-        safety = λ k l. band-good v g k l .at 2 (omega arith) .low;
-        safety-low = λ k l. band-good v g k l .at 1 (omega arith) .low;
-        safety-high = λ k l. band-good v g k l .at 2 (omega arith) .high;
+        safety = λ k l. each-band (shape v) g k l .at 2 (omega arith) .low;
+        safety-low = λ k l. each-band (shape v) g k l .at 1 (omega arith) .low;
+        safety-high = λ k l. each-band (shape v) g k l .at 2 (omega arith) .high;
         rows = valid-row;
-        recovery = valid-box 1000000 recoverySlot (recovery-good v g);
-        unsafe = λ j l. valid-box 2000000 (unsafeSlot j) (unsafe-good v g j l);
+        recovery = valid-box 1000000 recoverySlot (each-recovery (shape v) g);
+        unsafe = λ j l. valid-box 2000000 (unsafeSlot j) (each-unsafe (shape v) g j l);
       }
 
 module _ (f : List ℕ) (a : Accepted f) where
@@ -132,7 +133,7 @@ module _ (f : List ℕ) (a : Accepted f) where
       (λ u.
       let t = subst (λ (s : Shape). TakenAll s (records s) i) (sym (same-shape f (a .small))) u in
       let x = fieldsAt (shape (contents f)) (t .r) (t .taken .j) in
-      subst (λ (i : ℕ). SFits w32 (contents f ! i)) (t .taken .is) (fits-kind (x .kind) (all-fit (contents f) (contents-good f a) (t .r) (t .below) .at (t .taken .j) (t .taken .below))))
+      subst (λ (i : ℕ). SFits w32 (contents f ! i)) (t .taken .is) (fits-kind (x .kind) (all-fit (contents f) (contents-good f a) .at (t .r) (t .below) .at (t .taken .j) (t .taken .below))))
       (origin-all (shapeOf f) f (records (shapeOf f)) zeros i)
 
   contents-valid : Valid (contents f)
