@@ -19,7 +19,7 @@ use Rattle.sheet.proofs.Streams.{lt-or-le}
 use Rattle.sheet.proofs.Laws.{InRange, AllGood, first-none, unless-zero, both, bad-ranges, all-marks, all-good}
 use Rattle.sheet.proofs.Records.{EachField, head-at}
 use Rattle.sheet.proofs.Places.{Small, head-slot}
-use Rattle.sheet.proofs.Read.{filled-at, all-at}
+use Rattle.sheet.proofs.Filled.{filled-at, all-at}
 use Rattle.sheet.proofs.Ranges.{small}
 
 pub length-zeros : length zeros ≡ slots

@@ -1,100 +1,65 @@
--- Where a field stands in its record, and a sheet's length (document 01's formula). Assumes nothing.
-use mathlib.Core.Path.{_≡_, refl, ap, ap₂, _∙_}
+-- Where a record's fields stand, and a sheet's length (document 01's formula). Assumes nothing.
+use mathlib.Core.Path.{_≡_, refl, ap, _∙_}
 use mathlib.Core.List.{List}
 use Prim.Native.Nat.{ℕ, zero, suc, _+_, _*_, _≤_, _<_}
 use native.Mathlib.Omega.{arith}
-use native.Mathlib.Nat.{add-zero, add-suc, zero-mul, suc-mul, mul-comm}
+use native.Mathlib.Nat.{zero-mul, suc-mul, mul-comm}
 use lib.IntN.{ℤ}
 use Rattle.sheet.specs.Slots.{N, headSize, rowSlot, recoverySlot, unsafeSlot, vars, bands, boxes}
 use Rattle.sheet.specs.Fields.{Field, width, offset}
-use Rattle.sheet.specs.Layout.{_▸_, first, groups, headFields, edgeField, rowRest, rowFields, bandFields, sideFields, boxFields, fields, count, Record, head, band, unsafe, recovery}
+use Rattle.sheet.specs.Layout.{_▸_, unsafeLimit, recoveryLimit, capField, headFields, edgeField, rowRest, rowFields, bandFields, sideFields, boxFields, fields, count, Record, head, band, unsafe, recovery}
 use Rattle.sheet.specs.File.{Shape, shape, records, recordAt, start}
 use Rattle.sheet.specs.Sheet.{length-of}
-use Rattle.sheet.proofs.Streams.{next, first-low, first-after, groups-at}
 use Rattle.sheet.proofs.Records.{head-at, band-at, unsafe-at, recovery-at}
-
-offset-add : (p : ℕ → Field) (a b : ℕ) → offset p (a + b) ≡ offset p a + offset (λ j. p (a + j)) b
-unfolding offset
-offset-add p a zero = rw (add-zero a) (omega arith)
-offset-add p a (suc b) = rw (add-suc a b) (omega (arith, offset-add p a b))
-
-offset-cong : (p q : ℕ → Field) (k : ℕ) → ((j : ℕ) → j < k → p j ≡ q j) → offset p k ≡ offset q k
-unfolding offset
-offset-cong p q zero e = refl
-offset-cong p q (suc k) e = ap₂ (λ (a : ℕ) (x : Field). a + width (x .kind)) (offset-cong p q k (λ j l. e j (omega arith))) (e k (omega arith))
+use Rattle.sheet.proofs.CodeFields.{Run, offset-part}
+use Rattle.sheet.proofs.CodeLayout.{cap-at, coefficient-at, rest-at, row-run, side-run}
 
 -- fields of one width
-pub offset-flat : (p : ℕ → Field) (w k : ℕ) → ((j : ℕ) → j < k → width (p j .kind) ≡ w) → offset p k ≡ k * w
+offset-flat : (p : ℕ → Field) (w k : ℕ) → ((j : ℕ) → j < k → width (p j .kind) ≡ w) → offset p k ≡ k * w
 unfolding offset
 offset-flat p w zero e = omega arith
 offset-flat p w (suc k) e = rw (suc-mul k w) (omega (arith, offset-flat p w k (λ j l. e j (omega arith)), e k (omega arith)))
 
-pub offset-next : (x : Field) (g : ℕ → Field) (k : ℕ) → offset (x ▸ g) (1 + k) ≡ width (x .kind) + offset g k
-unfolding offset _▸_
-offset-next x g k = offset-add (x ▸ g) 1 k ∙ ap (λ (a : ℕ). 0 + width (x .kind) + a) (offset-cong (λ j. (x ▸ g) (1 + j)) g k (λ j l. next x g j)) ∙ omega arith
+-- runs of m fields and w bytes each, of which run i starts at `at i`
+offset-runs : (p : ℕ → Field) (q : ℕ → ℕ → Field) (at : ℕ → ℕ) (m w : ℕ) → ((i : ℕ) → at (suc i) ≡ at i + m) → ((i : ℕ) → Run p (q i) (at i) m) → ((i : ℕ) → offset (q i) m ≡ w)
+    → (i : ℕ) → offset p (at i) ≡ offset p (at 0) + i * w
+offset-runs p q at m w e r h zero = omega (arith, zero-mul w)
+offset-runs p q at m w e r h (suc i) = ap (offset p) (e i) ∙ omega (arith, offset-part p (q i) (at i) m (r i), offset-runs p q at m w e r h i, h i, suc-mul i w)
 
-pub offset-low : (n : ℕ) (g h : ℕ → Field) (k : ℕ) → k ≤ n → offset (first n g h) k ≡ offset g k
-offset-low n g h k l = offset-cong (first n g h) g k (λ j m. first-low n g h j (omega arith))
-
-pub offset-high : (n : ℕ) (g h : ℕ → Field) (k : ℕ) → offset (first n g h) (n + k) ≡ offset g n + offset h k
-offset-high n g h k =
-    offset-add (first n g h) n k ∙ ap₂ _+_ (offset-low n g h n (omega arith)) (offset-cong (λ j. first n g h (n + j)) h k (λ j l. first-after n g h j))
-
--- groups of w bytes each
-module _ (m w : ℕ) (g : ℕ → ℕ → Field) (e : (i : ℕ) → offset (g i) m ≡ w) where
-  in-group : (i q : ℕ) → q ≤ m → offset (groups m g) (i * m + q) ≡ offset (groups m g) (i * m) + offset (g i) q
-  in-group i q l = offset-add (groups m g) (i * m) q ∙ ap (λ (a : ℕ). offset (groups m g) (i * m) + a) (offset-cong (λ j. groups m g (i * m + j)) (g i) q (λ j k. groups-at m g i j (omega arith)))
-
-  whole : (i : ℕ) → offset (groups m g) (i * m) ≡ i * w
-  unfolding offset
-  whole zero = rw (zero-mul m) (omega (arith, zero-mul w))
-  whole (suc i) = ap (offset (groups m g)) (suc-mul i m) ∙ in-group i m (omega arith) ∙ omega (arith, whole i, e i, suc-mul i w)
-
-  pub offset-groups : (i q : ℕ) → q ≤ m → offset (groups m g) (i * m + q) ≡ i * w + offset (g i) q
-  offset-groups i q l = in-group i q l ∙ ap (λ (a : ℕ). a + offset (g i) q) (whole i)
-
--- ---- the sheet's records, at any of their fields
+-- ---- the sheet's records
 
 pub cap-offset : (i : ℕ) → offset headFields (headSize + i) ≡ 18 + 2 * i
 unfolding offset headFields _▸_
-cap-offset i =
-    offset-add headFields 9 i ∙ ap (λ (a : ℕ). 18 + a) (offset-flat (λ j. headFields (9 + j)) 2 i (λ j l. let e : 9 + j ≡ suc (suc (suc (suc (suc (suc (suc (suc (suc j)))))))) = omega arith in rw e) ∙ mul-comm i 2)
+cap-offset i = offset-part headFields capField headSize i (record { at = λ j l. cap-at j }) ∙ omega (arith, offset-flat capField 2 i (λ j l. refl))
 
 pub coefficient-offset : (n s j : ℕ) → j ≤ n → offset (rowFields n s) j ≡ 2 * j
-unfolding rowFields
-coefficient-offset n s j l = offset-low n _ _ j l ∙ offset-flat _ 2 j (λ j l. refl) ∙ mul-comm j 2
+coefficient-offset n s j l = offset-flat (rowFields n s) 2 j (λ i k. ap (λ (x : Field). width (x .kind)) (coefficient-at n s i (omega arith))) ∙ mul-comm j 2
 
 pub rest-offset : (n s q : ℕ) → offset (rowFields n s) (n + q) ≡ 2 * n + offset (rowRest (s + N)) q
-unfolding rowFields
-rest-offset n s q = offset-high n _ _ q ∙ ap (λ (a : ℕ). a + offset (rowRest (s + N)) q) (offset-flat _ 2 n (λ j l. refl) ∙ mul-comm n 2)
+rest-offset n s q = offset-part (rowFields n s) (rowRest (s + N)) n q (record { at = λ j l. rest-at n s j }) ∙ omega (arith, coefficient-offset n s n (omega arith))
 
-row-bytes : (n s : ℕ) → offset (rowFields n s) (n + 4) ≡ 2 * n + 12
+row-size : (n s : ℕ) → offset (rowFields n s) (n + 4) ≡ 2 * n + 12
 unfolding offset rowRest _▸_
-row-bytes n s = rest-offset n s 4
+row-size n s = rest-offset n s 4
 
-edge-width : (k : ℕ) → width (edgeField k .kind) ≡ 4
-unfolding edgeField
-edge-width zero = refl
-edge-width (suc k) = refl
+-- before the rows: edge and safety range
+three : (n k : ℕ) → offset (bandFields n k) 3 ≡ 12
+unfolding offset bandFields edgeField _▸_
+three n zero = refl
+three n (suc k) = refl
 
--- field q of a band's row i
-pub row-offset : (n k i q : ℕ) → q ≤ n + 4 → offset (bandFields n k) (3 + (i * (n + 4) + q)) ≡ 12 + (i * (2 * n + 12) + offset (rowFields n (rowSlot k i)) q)
-unfolding bandFields
-row-offset n k i q l =
-    let x = i * (n + 4) + q in
-    let e : 3 + x ≡ 1 + (1 + (1 + x)) = omega arith in
-    let rows = offset-groups (n + 4) (2 * n + 12) (λ i. rowFields n (rowSlot k i)) (λ i. row-bytes n (rowSlot k i)) i q l in
-    ap (offset (bandFields n k)) e
-    ∙ offset-next _ _ (1 + (1 + x)) ∙ ap₂ _+_ (edge-width k) (offset-next _ _ (1 + x) ∙ ap (λ (a : ℕ). 4 + a) (offset-next _ _ x ∙ ap (λ (a : ℕ). 4 + a) rows)) ∙ omega arith
+-- where row i of a band starts
+pub row-offset : (n k i : ℕ) → offset (bandFields n k) (3 + i * (n + 4)) ≡ 12 + i * (2 * n + 12)
+row-offset n k i =
+    let e : 3 + 0 * (n + 4) ≡ 3 = omega (arith, zero-mul (n + 4)) in
+    offset-runs (bandFields n k) (λ i. rowFields n (rowSlot k i)) (λ i. 3 + i * (n + 4)) (n + 4) (2 * n + 12) (λ i. omega (arith, suc-mul i (n + 4))) (row-run n k) (λ i. row-size n (rowSlot k i)) i
+    ∙ ap (λ (a : ℕ). a + i * (2 * n + 12)) (ap (offset (bandFields n k)) e ∙ three n k)
 
--- field q, the lower or the upper side, of variable i
-pub side-offset : (h s i q : ℕ) → q ≤ 2 → offset (boxFields h s) (i * 2 + q) ≡ i * 8 + offset (sideFields h (s + i)) q
-unfolding boxFields offset sideFields _▸_
-side-offset h s = offset-groups 2 8 (λ i. sideFields h (s + i)) (λ i. refl)
-
-box-size : (n h s : ℕ) → offset (boxFields h s) (n * 2) ≡ 8 * n
-unfolding offset
-box-size n h s = let e : n * 2 ≡ n * 2 + 0 = omega arith in ap (offset (boxFields h s)) e ∙ side-offset h s n 0 (omega arith) ∙ omega arith
+-- where the sides of variable i start
+pub side-offset : (h s i : ℕ) → offset (boxFields h s) (i * 2) ≡ 8 * i
+unfolding offset sideFields _▸_
+side-offset h s i =
+    offset-runs (boxFields h s) (λ i. sideFields h (s + i)) (λ i. i * 2) 2 8 (λ i. suc-mul i 2) (side-run h s) (λ i. refl) i ∙ omega arith
 
 -- ---- records, and the file
 
@@ -106,13 +71,11 @@ bodySize n (unsafe j) = 8 * n
 bodySize n recovery = 8 * n
 
 pub body-size : (n : ℕ) (x : Record) → offset (fields n x) (count n x) ≡ bodySize n x
-unfolding fields offset
+unfolding fields
 body-size n head = cap-offset n
-body-size n (band k) =
-    let e : 3 + n * (n + 4) ≡ 3 + (n * (n + 4) + 0) = omega arith in
-    ap (offset (bandFields n k)) e ∙ row-offset n k n 0 (omega arith) ∙ omega arith
-body-size n (unsafe j) = box-size n 2000000 (unsafeSlot j)
-body-size n recovery = box-size n 1000000 recoverySlot
+body-size n (band k) = row-offset n k n
+body-size n (unsafe j) = side-offset unsafeLimit (unsafeSlot j) n
+body-size n recovery = side-offset recoveryLimit recoverySlot n
 
 module _ (s : Shape) where
   pub start-next : (r : ℕ) {x : Record} → recordAt s r ≡ x → start s (suc r) ≡ start s r + 2 + bodySize (s .vars) x

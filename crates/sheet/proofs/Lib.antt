@@ -2,7 +2,7 @@ pub mod Streams
 pub mod Records
 pub mod Laws
 pub mod Places
-pub mod Read
+pub mod Filled
 pub mod Ranges
 pub mod Accepted
 pub mod Valid
@@ -14,3 +14,5 @@ pub mod Same
 pub mod RoundTrip
 pub mod Everything
 mod Examples
+mod CodeFields
+mod CodeLayout

@@ -6,9 +6,9 @@ use native.Mathlib.Omega.{arith}
 use native.Mathlib.Nat.{mod-lt, div-add-mod', div-lt-iff-lt-mul, mul-le-mul-right}
 use Rattle.sheet.specs.Slots.{N, maxBands, maxBoxes, rowSize, bandSize, boxSize, bandSlot, rowSlot, recoverySlot, unsafeSlot, slots}
 use Rattle.sheet.specs.Fields.{Field}
-use Rattle.sheet.specs.Layout.{_▸_, first, groups, always, maxVars, headFields, edgeField, rowRest, rowFields, bandFields, sideFields, boxFields, fields, count, Record, head, band, unsafe, recovery}
+use Rattle.sheet.specs.Layout.{unsafeLimit, recoveryLimit, _▸_, first, groups, always, maxVars, headFields, edgeField, rowRest, rowFields, bandFields, sideFields, boxFields, fields, count, Record, head, band, unsafe, recovery}
 use Rattle.sheet.specs.File.{Shape, records, recordAt, fieldsAt, countAt}
-use Rattle.sheet.proofs.Streams.{each-first, first-low, first-high, lt-or-le}
+use Rattle.sheet.proofs.Streams.{each-first, first-low, first-high, lt-or-le, three-more}
 use Rattle.sheet.proofs.Records.{record-cases}
 
 -- the slots of the first k fields lie from lo to below hi, and no two are one
@@ -144,8 +144,7 @@ module _ (n : ℕ) (l : n ≤ N) where
   spread-band : (k : ℕ) → Spread (bandFields n k) (3 + n * (n + 4)) (bandSlot k) (bandSlot (suc k))
   unfolding bandFields
   spread-band k =
-      let e : suc (suc (suc (n * (n + 4)))) ≡ 3 + n * (n + 4) = omega arith in
-      subst (λ (c : ℕ). Spread (bandFields n k) c (bandSlot k) (bandSlot (suc k))) e
+      subst (λ (c : ℕ). Spread (bandFields n k) c (bandSlot k) (bandSlot (suc k))) (three-more (n * (n + 4)))
       (spread-next _ _ (bandSlot k + 1) (omega (arith, edge-slot k)) (omega (arith, edge-slot k)) (omega arith)
       (spread-next _ _ (bandSlot k + 2) (omega arith) (omega arith) (omega arith)
       (spread-next _ _ (bandSlot k + 3) (omega arith) (omega arith) (omega arith)
@@ -172,8 +171,8 @@ module _ (n : ℕ) (l : n ≤ N) where
   unfolding fields
   spread-record head = spread-run 0 head-slot (omega arith)
   spread-record (band k) = spread-band k
-  spread-record (unsafe j) = spread-most (omega arith) (spread-box 2000000 (unsafeSlot j))
-  spread-record recovery = spread-box 1000000 recoverySlot
+  spread-record (unsafe j) = spread-most (omega arith) (spread-box unsafeLimit (unsafeSlot j))
+  spread-record recovery = spread-box recoveryLimit recoverySlot
 
 -- ---- the file's records
 

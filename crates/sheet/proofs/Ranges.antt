@@ -1,5 +1,5 @@
 -- What it tells that every number of a sheet lies in its range: the counts are small, and each number fits its kind. Assumes nothing.
-use mathlib.Core.Path.{_≡_, subst}
+use mathlib.Core.Path.{subst}
 use mathlib.Core.Bool.{_&&_}
 use mathlib.Core.List.{List}
 use Prim.Native.Nat.{ℕ, zero, suc, _+_, _*_, _≤_, _<_}
@@ -12,9 +12,9 @@ use Rattle.integers.proofs.Z.{ints, flat}
 use Rattle.sheet.specs.Slots.{_!_, headSize, bandSlot, rowSlot, recoverySlot, unsafeSlot, vars, bands, boxes}
 use Rattle.sheet.specs.Valid.{Between}
 use Rattle.sheet.specs.Fields.{Kind, u8, u16, i16, i32, Field}
-use Rattle.sheet.specs.Layout.{_▸_, varsSlot, bandsSlot, boxesSlot, headFields, edgeField, rowRest, rowFields, bandFields, sideFields, boxFields}
+use Rattle.sheet.specs.Layout.{unsafeLimit, recoveryLimit, _▸_, varsSlot, bandsSlot, boxesSlot, headFields, edgeField, rowRest, rowFields, bandFields, sideFields, boxFields}
 use Rattle.sheet.specs.File.{shape}
-use Rattle.sheet.proofs.Streams.{Each, each-next, each-first, each-groups, each-low, each-high}
+use Rattle.sheet.proofs.Streams.{Each, each-next, each-first, each-groups, each-low, each-high, three-more, nine-more}
 use Rattle.sheet.proofs.Laws.{InRange, AllGood}
 use Rattle.sheet.proofs.Records.{EachField, each-field, each-head, each-band, each-unsafe, each-recovery, each-cap, each-row, each-side}
 use Rattle.sheet.proofs.Places.{Small}
@@ -67,11 +67,10 @@ module _ (v : List ℤ) (n : ℕ) where
   head-fit : Each (InRange v) headFields (headSize + n) → Each (FieldFits v) headFields (headSize + n)
   unfolding headFields _▸_
   head-fit h =
-      let e : suc (suc (suc (suc (suc (suc (suc (suc (suc n)))))))) ≡ headSize + n = omega arith in
       let vars = h .at 0 (omega arith) in
       let δ = h .at 4 (omega arith) in
       let least = h .at 7 (omega arith) in
-      subst (Each (FieldFits v) headFields) e
+      subst (Each (FieldFits v) headFields) (nine-more n)
       (each-next _ _ (known vars tt tt)
       (each-next _ _ (known (h .at 1 (omega arith)) tt tt)
       (each-next _ _ (known (h .at 2 (omega arith)) tt tt)
@@ -93,7 +92,7 @@ module _ (v : List ℤ) (n : ℕ) where
       (each-next _ _ (known (b .at 1 (omega arith)) tt tt)
       (each-next _ _ (known (b .at 2 (omega arith)) tt tt) (record { at = λ j l. known (b .at 3 (omega arith)) tt tt }))))
 
-  box-fit : (h s : ℕ) → h ≤ 2000000 → Each (InRange v) (boxFields h s) (n * 2) → Each (FieldFits v) (boxFields h s) (n * 2)
+  box-fit : (h s : ℕ) → h ≤ unsafeLimit → Each (InRange v) (boxFields h s) (n * 2) → Each (FieldFits v) (boxFields h s) (n * 2)
   unfolding boxFields sideFields _▸_
   box-fit h s l b =
       each-groups n 2 _ (λ i k.
@@ -121,12 +120,11 @@ module _ (v : List ℤ) (g : AllGood v) where
   unfolding headFields bandFields _▸_
   band-fit k l =
       let n = vars v in
-      let e : suc (suc (suc (n * (n + 4)))) ≡ 3 + n * (n + 4) = omega arith in
       let h = head-fit v n (each-head (shape v) g) in
       let greatest = h .at 8 (omega arith) in
       let b = each-band (shape v) g k l in
       let safety = between (b .at 1 (omega arith)) (h .at 7 (omega arith)) greatest in
-      subst (Each (FieldFits v) (bandFields n k)) e
+      subst (Each (FieldFits v) (bandFields n k)) (three-more (n * (n + 4)))
       (each-next _ _ (edge-fit k l) (each-next _ _ safety (each-next _ _ (between (b .at 2 (omega arith)) safety greatest)
       (each-groups n (n + 4) _ (λ i m. row-fit v n (rowSlot k i) (each-row n k b i m))))))
 
@@ -134,4 +132,4 @@ module _ (v : List ℤ) (g : AllGood v) where
   pub all-fit : EachField (FieldFits v) (shape v)
   all-fit =
       each-field (shape v) (head-fit v (vars v) (each-head (shape v) g)) band-fit
-      (λ j l. box-fit v (vars v) 2000000 (unsafeSlot j) (omega arith) (each-unsafe (shape v) g j l)) (box-fit v (vars v) 1000000 recoverySlot (omega arith) (each-recovery (shape v) g))
+      (λ j l. box-fit v (vars v) unsafeLimit (unsafeSlot j) (omega arith) (each-unsafe (shape v) g j l)) (box-fit v (vars v) recoveryLimit recoverySlot (omega arith) (each-recovery (shape v) g))

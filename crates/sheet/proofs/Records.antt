@@ -1,13 +1,14 @@
 -- Which record is the r-th, and which fields it has: what holds of each field of a sheet holds of each part, and the other way round. Assumes nothing.
 use mathlib.Core.Path.{_≡_, refl, sym, _∙_, subst}
 use mathlib.Core.Logic.{⊎-elim}
-use Prim.Native.Nat.{ℕ, suc, _+_, _*_, _-_, _≤_, _<_}
+use Prim.Native.Nat.{ℕ, _+_, _*_, _-_, _≤_, _<_}
 use native.Mathlib.Omega.{arith}
 use Rattle.sheet.specs.Slots.{headSize, rowSlot, recoverySlot, unsafeSlot}
 use Rattle.sheet.specs.Fields.{Field}
-use Rattle.sheet.specs.Layout.{_▸_, capField, headFields, rowFields, bandFields, sideFields, boxFields, fields, count, Record, head, band, unsafe, recovery}
+use Rattle.sheet.specs.Layout.{unsafeLimit, recoveryLimit, _▸_, capField, headFields, rowFields, bandFields, sideFields, boxFields, fields, count, Record, head, band, unsafe, recovery}
 use Rattle.sheet.specs.File.{Shape, records, recordAt}
-use Rattle.sheet.proofs.Streams.{Each, each-rest, each-group, next, first-low, first-high, first-after, lt-or-le}
+use Rattle.sheet.proofs.Streams.{Each, each-rest, each-group, next, first-low, first-high, first-after, lt-or-le, three-more}
+use Rattle.sheet.proofs.CodeLayout.{cap-at}
 
 module _ (s : Shape) where
   pub head-at : recordAt s 0 ≡ head
@@ -57,7 +58,7 @@ EachField P s = Each (EachOf P (s .vars)) (recordAt s) (records s)
 
 module _ {P : Field → Type 0} (s : Shape) where
   pub each-field : Each P headFields (headSize + s .vars) → ((k : ℕ) → k < s .bands → Each P (bandFields (s .vars) k) (3 + s .vars * (s .vars + 4)))
-      → ((j : ℕ) → j < s .boxes → Each P (boxFields 2000000 (unsafeSlot j)) (s .vars * 2)) → Each P (boxFields 1000000 recoverySlot) (s .vars * 2) → EachField P s
+      → ((j : ℕ) → j < s .boxes → Each P (boxFields unsafeLimit (unsafeSlot j)) (s .vars * 2)) → Each P (boxFields recoveryLimit recoverySlot) (s .vars * 2) → EachField P s
   unfolding fields
   each-field a b c d = record { at = record-cases s (λ r. EachOf P (s .vars)) a b c d }
 
@@ -70,24 +71,21 @@ module _ {P : Field → Type 0} (s : Shape) where
     unfolding fields
     each-band k l = subst (EachOf P (s .vars)) (band-at s k l) (g .at (1 + k) (omega arith))
 
-    pub each-unsafe : (j : ℕ) → j < s .boxes → Each P (boxFields 2000000 (unsafeSlot j)) (s .vars * 2)
+    pub each-unsafe : (j : ℕ) → j < s .boxes → Each P (boxFields unsafeLimit (unsafeSlot j)) (s .vars * 2)
     unfolding fields
     each-unsafe j l = subst (EachOf P (s .vars)) (unsafe-at s j l) (g .at (1 + (s .bands + j)) (omega arith))
 
-    pub each-recovery : Each P (boxFields 1000000 recoverySlot) (s .vars * 2)
+    pub each-recovery : Each P (boxFields recoveryLimit recoverySlot) (s .vars * 2)
     unfolding fields
     each-recovery = subst (EachOf P (s .vars)) (recovery-at s) (g .at (1 + (s .bands + s .boxes)) (omega arith))
 
 module _ {P : Field → Type 0} (n : ℕ) where
   pub each-cap : Each P headFields (headSize + n) → Each P capField n
-  unfolding headFields _▸_
-  each-cap h = record { at = λ i l. (let e : headSize + i ≡ suc (suc (suc (suc (suc (suc (suc (suc (suc i)))))))) = omega arith in rw e at (h .at (headSize + i) (omega arith))) }
+  each-cap h = record { at = λ i l. subst P (cap-at i) (h .at (headSize + i) (omega arith)) }
 
   pub each-row : (k : ℕ) → Each P (bandFields n k) (3 + n * (n + 4)) → (i : ℕ) → i < n → Each P (rowFields n (rowSlot k i)) (n + 4)
   unfolding bandFields
-  each-row k b =
-      let e : 3 + n * (n + 4) ≡ suc (suc (suc (n * (n + 4)))) = omega arith in
-      each-group n (n + 4) _ (each-rest _ _ (each-rest _ _ (each-rest _ _ (subst (Each P (bandFields n k)) e b))))
+  each-row k b = each-group n (n + 4) _ (each-rest _ _ (each-rest _ _ (each-rest _ _ (subst (Each P (bandFields n k)) (sym (three-more (n * (n + 4)))) b))))
 
   pub each-side : (h s : ℕ) → Each P (boxFields h s) (n * 2) → (i : ℕ) → i < n → Each P (sideFields h (s + i)) 2
   unfolding boxFields

@@ -19,7 +19,7 @@ use Rattle.sheet.specs.Sheet.{zeros, headOf, shapeOf, contents, stage, r
 use Rattle.sheet.proofs.Streams.{Each}
 use Rattle.sheet.proofs.Records.{EachField, each-head, head-at}
 use Rattle.sheet.proofs.Laws.{InRange, AllGood, unless-zero, value-good, none-first, ranges-bad, good-all}
-use Rattle.sheet.proofs.Read.{all-at}
+use Rattle.sheet.proofs.Filled.{all-at}
 use Rattle.sheet.proofs.Ranges.{small, all-fit}
 use Rattle.sheet.proofs.Accepted.{accepted, head-number, number-at, shape-same, same-shape, length-zeros}
 use Rattle.sheet.proofs.Length.{file-length}

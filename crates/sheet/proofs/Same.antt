@@ -1,15 +1,15 @@
 -- Two values that agree up to the counts are in range together. Assumes nothing.
-use mathlib.Core.Path.{_≡_, refl, ap, subst}
+use mathlib.Core.Path.{_≡_, refl, subst}
 use mathlib.Core.List.{List}
 use Prim.Native.Nat.{ℕ, zero, suc, _+_, _*_, _<_}
 use native.Mathlib.Omega.{arith}
-use lib.IntN.{ℤ, pos, _+ℤ_, _-ℤ_}
+use lib.IntN.{ℤ}
 use lib.Signed.{_≤ℤ_}
 use Rattle.sheet.specs.Slots.{_!_, headSize, bandSlot, rowSlot, recoverySlot, unsafeSlot, vars, bands}
 use Rattle.sheet.specs.Fields.{Field}
-use Rattle.sheet.specs.Layout.{_▸_, headFields, edgeField, rowRest, rowFields, bandFields, sideFields, boxFields}
+use Rattle.sheet.specs.Layout.{unsafeLimit, recoveryLimit, _▸_, headFields, edgeField, rowRest, rowFields, bandFields, sideFields, boxFields}
 use Rattle.sheet.specs.File.{Shape}
-use Rattle.sheet.proofs.Streams.{Each, each-next, each-first, each-groups}
+use Rattle.sheet.proofs.Streams.{Each, each-next, each-first, each-groups, three-more, nine-more}
 use Rattle.sheet.proofs.Records.{EachField, each-field, each-head, each-band, each-unsafe, each-recovery, each-side}
 use Rattle.sheet.proofs.Laws.{InRange}
 use Rattle.sheet.proofs.Places.{edge-slot}
@@ -40,17 +40,19 @@ module _ (v w : List ℤ) where
   head-ends : (n : ℕ) → Each Equal headFields (headSize + n) → Each Ends headFields (headSize + n)
   unfolding headFields _▸_
   head-ends n h =
-      let e : suc (suc (suc (suc (suc (suc (suc (suc (suc n)))))))) ≡ headSize + n = omega arith in
-      subst (Each Ends headFields) e
+      let vars = h .at 0 (omega arith) in
+      let δ = h .at 4 (omega arith) in
+      let least = h .at 7 (omega arith) in
+      subst (Each Ends headFields) (nine-more n)
       (each-next _ _ (given refl refl)
       (each-next _ _ (given refl refl)
       (each-next _ _ (given refl refl)
-      (each-next _ _ (given refl (ap (λ (z : ℤ). z -ℤ pos 1) (h .at 0 (omega arith))))
+      (each-next _ _ (given refl (cc vars))
       (each-next _ _ (given refl refl)
-      (each-next _ _ (given refl (ap (λ (z : ℤ). pos 1000 -ℤ z) (h .at 4 (omega arith))))
+      (each-next _ _ (given refl (cc δ))
       (each-next _ _ (given refl refl)
       (each-next _ _ (given refl refl)
-      (each-next _ _ (given (h .at 7 (omega arith)) refl) (record { at = λ i l. given refl refl }))))))))))
+      (each-next _ _ (given least refl) (record { at = λ i l. given refl refl }))))))))))
 
   row-ends : (n s : ℕ) → Each Ends (rowFields n s) (n + 4)
   unfolding rowFields rowRest
@@ -69,7 +71,7 @@ module _ (v w : List ℤ) where
     edge-ends : (k : ℕ) → k < s .bands → Ends (edgeField k)
     unfolding bandFields edgeField _▸_
     edge-ends zero l = given refl refl
-    edge-ends (suc k) l = given (ap (λ (z : ℤ). z +ℤ pos 1) (edge-same k (omega arith))) refl
+    edge-ends (suc k) l = given (cc (edge-same k (omega arith))) refl
       where
         edge-same : (k : ℕ) → k < s .bands → v ! bandSlot k ≡ w ! bandSlot k
         edge-same k l = subst (λ (i : ℕ). v ! i ≡ w ! i) (edge-slot k) (each-band s e k l .at 0 (omega arith))
@@ -78,9 +80,8 @@ module _ (v w : List ℤ) where
     unfolding headFields bandFields _▸_
     band-ends k l =
         let n = s .vars in
-        let c : suc (suc (suc (n * (n + 4)))) ≡ 3 + n * (n + 4) = omega arith in
         let greatest = each-head s e .at 8 (omega arith) in
-        subst (Each Ends (bandFields n k)) c
+        subst (Each Ends (bandFields n k)) (three-more (n * (n + 4)))
         (each-next _ _ (edge-ends k l)
         (each-next _ _ (given (each-head s e .at 7 (omega arith)) greatest)
         (each-next _ _ (given (each-band s e k l .at 1 (omega arith)) greatest) (each-groups n (n + 4) _ (λ i m. row-ends n (rowSlot k i))))))
@@ -89,8 +90,8 @@ module _ (v w : List ℤ) where
     same-good g =
         each-field s (moved (each-head s e) (head-ends (s .vars) (each-head s e)) (each-head s g))
         (λ k l. moved (each-band s e k l) (band-ends k l) (each-band s g k l))
-        (λ j l. moved (each-unsafe s e j l) (box-ends (s .vars) 2000000 (unsafeSlot j) (each-unsafe s e j l)) (each-unsafe s g j l))
-        (moved (each-recovery s e) (box-ends (s .vars) 1000000 recoverySlot (each-recovery s e)) (each-recovery s g))
+        (λ j l. moved (each-unsafe s e j l) (box-ends (s .vars) unsafeLimit (unsafeSlot j) (each-unsafe s e j l)) (each-unsafe s g j l))
+        (moved (each-recovery s e) (box-ends (s .vars) recoveryLimit recoverySlot (each-recovery s e)) (each-recovery s g))
 
   -- the head alone, up to the commands
   pub same-head : Each Equal headFields headSize → Each (InRange v) headFields headSize → Each (InRange w) headFields headSize

@@ -16,6 +16,13 @@ lt-or-le a b = go (ltb a b) (λ t. ltb→lt a b t) (λ t. nltb→le a b t)
     go true f g = inl (f tt)
     go false f g = inr (g tt)
 
+-- so many more, one at a time
+pub three-more : (n : ℕ) → suc (suc (suc n)) ≡ 3 + n
+three-more n = omega arith
+
+pub nine-more : (n : ℕ) → suc (suc (suc (suc (suc (suc (suc (suc (suc n)))))))) ≡ 9 + n
+nine-more n = omega arith
+
 module _ {A : Type 0} where
   pub next : (x : A) (g : ℕ → A) (j : ℕ) → (x ▸ g) (1 + j) ≡ g j
   unfolding _▸_

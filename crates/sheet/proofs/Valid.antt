@@ -1,7 +1,7 @@
 -- An accepted sheet is valid, and the value of any file has its length and fits 32 bits. Assumes nothing.
 use mathlib.Core.Path.{_≡_, refl, sym, _∙_, subst}
 use mathlib.Core.List.{List}
-use mathlib.Core.Logic.{⊎-elim}
+use mathlib.Core.Logic.{_⊎_, inl, inr, ⊎-elim}
 use Prim.Native.Nat.{ℕ, zero, suc, _*_, _<_}
 use native.Mathlib.Omega.{arith}
 use lib.IntN.{ℤ, pos, negsuc, natAbs}
@@ -13,14 +13,14 @@ use Rattle.integers.proofs.Z.{ints, flat}
 use Rattle.sheet.specs.Slots.{_!_, slots, bandSlot, recoverySlot, unsafeSlot, vars, bands, row}
 use Rattle.sheet.specs.Valid.{ValidRow, ValidBox, Valid}
 use Rattle.sheet.specs.Fields.{Kind, u8, u16, i16, i32}
-use Rattle.sheet.specs.Layout.{_▸_, varsSlot, bandsSlot, boxesSlot, bandVarSlot, δSlot, αSlot, ρSlot, headFields, edgeField, rowRest, rowFields, bandFields, sideFields, boxFields}
+use Rattle.sheet.specs.Layout.{unsafeLimit, recoveryLimit, _▸_, varsSlot, bandsSlot, boxesSlot, bandVarSlot, δSlot, αSlot, ρSlot, headFields, edgeField, rowRest, rowFields, bandFields, sideFields, boxFields}
 use Rattle.sheet.specs.File.{Shape, shape, records, fieldsAt}
 use Rattle.sheet.specs.Sheet.{zeros, shapeOf, contents, refusal, values}
 use Rattle.sheet.proofs.Streams.{Each, each-next, each-low, each-high}
 use Rattle.sheet.proofs.Laws.{InRange, AllGood}
 use Rattle.sheet.proofs.Records.{each-head, each-band, each-unsafe, each-recovery, each-cap, each-row, each-side}
 use Rattle.sheet.proofs.Places.{head-slot}
-use Rattle.sheet.proofs.Read.{TakenAll, origin-all, length-all}
+use Rattle.sheet.proofs.Filled.{TakenAll, origin-all, length-all}
 use Rattle.sheet.proofs.Ranges.{abs-in, Fit, all-fit}
 use Rattle.sheet.proofs.Accepted.{Accepted, accepted, contents-good, same-shape, length-zeros, zeros-at}
 
@@ -29,6 +29,9 @@ fits-kind u8 r = simp flat (omega (ints, r .low, r .high))
 fits-kind u16 r = simp flat (omega (ints, r .low, r .high))
 fits-kind i16 r = simp flat (omega (ints, r .low, r .high))
 fits-kind i32 r = simp flat (omega (ints, r .low, r .high))
+
+zero-fits : SFits w32 (pos 0)
+zero-fits = record { sfits = omega arith }
 
 module _ (v : List ℤ) (g : AllGood v) where
   valid-row : (k i : ℕ) → k < bands v → i < vars v → ValidRow (vars v) (row v k i)
@@ -121,20 +124,25 @@ module _ (v : List ℤ) (g : AllGood v) where
         safety-low = λ k l. each-band (shape v) g k l .at 1 (omega arith) .low;
         safety-high = λ k l. each-band (shape v) g k l .at 2 (omega arith) .high;
         rows = valid-row;
-        recovery = valid-box 1000000 recoverySlot (each-recovery (shape v) g);
-        unsafe = λ j l. valid-box 2000000 (unsafeSlot j) (each-unsafe (shape v) g j l);
+        recovery = valid-box recoveryLimit recoverySlot (each-recovery (shape v) g);
+        unsafe = λ j l. valid-box unsafeLimit (unsafeSlot j) (each-unsafe (shape v) g j l);
       }
 
 module _ (f : List ℕ) (a : Accepted f) where
-  contents-fit : (i : ℕ) → SFits w32 (contents f ! i)
+  -- a value is 0, or a field's
+  zero-or-taken : (i : ℕ) → (contents f ! i ≡ pos 0) ⊎ TakenAll (shape (contents f)) (records (shape (contents f))) i
   unfolding contents
+  zero-or-taken i =
+      ⊎-elim (λ e. inl (e ∙ zeros-at i)) (λ t. inr (subst (λ (s : Shape). TakenAll s (records s) i) (sym (same-shape f (a .small))) t))
+      (origin-all (shapeOf f) f (records (shapeOf f)) zeros i)
+
+  contents-fit : (i : ℕ) → SFits w32 (contents f ! i)
   contents-fit i =
-      ⊎-elim (λ e. subst (SFits w32) (sym (e ∙ zeros-at i)) (record { sfits = omega arith }))
-      (λ u.
-      let t = subst (λ (s : Shape). TakenAll s (records s) i) (sym (same-shape f (a .small))) u in
+      ⊎-elim (λ e. subst (SFits w32) (sym e) zero-fits)
+      (λ t.
       let x = fieldsAt (shape (contents f)) (t .r) (t .taken .j) in
       subst (λ (i : ℕ). SFits w32 (contents f ! i)) (t .taken .is) (fits-kind (x .kind) (all-fit (contents f) (contents-good f a) .at (t .r) (t .below) .at (t .taken .j) (t .taken .below))))
-      (origin-all (shapeOf f) f (records (shapeOf f)) zeros i)
+      (zero-or-taken i)
 
   contents-valid : Valid (contents f)
   unfolding contents
@@ -166,4 +174,10 @@ module _ (f : List ℕ) where
   length-values = cases (λ v. length v ≡ slots) (λ e. valid f e .size) length-zeros
 
   pub values-fit : (i : ℕ) → SFits w32 (values f ! i)
-  values-fit i = cases (λ v. SFits w32 (v ! i)) (λ e. valid f e .fits i) (subst (SFits w32) (sym (zeros-at i)) (record { sfits = omega arith }))
+  values-fit i = cases (λ v. SFits w32 (v ! i)) (λ e. valid f e .fits i) (subst (SFits w32) (sym (zeros-at i)) zero-fits)
+
+  -- what lies beyond the counts is 0
+  pub values-beyond : (i : ℕ) → (TakenAll (shape (values f)) (records (shape (values f))) i → ⊥) → values f ! i ≡ pos 0
+  values-beyond i =
+      let P : List ℤ → Type 0 = λ v. (TakenAll (shape v) (records (shape v)) i → ⊥) → v ! i ≡ pos 0 in
+      cases P (λ e. let a = accepted f e in subst P (sym (a .values)) (λ n. ⊎-elim (λ z. z) (λ t. absurd (n t)) (zero-or-taken f a i))) (λ n. zeros-at i)

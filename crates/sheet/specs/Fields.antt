@@ -15,7 +15,7 @@ pub data Kind : Type 0 where
   u8 u16 i16 i32 : Kind
 
 -- how a number is written, the slot of its value, the range that the value must lie in, and why the sheet is refused where it does not.
--- The ends of the range may hang on numbers that stand earlier in the sheet.
+-- The ends of the range may depend on numbers that stand earlier in the sheet.
 pub record Field : Type 0 where
   pub kind : Kind
   pub slot : ℕ

@@ -10,7 +10,7 @@ use Rattle.sheet.specs.Refusals.{Cause, number, firstRefusal}
 use Rattle.sheet.specs.Fields.{Field, offset, filled, coded, bad}
 use Rattle.sheet.specs.Layout.{_▸_, first, always, Record, head, band, unsafe, recovery, mark, fields, count}
 
--- the counts that a file's records hang on
+-- the counts that a file's records depend on
 pub record Shape : Type 0 where
   pub vars : ℕ
   pub bands : ℕ

@@ -114,6 +114,13 @@ bandFields n k =
     ▸ ranged i32 (bandSlot k + 2) (λ v. v ! (bandSlot k + 1)) (λ v. v ! greatestSlot) Cause.safety
     ▸ groups (n + 4) (λ i. rowFields n (rowSlot k i))
 
+-- the sides of a no-go box lie within ±unsafeLimit, those of the recovery box within ±recoveryLimit
+abbrev pub unsafeLimit : ℕ
+unsafeLimit = 2000000
+
+abbrev pub recoveryLimit : ℕ
+recoveryLimit = 1000000
+
 -- a lower side at a slot, within ±h, and its upper side
 unfoldable pub sideFields : ℕ → ℕ → ℕ → Field
 sideFields h s = within i32 s h Cause.side ▸ always (ranged i32 (s + N) (λ v. v ! s) (λ v. pos h) Cause.side)
@@ -124,6 +131,7 @@ boxFields h s = groups 2 (λ i. sideFields h (s + i))
 
 -- ---- records
 
+-- the head, band k, no-go box j, the recovery box
 pub data Record : Type 0 where
   head : Record
   band : ℕ → Record
@@ -141,8 +149,8 @@ mark recovery = (82, 67)
 unfoldable pub fields : ℕ → Record → ℕ → Field
 fields n head = headFields
 fields n (band k) = bandFields n k
-fields n (unsafe j) = boxFields 2000000 (unsafeSlot j)
-fields n recovery = boxFields 1000000 recoverySlot
+fields n (unsafe j) = boxFields unsafeLimit (unsafeSlot j)
+fields n recovery = boxFields recoveryLimit recoverySlot
 
 abbrev pub count : ℕ → Record → ℕ
 count n head = headSize + n

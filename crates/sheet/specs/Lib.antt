@@ -6,3 +6,4 @@ pub mod Layout
 pub mod File
 pub mod Sheet
 pub mod SheetA
+pub mod Steps

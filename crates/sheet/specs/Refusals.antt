@@ -2,6 +2,8 @@
 use mathlib.Core.Bool.{Bool, true, false}
 use Prim.Native.Nat.{ℕ, zero, suc}
 
+-- beginning: under 20 bytes, or the mark is not SH; shape: n, a count or the band variable; times: δ, α, ρ; commands: the head's;
+-- size: the file's length; mark: a later record's; row: a number of a row; side: of a no-go or the recovery box; room: too little buffer
 pub data Cause : Type 0 where
   beginning shape times commands size cap mark edge safety row side room : Cause
 
