@@ -3,4 +3,7 @@ mod Examples
 pub mod Stages
 pub mod Settled
 pub mod Sound
+pub mod Count
+pub mod Order
+pub mod Ranges
 mod Reference

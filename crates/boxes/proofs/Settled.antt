@@ -1,22 +1,23 @@
 -- Where the value of each stage comes from, and how far its count goes: one induction over each recursion. What is true of
 -- steps and reaches (soundness, ranges, order) goes by this. Assumes nothing.
-use mathlib.Core.Path.{_≡_, refl, sym, ap, _∙_, subst}
-use mathlib.Core.Bool.{Bool, true, false, _&&_}
+use mathlib.Core.Path.{_≡_, refl, subst}
+use mathlib.Core.Bool.{Bool, true, false}
 use mathlib.Core.List.{List}
 use Prim.Native.Nat.{ℕ, zero, suc, _+_, _*_, _-_, _/_, _^_, _≤_, _<_, min}
 use native.Mathlib.Nat.{le-refl, mul-le-mul-left}
 use native.Mathlib.Omega.{arith}
-use lib.Dec.{leb, eqb}
+use lib.Dec.{leb}
 use lib.IntN.{ℤ, pos, _+ℤ_, _*ℤ_}
-use borrow.Author.Tests.{leb-true, leb-false, eqb-true, eqb-false}
+use borrow.Author.Tests.{leb-true, leb-false}
 use Rattle.integers.proofs.Z.{ints, flat}
 use Rattle.sheet.specs.Slots.{N}
-use Rattle.rates.specs.Box.{hull, within, moved}
+use Rattle.rates.specs.Box.{hull}
 use Rattle.rates.specs.Machine.{Machine}
-use Rattle.rates.specs.Rate.{outer, rates}
-use Rattle.rates.proofs.Box.{differ, and-both}
-use Rattle.rates.proofs.Face.{Beyond, beyond-refl, outer-in, side, hull-side, moved-side, within-by}
-use Rattle.boxes.specs.Step.{lifted, settles, endBox, grown, Failure, unsettled, unsafe, Got, got, failed, out, andThen, orElse, isOut, Step, rounds, halving, step, swept}
+use Rattle.rates.specs.Rate.{rates}
+use Rattle.rates.proofs.Box.{differ}
+use Rattle.rates.proofs.Face.{beyond-refl}
+use Rattle.rates.proofs.Inside.{side, moved-side, inside-refl, hull-least, inside-within}
+use Rattle.boxes.specs.Step.{lifted, settles, endBox, grown, Failure, unsafe, andThen, Step, rounds, halving, step, swept}
 use Rattle.boxes.specs.Reach.{Reached, leg, walk, reach}
 use Rattle.boxes.proofs.Stages.{Takes, value, failure, counted-none, counted-less, takes-map, takes-then, takes-else, takes-if, takes-round}
 
@@ -46,9 +47,7 @@ still a b = simp flat (omega ints)
 -- a length of 1 settles in its first round: M is the start box
 pub settles-one : (m : Machine) (S : List ℤ) → m .n ≤ N → settles m S 1 S ≡ true
 unfolding settles lifted
-settles-one m S room = within-by _ S (λ up i h.
-    rw (hull-side (m .n) i room h up S _, moved-side (m .n) i room h up S 0 (rates m S 1 S), still (side up S i) _)
-    (outer-in up _ _ _ (beyond-refl up (side up S i)) (beyond-refl up (side up S i))))
+settles-one m S room = inside-within (hull-least room S _ (inside-refl S) (record { at = λ up i h. rw (moved-side (m .n) i room h up S 0 (rates m S 1 S), still (side up S i) _) (beyond-refl up (side up S i)) }))
 
 -- every length is below some power of 2
 pub below-power : (k : ℕ) → k < 2 ^ suc k
@@ -58,7 +57,7 @@ below-power (suc k) = omega (arith, below-power k)
 -- ---- the recursions, and how many rounds they take
 
 module _ (l : Bool) (a : ℕ) (m : Machine) (S : List ℤ) where
-  rounds-take : (k left : ℕ) (E : List ℤ) (c : ℕ) → 0 < k → Working m S k E → Takes l a c left (Settled m S k) (λ why. Unit) (rounds l a m S k left E c)
+  pub rounds-take : (k left : ℕ) (E : List ℤ) (c : ℕ) → 0 < k → Working m S k E → Takes l a c left (Settled m S k) (λ why. Unit) (rounds l a m S k left E c)
   unfolding rounds
   rounds-take k zero E c z w = failure tt (counted-none c)
   rounds-take k (suc left) E c z w =
@@ -68,7 +67,7 @@ module _ (l : Bool) (a : ℕ) (m : Machine) (S : List ℤ) where
       (λ s. rounds-take k left (grown m S k E) (c + 1) z (grows w)))
 
   -- a length of 1 takes one round
-  rounds-one : m .n ≤ N → (left c : ℕ) → Takes l a c 1 (Settled m S 1) (λ why. ⊥) (rounds l a m S 1 (suc left) S c)
+  pub rounds-one : m .n ≤ N → (left c : ℕ) → Takes l a c 1 (Settled m S 1) (λ why. ⊥) (rounds l a m S 1 (suc left) S c)
   unfolding rounds
   rounds-one room left c =
       takes-round _
@@ -77,7 +76,7 @@ module _ (l : Bool) (a : ℕ) (m : Machine) (S : List ℤ) where
       (λ s. absurd (differ (settles-one m S room) s)))
 
   -- a step of a length below 2^(e + 1) takes at most 8·e + 1 rounds, and settles
-  halving-takes : m .n ≤ N → (fuel k c e : ℕ) → 0 < k → k ≤ fuel → k < 2 ^ suc e → Takes l a c (8 * e + 1) (Settled m S k) (λ why. ⊥) (halving l a m S fuel k c)
+  pub halving-takes : m .n ≤ N → (fuel k c e : ℕ) → 0 < k → k ≤ fuel → k < 2 ^ suc e → Takes l a c (8 * e + 1) (Settled m S k) (λ why. ⊥) (halving l a m S fuel k c)
   unfolding halving
   halving-takes room zero k c e z f h = absurd (omega arith)
   halving-takes room (suc fuel) zero c e z f h = absurd (omega arith)
@@ -100,6 +99,13 @@ pub record Place : Type 0 where
   pub swept : List ℤ
   pub left : ℕ
 
+-- before the first step of a reach, and behind its last
+abbrev pub start : List ℤ → ℕ → Place
+start S ticks = record { box = S; swept = S; left = ticks }
+
+abbrev pub finish : Reached → Place
+finish r = record { box = r .end; swept = r .swept; left = 0 }
+
 -- the place behind a step
 abbrev pub behind : Machine → Place → Step → Place
 behind m p t = record { box = t .end; swept = hull (m .n) (p .swept) (swept m (p .box) t); left = p .left - t .ticks }
@@ -109,9 +115,13 @@ pub data Walks (m : Machine) (clear : List ℤ → Bool) (w : ℕ) (q : Place) :
   here : Walks m clear w q q
   next : {p : Place} {t : Step} → Settled m (p .box) (min w (p .left)) t → clear (swept m (p .box) t) ≡ true → Walks m clear w q (behind m p t) → Walks m clear w q p
 
+pub walks-less : {m : Machine} {clear : List ℤ → Bool} {w : ℕ} {p q : Place} → Walks m clear w q p → q .left ≤ p .left
+walks-less {q} here = le-refl (q .left)
+walks-less (next s k r) = omega (arith, walks-less r)
+
 -- from p a walk ends with r
 pub record Ends (m : Machine) (clear : List ℤ → Bool) (w : ℕ) (p : Place) (r : Reached) : Type 0 where
-  pub walks : Walks m clear w (record { box = r .end; swept = r .swept; left = 0 }) p
+  pub walks : Walks m clear w (finish r) p
 
 -- at p a step is not clear, and `why` says so
 pub record Hits (m : Machine) (clear : List ℤ → Bool) (w : ℕ) (p : Place) (why : Failure) : Type 0 where
@@ -127,19 +137,20 @@ pub record Stops (m : Machine) (clear : List ℤ → Bool) (w : ℕ) (p : Place)
   pub hits : Hits m clear w at why
 
 ends-here : {m : Machine} {clear : List ℤ → Bool} {w : ℕ} (p : Place) → p .left ≤ 0 → Ends m clear w p (record { end = p .box; swept = p .swept })
-ends-here {m} {clear} {w} p h = record {
-  walks = let q : 0 ≡ p .left = omega arith in subst (λ (j : ℕ). Walks m clear w (record { box = p .box; swept = p .swept; left = 0 }) (record { box = p .box; swept = p .swept; left = j })) q here;
-}
+ends-here {m} {clear} {w} p h =
+    let r : Reached = record { end = p .box; swept = p .swept } in
+    let q : 0 ≡ p .left = omega arith in
+    record { walks = subst (λ (j : ℕ). Walks m clear w (finish r) (record { box = p .box; swept = p .swept; left = j })) q here }
 
 module _ (l : Bool) (a : ℕ) (m : Machine) (clear : List ℤ → Bool) (w e : ℕ) (room : m .n ≤ N) (z : 0 < w) (h : w < 2 ^ suc e) where
-  leg-takes : (p : Place) (c : ℕ) → 0 < p .left
+  pub leg-takes : (p : Place) (c : ℕ) → 0 < p .left
       → Takes l a c (8 * e + 1) (λ t. Settled m (p .box) (min w (p .left)) t × (clear (swept m (p .box) t) ≡ true)) (Hits m clear w p) (leg l a m clear w (p .box) (p .left) c)
   unfolding leg
   leg-takes p c k =
       takes-then {d = 0} _ (omega arith) (takes-map (le-refl (8 * e + 1)) (λ t s. s) (λ why b. absurd b) (step-takes l a m (p .box) room (min w (p .left)) c e (omega arith) (omega arith)))
       (λ t c′ s. takes-if (clear (swept m (p .box) t)) _ _ (λ k. value (s, k) (counted-none c′)) (λ k. failure (record { step = t; settled = s; hits = k; reason = refl }) (counted-none c′)))
 
-  walk-takes : (fuel : ℕ) (p : Place) (c : ℕ) → p .left < fuel → Takes l a c ((8 * e + 1) * p .left) (Ends m clear w p) (Stops m clear w p) (walk l a m clear w fuel (p .box) (p .swept) (p .left) c)
+  pub walk-takes : (fuel : ℕ) (p : Place) (c : ℕ) → p .left < fuel → Takes l a c ((8 * e + 1) * p .left) (Ends m clear w p) (Stops m clear w p) (walk l a m clear w fuel (p .box) (p .swept) (p .left) c)
   unfolding walk
   walk-takes zero p c f = absurd (omega arith)
   walk-takes (suc fuel) p c f =
@@ -161,14 +172,14 @@ module _ (l : Bool) (a : ℕ) (m : Machine) (clear : List ℤ → Bool) (w e : �
       less i j = omega arith
 
   pub reach-takes : (S : List ℤ) (ticks c : ℕ)
-      → Takes l a c ((8 * e + 1) * ticks) (Ends m clear w (record { box = S; swept = S; left = ticks })) (Stops m clear w (record { box = S; swept = S; left = ticks })) (reach l a m clear w S ticks c)
+      → Takes l a c ((8 * e + 1) * ticks) (Ends m clear w (start S ticks)) (Stops m clear w (start S ticks)) (reach l a m clear w S ticks c)
   unfolding reach
-  reach-takes S ticks c = walk-takes (suc ticks) (record { box = S; swept = S; left = ticks }) c (le-refl (suc ticks))
+  reach-takes S ticks c = walk-takes (suc ticks) (start S ticks) c (le-refl (suc ticks))
 
 -- at width 0 no step settles
 pub reach-zero : {m : Machine} (l : Bool) (a : ℕ) (clear : List ℤ → Bool) (S : List ℤ) (ticks c : ℕ)
-    → Takes l a c 0 (Ends m clear 0 (record { box = S; swept = S; left = ticks })) (λ why. Unit) (reach l a m clear 0 S ticks c)
+    → Takes l a c 0 (Ends m clear 0 (start S ticks)) (λ why. Unit) (reach l a m clear 0 S ticks c)
 unfolding reach walk leg step halving andThen
 reach-zero l a clear S ticks c =
-    takes-if (leb ticks 0) _ _ (λ n. value (ends-here (record { box = S; swept = S; left = ticks }) (leb-true ticks 0 n)) (counted-none c))
+    takes-if (leb ticks 0) _ _ (λ n. value (ends-here (start S ticks) (leb-true ticks 0 n)) (counted-none c))
     (λ n. let q : min 0 ticks ≡ 0 = omega arith in rw q (failure tt (counted-none c)))

@@ -1,57 +1,63 @@
--- What the lifted step promises is true. Assumes nothing.
-use mathlib.Core.Path.{_≡_, refl, sym, ap, _∙_, subst}
+-- Every trajectory of a step, of a walk and of a reach stays where their boxes say. Assumes nothing.
+use mathlib.Core.Path.{_≡_, subst}
 use mathlib.Core.Logic.{⊎-elim}
 use mathlib.Core.Bool.{Bool, true, false, not}
 use mathlib.Core.List.{List}
-use Prim.Native.Nat.{ℕ, zero, suc, _+_, _-_, _*_, _≤_, _<_}
+use Prim.Native.Nat.{ℕ, zero, suc, _+_, _-_, _≤_, _<_, zero-le}
 use native.Mathlib.Omega.{arith}
 use native.Mathlib.Nat.{le-refl, add-zero, add-suc}
 use native.Mathlib.Decide.{decLe}
-use lib.IntN.{ℤ, pos, negℤ, _+ℤ_, _-ℤ_, _*ℤ_}
+use lib.IntN.{ℤ, pos, _+ℤ_, _-ℤ_, _*ℤ_}
 use lib.Signed.{_≤ℤ_}
-use Rattle.integers.specs.Order.{minZ, maxZ}
-use Rattle.integers.proofs.Z.{ints, flat, sum, prod, min-is, max-is, span-lo, span-hi, mul-mono, le-or-lt}
+use Rattle.integers.proofs.Z.{ints, flat}
 use Rattle.sheet.specs.Slots.{_!_, N, unsafeBox}
-use Rattle.rates.specs.Box.{In, hull, within, moved}
+use Rattle.rates.specs.Box.{In, hull, moved}
 use Rattle.rates.specs.Machine.{Machine, cap, Tick}
 use Rattle.rates.specs.Rate.{outer, neutral, faceRate, rates}
 use borrow.Author.Tests.{not-true}
 use Rattle.rates.proofs.Box.{differ, any-none}
-use Rattle.rates.proofs.Face.{Beyond, beyond-trans, side, in-side, in-by, hull-side, moved-side, hull-left, hull-right, in-within, meets-by, rates-side}
-use Rattle.rates.proofs.Sound.{Proper, inward, rate-bounds, cap-bounds, rate-neutral, near-in}
-use Rattle.boxes.specs.Step.{lifted, settles, endBox, Got, got, Step, step, swept}
+use Rattle.rates.proofs.Face.{Beyond, beyond-refl, beyond-trans, beyond-flip, beyond-back, beyond-or, beyond-sum, beyond-times, beyond-more, outer-left, outer-right}
+use Rattle.rates.proofs.Inside.{side, hull-side, lift-side, in-side, in-by, meets-by, Inside, inside-in, within-inside, hull-left, hull-right}
+use Rattle.rates.proofs.Neighborhood.{inward, near-in}
+use Rattle.rates.proofs.Sound.{Proper, rate-bounds, cap-bounds, beyond-neutral, rate-within}
+use Rattle.boxes.specs.Step.{lifted, settles, endBox, got, Step, step, swept}
 use Rattle.boxes.specs.Reach.{Reached, reach, clear}
 use Rattle.boxes.proofs.Stages.{value-of}
-use Rattle.boxes.proofs.Settled.{Settled, still, below-power, step-takes, Place, behind, Walks, here, next, Ends, reach-takes, reach-zero}
+use Rattle.boxes.proofs.Settled.{Settled, still, below-power, step-takes, Place, start, finish, behind, Walks, here, next, walks-less, Ends, reach-takes, reach-zero}
 
 -- ---- one face of a step: s is its start, r its rate, c the cap; x is the variable at tick j, z at the next
 
 -- a face that moved by j rates lies between its start and its end
 between : (up : Bool) (k j : ℕ) (s r : ℤ) → j ≤ k → Beyond up (outer up s (s +ℤ pos k *ℤ r)) (s +ℤ pos j *ℤ r)
-unfolding outer
-between false k j s r h = record {
-  order = omega (ints, min-is s (s +ℤ pos k *ℤ r), sum s (pos k *ℤ r), sum s (pos j *ℤ r), prod (pos k) r, prod (pos j) r, span-lo r (pos 0) (pos k) (pos j) (omega ints) (omega ints), min-is (r *ℤ pos 0) (r *ℤ pos k), prod r (pos 0), prod r (pos k), prod r (pos j));
-}
-between true k j s r h = record {
-  order = omega (ints, max-is s (s +ℤ pos k *ℤ r), sum s (pos k *ℤ r), sum s (pos j *ℤ r), prod (pos k) r, prod (pos j) r, span-hi r (pos 0) (pos k) (pos j) (omega ints) (omega ints), max-is (r *ℤ pos 0) (r *ℤ pos k), prod r (pos 0), prod r (pos k), prod r (pos j));
-}
+between up k j s r h =
+    ⊎-elim
+    (λ i. beyond-trans (outer-left up s _) (rw still at (beyond-sum (beyond-refl up s) (beyond-more up {i = 0} {k = j} {r = r} zero-le i))))
+    (λ i. beyond-trans (outer-right up s _) (beyond-sum (beyond-refl up s) (beyond-back (beyond-more (not up) h (beyond-flip i)))))
+    (beyond-or up (pos 0) r)
 
--- near the face the change is bounded by the rate; and from further in, no change within the cap comes past the face
+-- a cap points in; and a cap out from k + 1 caps in is k caps in
+cap-in : (up : Bool) (c : ℤ) → pos 0 ≤ℤ c → Beyond up (pos 0) (neutral up c)
+unfolding neutral
+cap-in false c h = record { order = h }
+cap-in true c h = record { order = simp flat (omega ints) }
+
+caps-in : (up : Bool) (k : ℕ) (c s : ℤ) → inward up s (pos (k + 1) *ℤ c) +ℤ neutral (not up) c ≡ s +ℤ pos k *ℤ neutral up c
+unfolding neutral
+caps-in false k c s = simp flat (omega ints)
+caps-in true k c s = simp flat (omega ints)
+
+-- near the face the change is bounded by the rate, and from further in no change within the cap comes past the face
 face-next : (up : Bool) (k j : ℕ) (c s x z r : ℤ) → j < k → pos 0 ≤ℤ c
     → Beyond up (s +ℤ pos j *ℤ r) x → Beyond up r (neutral up c) → Beyond up (neutral (not up) c) (z -ℤ x)
     → (Beyond up x (inward up s (pos (k + 1) *ℤ c)) → Beyond up r (z -ℤ x))
     → Beyond up (s +ℤ pos (suc j) *ℤ r) z
-unfolding neutral
-face-next false k j c s x z r j<k c≥0 at inner capped near = record {
-  order = ⊎-elim (λ (n : x ≤ℤ (s +ℤ pos (k + 1) *ℤ c)). simp flat (omega (ints, simp flat at (at .order), simp flat at (near (record { order = n }) .order))))
-      (λ f. simp flat (omega (ints, simp flat at f, simp flat at (capped .order), simp flat at (mul-mono (pos (suc j)) r c (omega ints) (inner .order)), simp flat at (mul-mono c (pos (suc j)) (pos k) c≥0 (omega ints)))))
-      (le-or-lt x (s +ℤ pos (k + 1) *ℤ c));
-}
-face-next true k j c s x z r j<k c≥0 at inner capped near = record {
-  order = ⊎-elim (λ (n : (s -ℤ pos (k + 1) *ℤ c) ≤ℤ x). simp flat (omega (ints, simp flat at (at .order), simp flat at (near (record { order = n }) .order))))
-      (λ f. simp flat (omega (ints, simp flat at f, simp flat at (capped .order), simp flat at (mul-mono (pos (suc j)) (negℤ c) r (omega ints) (inner .order)), simp flat at (mul-mono c (pos (suc j)) (pos k) c≥0 (omega ints)))))
-      (le-or-lt (s -ℤ pos (k + 1) *ℤ c) x);
-}
+face-next up k j c s x z r l p at inner capped near =
+    let back : x +ℤ (z -ℤ x) ≡ z = simp flat (omega ints) in
+    let more : (s +ℤ pos j *ℤ r) +ℤ r ≡ s +ℤ pos (suc j) *ℤ r = simp flat (omega ints) in
+    ⊎-elim (λ n. rw (more, back) at (beyond-sum at (near n)))
+    (λ (f : Beyond up (inward up s (pos (k + 1) *ℤ c)) x). beyond-trans (beyond-sum (beyond-refl up s) (beyond-trans (beyond-times (suc j) inner) (beyond-more up l (cap-in up c p))))
+    (rw (caps-in up k c s, back) at (beyond-sum f capped)))
+    (beyond-or up x (inward up s (pos (k + 1) *ℤ c)))
 
 -- ---- a step
 
@@ -59,34 +65,32 @@ face-next true k j c s x z r j<k c≥0 at inner capped near = record {
 abbrev pub Ticks : Machine → (ℕ → List ℤ) → ℕ → Type 0
 Ticks m x k = (j : ℕ) → j < k → Tick m (x j) (x (suc j))
 
--- the state lies in S with each face moved by j of its rates
-record Lies (n : ℕ) (S r : List ℤ) (j : ℕ) (x : List ℤ) : Type 0 where
-  at : (up : Bool) (i : ℕ) → i < n → Beyond up (side up S i +ℤ pos j *ℤ side up r i) (x ! i)
+module _ {m : Machine} (ok : Proper m) (S : List ℤ) (k : ℕ) (E : List ℤ) where
+  -- the state lies in S with each face moved by j of its rates
+  record Lies (j : ℕ) (x : List ℤ) : Type 0 where
+    at : (up : Bool) (i : ℕ) → i < m .n → Beyond up (side up S i +ℤ pos j *ℤ faceRate up m S k E i) (x ! i)
 
-module _ {n : ℕ} (room : n ≤ N) {S r x : List ℤ} where
-  lies-start : In n S x → Lies n S r 0 x
-  lies-start b = record { at = λ up i h. rw (still (side up S i) (side up r i)) (in-side b up i h) }
+  lies-start : {x : List ℤ} → In (m .n) S x → Lies 0 x
+  lies-start b = record { at = λ up i h. rw (still (side up S i) _) (in-side b up i h) }
 
-  lies-moved : {k : ℕ} → Lies n S r k x → In n (moved n S k r) x
-  lies-moved {k} a = in-by (λ up i h. rw (moved-side n i room h up S k r) (a .at up i h))
+  lies-moved : {j : ℕ} {x : List ℤ} → Lies j x → In (m .n) (moved (m .n) S j (rates m S k E)) x
+  lies-moved {j} a = in-by (λ up i h. rw (lift-side m i (ok .room) h up S k E j) (a .at up i h))
 
-  lies-hull : {k j : ℕ} → j ≤ k → Lies n S r j x → In n (hull n S (moved n S k r)) x
-  lies-hull {k} {j} l a = in-by (λ up i h. rw (hull-side n i room h up S (moved n S k r), moved-side n i room h up S k r) (beyond-trans (between up k j (side up S i) (side up r i) l) (a .at up i h)))
+  lies-hull : {j d : ℕ} {x : List ℤ} → j ≤ d → Lies j x → In (m .n) (hull (m .n) S (moved (m .n) S d (rates m S k E))) x
+  lies-hull {j} {d} l a = in-by (λ up i h. rw (hull-side (m .n) i (ok .room) h up S _, lift-side m i (ok .room) h up S k E d) (beyond-trans (between up d j (side up S i) (faceRate up m S k E i) l) (a .at up i h)))
 
-module _ {m : Machine} (ok : Proper m) (S : List ℤ) (k : ℕ) (E : List ℤ) (settled : settles m S k E ≡ true) where
-  lies-next : {x y : List ℤ} (j : ℕ) → j < k → Tick m x y → Lies (m .n) S (rates m S k E) j x → Lies (m .n) S (rates m S k E) (suc j) y
+  lies-next : {x y : List ℤ} (j : ℕ) → settles m S k E ≡ true → j < k → Tick m x y → Lies j x → Lies (suc j) y
   unfolding settles lifted faceRate
-  lies-next {x} {y} j l t a = record {
+  lies-next {x} {y} j s l t a = record {
     at = λ up i h.
-        let e : In (m .n) E x = in-within settled (lies-hull (ok .room) {k = k - 1} {j = j} (omega arith) a) in
-        rw (rates-side up m i (ok .room) h S k E)
-        (face-next up k j (cap m i) (side up S i) (x ! i) (y ! i) _ l (ok .caps i h) (rw (rates-side up m i (ok .room) h S k E) at (a .at up i h)) (rate-neutral up m _ i) (cap-bounds ok t i h up)
-        (λ near. rate-bounds ok t i h up _ (near-in up S _ E x i (ok .room) h e near)));
+        let e : In (m .n) E x = inside-in (within-inside _ E s) (lies-hull {j = j} {d = k - 1} (omega arith) a) in
+        face-next up k j (cap m i) (side up S i) (x ! i) (y ! i) _ l (ok .caps i h) (a .at up i h) (beyond-neutral (rate-within up m _ i (ok .caps i h)) up) (cap-bounds ok t i h up)
+        (λ near. rate-bounds ok t i h up _ (near-in (ok .room) S _ i h up e near));
   }
 
-  lies-at : {x : ℕ → List ℤ} → In (m .n) S (x 0) → (j : ℕ) → j ≤ k → Ticks m x j → Lies (m .n) S (rates m S k E) j (x j)
-  lies-at b zero l t = lies-start (ok .room) b
-  lies-at b (suc j) l t = lies-next j l (t j (omega arith)) (lies-at b j (omega arith) (λ i g. t i (omega arith)))
+  lies-at : {x : ℕ → List ℤ} → settles m S k E ≡ true → In (m .n) S (x 0) → (j : ℕ) → j ≤ k → Ticks m x j → Lies j (x j)
+  lies-at s b zero l t = lies-start b
+  lies-at s b (suc j) l t = lies-next j s l (t j (omega arith)) (lies-at s b j (omega arith) (λ i g. t i (omega arith)))
 
 -- STEP: the start box's states are in the swept box at each tick of the step, and in the end box behind it
 pub record Sound (m : Machine) (S : List ℤ) (t : Step) : Type 0 where
@@ -95,10 +99,13 @@ pub record Sound (m : Machine) (S : List ℤ) (t : Step) : Type 0 where
 
 pub settled-sound : {m : Machine} {S : List ℤ} {k : ℕ} {t : Step} → Proper m → Settled m S k t → Sound m S t
 unfolding swept endBox
-settled-sound {m} {S} {t} ok s = record {
-  sweeps = λ x b j l k. rw (s .end) (lies-hull (ok .room) l (lies-at ok S (t .ticks) (s .E) (s .settled) b j l k));
-  ends = λ x b k. rw (s .end) (lies-moved (ok .room) (lies-at ok S (t .ticks) (s .E) (s .settled) b (t .ticks) (le-refl (t .ticks)) k));
-}
+settled-sound {m} {S} {t} ok s =
+    let k = t .ticks in
+    let E = s .E in
+    record {
+      sweeps = λ x b j l f. rw (s .end) (lies-hull ok S k E l (lies-at ok S k E (s .settled) b j l f));
+      ends = λ x b f. rw (s .end) (lies-moved ok S k E (lies-at ok S k E (s .settled) b k (le-refl k) f));
+    }
 
 pub step-sound : {m : Machine} (l : Bool) (a : ℕ) (S : List ℤ) (k c : ℕ) {t : Step} {c′ : ℕ} → Proper m → 0 < k → step l a m S k c ≡ got t c′ → Sound m S t
 step-sound l a S k c ok z e = settled-sound ok (value-of (step-takes l a _ S (ok .room) k c k z (below-power k)) e .0)
@@ -153,24 +160,21 @@ module _ {m : Machine} (room : m .n ≤ N) {clear : List ℤ → Bool} (p q : Pl
   onward x b j f = later-start x (t .ticks) (In (m .n) (t .end)) (s .ends x b (λ i g. f i (omega arith)))
 
   sweep : (x : ℕ → List ℤ) → In (m .n) (p .box) (x 0) → (j : ℕ) → j ≤ t .ticks → Ticks m x j → In (m .n) (behind m p t .swept) (x j)
-  sweep x b j g f = hull-right room (p .swept) (swept m (p .box) t) (s .sweeps x b j g f)
+  sweep x b j g f = inside-in (hull-right room (p .swept) (swept m (p .box) t)) (s .sweeps x b j g f)
 
   covers-next : Covers m clear p q (t .ticks + d)
   unfolding later
   covers-next = record {
-    keeps = λ y h. r .keeps y (hull-left room (p .swept) (swept m (p .box) t) h);
+    keeps = λ y h. r .keeps y (inside-in (hull-left room (p .swept) (swept m (p .box) t)) h);
     sweeps = λ x b w j. by-tick (λ j. j ≤ t .ticks + d → Ticks m x j → In (m .n) (q .swept) (x j)) (t .ticks) j
         (λ g l f. r .keeps (x j) (sweep x b j g f))
-        (λ i z l f. r .sweeps (later x (t .ticks)) (onward x b i f) (later-start x (t .ticks) (In (m .n) (behind m p t .swept)) (sweep x b (t .ticks) (le-refl (t .ticks)) (λ i g. f i (omega arith)))) i (omega arith) (later-ticks x (t .ticks) i f));
+        (λ i z l f. r .sweeps (later x (t .ticks)) (onward x b i f)
+        (later-start x (t .ticks) (In (m .n) (behind m p t .swept)) (sweep x b (t .ticks) (le-refl (t .ticks)) (λ i g. f i (omega arith)))) i (omega arith) (later-ticks x (t .ticks) i f));
     clears = λ x b j z. by-tick (λ j. j ≤ t .ticks + d → Ticks m x j → Cleared (m .n) clear (x j)) (t .ticks) j
         (λ g l f. record { box = swept m (p .box) t; clears = k; holds = s .sweeps x b j g f })
         (λ i z l f. r .clears (later x (t .ticks)) (onward x b i f) i (omega arith) (omega arith) (later-ticks x (t .ticks) i f));
     ends = λ x b f. r .ends (later x (t .ticks)) (onward x b d f) (later-ticks x (t .ticks) d f);
   }
-
-walks-less : {m : Machine} {clear : List ℤ → Bool} {w : ℕ} {p q : Place} → Walks m clear w q p → q .left ≤ p .left
-walks-less {q} here = le-refl (q .left)
-walks-less (next s k r) = omega (arith, walks-less r)
 
 pub walks-cover : {m : Machine} {clear : List ℤ → Bool} {w : ℕ} {p q : Place} → Proper m → Walks m clear w q p → Covers m clear p q (p .left - q .left)
 walks-cover {m} {clear} {q} ok here = let e : 0 ≡ q .left - q .left = omega arith in subst (Covers m clear q q) e (covers-none q)
@@ -187,16 +191,20 @@ pub record Reaches (m : Machine) (clear : List ℤ → Bool) (S : List ℤ) (tic
   pub clears : (x : ℕ → List ℤ) → In (m .n) S (x 0) → (j : ℕ) → 0 < ticks → j ≤ ticks → Ticks m x j → Cleared (m .n) clear (x j)
   pub ends : (x : ℕ → List ℤ) → In (m .n) S (x 0) → Ticks m x ticks → In (m .n) (r .end) (x ticks)
 
-pub ends-reach : {m : Machine} {clear : List ℤ → Bool} {w : ℕ} {S : List ℤ} {ticks : ℕ} {r : Reached} → Proper m → Ends m clear w (record { box = S; swept = S; left = ticks }) r → Reaches m clear S ticks r
-ends-reach {m} {clear} {w} {S} {ticks} {r} ok e =
-    let k : Covers m clear (record { box = S; swept = S; left = ticks }) (record { box = r .end; swept = r .swept; left = 0 }) (ticks - 0) = walks-cover ok (e .walks) in
+pub ends-reach : {m : Machine} {clear : List ℤ → Bool} {w : ℕ} {S : List ℤ} {ticks : ℕ} {r : Reached} → Proper m → Ends m clear w (start S ticks) r → Reaches m clear S ticks r
+ends-reach {m} {clear} {S} {ticks} {r} ok e =
     let q : ticks - 0 ≡ ticks = omega arith in
-    let n = subst (Covers m clear (record { box = S; swept = S; left = ticks }) (record { box = r .end; swept = r .swept; left = 0 })) q k in
-    record { sweeps = λ x b. n .sweeps x b b; clears = n .clears; ends = n .ends }
+    let k = subst (Covers m clear (start S ticks) (finish r)) q (walks-cover ok (e .walks)) in
+    record { sweeps = λ x b. k .sweeps x b b; clears = k .clears; ends = k .ends }
 
-pub reach-sound : {m : Machine} (l : Bool) (a : ℕ) (clear : List ℤ → Bool) (w : ℕ) (S : List ℤ) (ticks c : ℕ) {r : Reached} {c′ : ℕ} → Proper m → reach l a m clear w S ticks c ≡ got r c′ → Reaches m clear S ticks r
+pub reach-sound : {m : Machine} (l : Bool) (a : ℕ) (clear : List ℤ → Bool) (w : ℕ) (S : List ℤ) (ticks c : ℕ) {r : Reached} {c′ : ℕ} → Proper m
+    → reach l a m clear w S ticks c ≡ got r c′ → Reaches m clear S ticks r
 reach-sound l a clear zero S ticks c ok e = ends-reach ok (value-of (reach-zero l a clear S ticks c) e .0)
 reach-sound {m} l a clear (suc w) S ticks c ok e = ends-reach ok (value-of (reach-takes l a m clear (suc w) (suc w) (ok .room) (omega arith) (below-power (suc w)) S ticks c) e .0)
+
+-- it covers every box inside S too
+pub reaches-part : {m : Machine} {clear : List ℤ → Bool} {B S : List ℤ} {ticks : ℕ} {r : Reached} → Inside (m .n) B S → Reaches m clear S ticks r → Reaches m clear B ticks r
+reaches-part s r = record { sweeps = λ x b. r .sweeps x (inside-in s b); clears = λ x b. r .clears x (inside-in s b); ends = λ x b. r .ends x (inside-in s b) }
 
 -- ---- no-go boxes
 

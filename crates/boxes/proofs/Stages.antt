@@ -5,7 +5,7 @@ use Prim.Native.Nat.{ℕ, suc, _+_, _≤_}
 use native.Mathlib.Omega.{arith}
 use lib.Dec.{eqb}
 use borrow.Author.Tests.{eqb-true, eqb-false}
-use Rattle.rates.proofs.Box.{and-both}
+use Rattle.rates.proofs.Box.{differ, and-both}
 use Rattle.boxes.specs.Step.{Failure, Got, got, failed, out, andThen, orElse, isOut}
 
 -- the count goes from c to c′ by at most `most` rounds, and not past an allowance
@@ -98,3 +98,17 @@ module _ {l : Bool} {a c most : ℕ} {A : Type 0} {P : A → Type 0} {Q : Failur
 
   pub failure-of : {g : Got A} {why : Failure} {c′ : ℕ} → Takes l a c most P Q g → g ≡ failed why c′ → Q why × Counted l a c most c′
   failure-of h e = failure-is (subst (Takes l a c most P Q) e h)
+
+-- ---- a stage with no allowance that does not fail has a value
+
+pub record Value {A : Type 0} (a c most : ℕ) (P : A → Type 0) (g : Got A) : Type 0 where
+  pub value : A
+  pub count : ℕ
+  pub same : g ≡ got value count
+  pub holds : P value
+  pub counted : Counted false a c most count
+
+pub has-value : {a c most : ℕ} {A : Type 0} {P : A → Type 0} {Q : Failure → Type 0} {g : Got A} → ((why : Failure) → Q why → ⊥) → Takes false a c most P Q g → Value a c most P g
+has-value f (value {x = x} {c′ = c} p n) = record { value = x; count = c; same = refl; holds = p; counted = n }
+has-value f (failure {why = why} q n) = absurd (f why q)
+has-value f (spent i e n) = absurd (differ i refl)

@@ -2,7 +2,7 @@
 use mathlib.Core.Logic.{⊎-elim}
 use mathlib.Core.Bool.{Bool, true, false, not, _&&_, _||_}
 use mathlib.Core.List.{List}
-use Prim.Native.Nat.{ℕ, zero, suc, _+_, _≤_, _<_}
+use Prim.Native.Nat.{ℕ, zero, suc, _+_, _<_}
 use native.Mathlib.Numerals.{add-one}
 use native.Mathlib.Omega.{arith}
 use lib.Dec.{T, leb, leb→le, nleb→lt}
@@ -42,8 +42,8 @@ module _ {v : List ℤ} {bands k : ℕ} {l h : ℤ} where
       both (leZ (edge v k) h) _ (s .above .le)
       (either (leb bands (k + 1)) (ltZ l (edge v (k + 1))) (λ g. s .below (nleb→lt bands (k + 1) g) .lt))
 
--- a band that holds a number meets each range that holds it
-pub meets-wider : {v : List ℤ} {bands k : ℕ} {l h x : ℤ} → l ≤ℤ x → x ≤ℤ h → Meets v bands k x x → Meets v bands k l h
+-- a band that meets a range meets each that holds it
+pub meets-wider : {v : List ℤ} {bands k : ℕ} {l l′ h h′ : ℤ} → l′ ≤ℤ l → h ≤ℤ h′ → Meets v bands k l h → Meets v bands k l′ h′
 meets-wider u w s = record { above = omega (ints, s .above); below = λ g. omega (ints, s .below g) }
 
 -- ---- from the first edge on every number has a band
