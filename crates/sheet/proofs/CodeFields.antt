@@ -77,12 +77,13 @@ module _ (p : ℕ → Field) (k m : ℕ) (l : m ≡ k + 1) (x : Field) (e : p k 
   unfolding offset
   offset-next = rw (is-suc, offset) (ap (λ (y : Field). offset p k + width (y .kind)) e)
 
-  pub filled-next : (f : List ℕ) (at : ℕ) (v : List ℤ) {w : List ℤ} {a : ℕ} {z : ℤ} → z ≡ decoded (x .kind) (drop a f) → a ≡ at + offset p k → w ≡ filled p f at k v → set w (x .slot) z ≡ filled p f at m v
+  pub filled-next : (f : List ℕ) (at : ℕ) (v : List ℤ) (a : ℕ) {w : List ℤ} {i : ℕ} {z : ℤ}
+      → x .slot ≡ i → z ≡ decoded (x .kind) (drop a f) → a ≡ at + offset p k → w ≡ filled p f at k v → set w i z ≡ filled p f at m v
   unfolding filled
-  filled-next f at v {w} {a} h q i =
+  filled-next f at v a {w} hi hz ha hw =
       rw (is-suc, filled)
-      (ap (set w (x .slot)) h
-      ∙ ap₂ (λ (u : List ℤ) (b : ℕ). set u (x .slot) (decoded (x .kind) (drop b f))) i q
+      (ap₂ (λ (j : ℕ) (y : ℤ). set w j y) (sym hi) hz
+      ∙ ap₂ (λ (u : List ℤ) (b : ℕ). set u (x .slot) (decoded (x .kind) (drop b f))) hw ha
       ∙ ap (λ (y : Field). set (filled p f at k v) (y .slot) (decoded (y .kind) (drop (at + offset p k) f))) (sym e))
 
   pub bad-next : (v : List ℤ) {y z : ℕ} → y ≡ orElse z (test v x) → z ≡ bad p v k → y ≡ bad p v m

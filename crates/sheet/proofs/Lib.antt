@@ -14,5 +14,10 @@ pub mod Same
 pub mod RoundTrip
 pub mod Everything
 mod Examples
+mod CodeBytes
 mod CodeFields
+mod CodeFile
 mod CodeLayout
+mod CodePlaces
+mod CodeRead
+mod CodeValues

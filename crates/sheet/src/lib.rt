@@ -1,1 +1,101 @@
 // The sheet: its value, its reader and its writer, and the format as definitions (document 01, "Sheet layout").
+// A sheet's value is an array of numbers at named slots (slots). `read` and `write` take any input: what they answer,
+// and what they leave in a buffer, is equal to the definitions in specs/Sheet.antt.
+ghost use mathlib.Core.Path.{_≡_};
+ghost use mathlib.Core.Bool.{true, _&&_};
+ghost use lib.Dec.{leb};
+ghost use lib.ListN.{length};
+ghost use lib.IntN.{pos, natAbs};
+ghost use lib.Signed.{_≤ℤ_};
+ghost use Prim.Native.Nat.{_<_};
+ghost use Rattle.sheet.specs.Slots.{_!_, headSize, slots};
+ghost use Rattle.sheet.specs.Fields.{bad};
+ghost use Rattle.sheet.specs.Layout.{head, headFields};
+ghost use Rattle.sheet.specs.File.{marked};
+ghost use Rattle.sheet.specs.Sheet.{zeros, headOf, contents, refusal, values};
+
+pub mod slots;
+pub mod refusals;
+mod bytes;
+mod tests;
+mod marks;
+mod reader;
+
+use slots::{SLOTS, VARS, BANDS, BOXES};
+use refusals::{BEGINNING, SIZE};
+
+// A refusal, or 0 and a sheet's numbers.
+pub struct Parsed {
+    pub refusal: u8,
+    pub value: [i32; SLOTS],
+}
+
+fn clear(v: &mut [i32; SLOTS])
+    ensures { λ _. ⌜ now (v .exit) ≡ zeros ⌝ }
+{
+    *v = [0i32; SLOTS];
+}
+
+fn count(v: &[i32; SLOTS], slot: usize) -> usize
+    requires { ⌜ (slot < slots) × (pos 0 ≤ℤ now v ! slot) ⌝ }
+    ensures { λ r. ⌜ r ≡ natAbs (now (v .entry) ! slot) ⌝ }
+{
+    let x = v[slot];
+    x as usize
+}
+
+// What follows the head's numbers, once they were read and tested.
+fn read_rest(f: &[u8], v: &mut [i32; SLOTS]) -> u8
+    requires { ⌜ leb 20 (length (now f)) && marked (now f) 0 head ≡ true ⌝ }
+    requires { ⌜ (now v ≡ headOf (now f)) × (0 ≡ bad headFields (now v) headSize) ⌝ }
+    ensures { λ r. ⌜ (r ≡ refusal (now (f .entry))) × (r ≡ 0 → now (v .exit) ≡ contents (now (f .entry))) ⌝ }
+{
+    let n = count(v, VARS);
+    let bands = count(v, BANDS);
+    let boxes = count(v, BOXES);
+    if f.len() != marks::file_length(n, bands, boxes) {
+        return SIZE;
+    }
+    reader::read_records(f, n, bands, boxes, v);
+    reader::bad_file(f, n, bands, boxes, v)
+}
+
+fn read_cleared(f: &[u8], v: &mut [i32; SLOTS]) -> u8
+    requires { ⌜ now v ≡ zeros ⌝ }
+    ensures { λ r. ⌜ (r ≡ refusal (now (f .entry))) × (r ≡ 0 → now (v .exit) ≡ contents (now (f .entry))) ⌝ }
+{
+    if f.len() < marks::CAPS_AT {
+        return BEGINNING;
+    }
+    let right = marks::marked(f, 0, marks::mark_of(0, 0, 0));
+    if !right {
+        return BEGINNING;
+    }
+    reader::read_head(f, v);
+    let x = tests::bad_head(v);
+    if x != 0 {
+        return x;
+    }
+    read_rest(f, v)
+}
+
+// Reads a sheet into a lent array: its numbers, or zeros where it is refused.
+pub fn read_into(f: &[u8], v: &mut [i32; SLOTS]) -> u8
+    ensures { λ r. ⌜ (r ≡ refusal (now (f .entry))) × (now (v .exit) ≡ values (now (f .entry))) ⌝ }
+{
+    clear(v);
+    let x = read_cleared(f, v);
+    if x != 0 {
+        clear(v);
+    }
+    x
+}
+
+// Reads a sheet.
+pub fn read(f: &[u8]) -> Parsed
+    ensures { λ r. ⌜ (r .refusal ≡ refusal (now (f .entry))) × (r .value ≡ values (now (f .entry))) ⌝ }
+{
+    let mut value = [0i32; SLOTS];
+    let refusal = read_into(f, &mut value);
+    Parsed { refusal: refusal, value: value }
+}

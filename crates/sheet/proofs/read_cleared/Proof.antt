@@ -1,0 +1,76 @@
+-- `read_cleared`: the file's beginning, the head's numbers, and the rest. Assumes nothing.
+use mathlib.Core.Bool.{_&&_, true}
+use mathlib.Core.List.{List}
+use mathlib.Core.Path.{_∙_, _≡_, ap, refl, sym}
+use native.Mathlib.Omega.{arith}
+use lib.Dec.{leb}
+use lib.IntN.{ℤ}
+use lib.ListN.{length}
+use borrow.Author.Needs.{needs}
+use borrow.Author.Tests.{not-false, not-true}
+use Rattle.integers.specs.Bound.{m}
+use Rattle.sheet.proofs.Answers.{refused-head}
+use Rattle.sheet.proofs.CodeFile.{mark-is}
+use Rattle.sheet.proofs.CodeRead.{begins, begins-short, begins-wrong}
+use Rattle.sheet.specs.Fields.{bad, filled}
+use Rattle.sheet.specs.File.{marked, recordAt, start}
+use Rattle.sheet.specs.Layout.{_▸_, head, headFields}
+use Rattle.sheet.specs.Sheet.{headOf}
+use Rattle.sheet.specs.Slots.{headSize}
+use Rattle.sheet.specs.Steps.{sized}
+use Rattle.sheet.proofs.read_cleared.Statement.{statement}
+use Rattle.sheet.proofs.read_cleared.Tie as tie
+
+right-is : (c : tie.After-marked) → c .marked .result ≡ marked (c .before .before .before .before .args .f .now) 0 head
+unfolding recordAt _▸_ start
+right-is c = let m = c .before .mark-of .ensures 0 in mark-is (sized 0 0 0) 0 (c .before .before .before .before .args .f .now) refl (m .0) (m .1) (c .marked .ensures)
+
+begun : (c : tie.Else2) → leb 20 (length (c .before .before .before .before .before .args .f .now)) && marked (c .before .before .before .before .before .args .f .now) 0 head ≡ true
+begun c = begins _ (c .before .before .before .if1 .left) (right-is (c .before)) (not-false _ (c .if2 .left))
+
+head-read : (c : tie.After-read-head) → c .read-head .last .1 .0 ≡ headOf (c .before .before .before .before .before .before .before .args .f .now)
+unfolding headOf
+head-read c = let d = c .before .before .before .before .before .before .before in c .read-head .ensures ∙ ap (filled headFields (d .args .f .now) 2 headSize) (d .pre)
+
+returns : tie.Need-returns
+returns c = (begins-short _ (c .if1 .taken), λ e. (let z : ⊥ = omega arith in absurd z))
+
+mark-of-requires : tie.Need-mark-of-requires
+mark-of-requires c κs = search needs
+
+marked-requires : tie.Need-marked-requires
+marked-requires c κs = search needs
+
+returns-2 : tie.Need-returns-2
+returns-2 c = (begins-wrong _ (c .before .before .before .if1 .left) (right-is (c .before)) (not-true _ (c .if2 .taken)), λ e. (let z : ⊥ = omega arith in absurd z))
+
+read-head-requires : tie.Need-read-head-requires
+read-head-requires c κs = search needs
+
+bad-head-requires : tie.Need-bad-head-requires
+bad-head-requires c κs = search needs
+
+returns-3 : tie.Need-returns-3
+returns-3 c =     let h = c .before .before .before in
+    (refused-head _ (begun (h .before .before)) _ (c .before .bad-head .ensures ∙ ap (λ (v : List ℤ). bad headFields v headSize) (head-read h)) (c .if3 .taken), λ e. absurd (c .if3 .taken e))
+
+read-rest-requires : tie.Need-read-rest-requires
+read-rest-requires c κs =     let h = c .before .before .before .before in
+    (begun (h .before .before), (head-read h, sym (c .before .if3 .left) ∙ c .before .before .bad-head .ensures))
+
+returns-4 : tie.Need-returns-4
+returns-4 c = search needs
+
+pub read-cleared-spec : {M : Type 1} → statement M
+read-cleared-spec =
+    tie.close
+    (tie.spec
+    returns
+    mark-of-requires
+    marked-requires
+    returns-2
+    read-head-requires
+    bad-head-requires
+    returns-3
+    read-rest-requires
+    returns-4)
