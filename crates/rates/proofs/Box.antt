@@ -1,8 +1,8 @@
 -- Laws about boxes, and about what is said of each variable below n. Assumes nothing.
 use mathlib.Core.Path.{_≡_, refl, sym, _∙_, subst}
-use mathlib.Core.Logic.{_⊎_, inl, inr, ⊎-elim}
+use mathlib.Core.Logic.{⊎-elim}
 use mathlib.Core.Bool.{Bool, true, false, _&&_, _||_}
-use mathlib.Core.List.{List, [], _∷_}
+use mathlib.Core.List.{List}
 use Prim.Native.Nat.{ℕ, zero, suc, _+_, _≤_, _<_}
 use native.Mathlib.Nat.{eq-or-lt-of-le}
 use native.Mathlib.Numerals.{add-one}
@@ -13,7 +13,7 @@ use lib.Signed.{leZ, _≤ℤ_, _<ℤ_}
 use lib.ListN.{set, drop, length, length-set, length-replicate}
 use lib.Seq.{getD-set-same, getD-set-other, getD-take, getD-drop}
 use Rattle.integers.specs.Order.{minZ, maxZ}
-use Rattle.integers.proofs.Z.{ints, flat, le-true}
+use Rattle.integers.proofs.Z.{ints, flat, le-true, min-is, max-is}
 use Rattle.sheet.specs.Slots.{_!_, N, boxSize, boxAt}
 use Rattle.rates.specs.Box.{lo, hi, sum, all, any, sides, trim, hull, within, meets, moved}
 
@@ -55,9 +55,10 @@ module _ (n : ℕ) where
   unfolding any
   any-more f e g = rw add-one (rw (e, g) refl)
 
-  pub sides-more : (f g : ℕ → ℤ) → sides (n + 1) f g ≡ set (set (sides n f g) n (f n)) (n + N) (g n)
+  -- a loop's turn: the sides of one variable more are set
+  pub sides-more : (f g : ℕ → ℤ) {r : List ℤ} {x y : ℤ} → r ≡ sides n f g → x ≡ f n → y ≡ g n → set (set r n x) (n + N) y ≡ sides (n + 1) f g
   unfolding sides
-  sides-more f g = rw add-one refl
+  sides-more f g e p q = rw (e, p, q) (rw add-one refl)
 
 -- ---- at each i below n
 
@@ -150,6 +151,17 @@ module _ (n i : ℕ) (k : n ≤ N) (h : i < n) where
   pub trim-hi : (B : List ℤ) → hi (trim n B) i ≡ hi B i
   unfolding trim
   trim-hi B = sides-hi _ _ n i k h
+
+-- a box without what no variable has is its hull with itself
+pub hull-same : (n : ℕ) (B : List ℤ) → hull n B B ≡ trim n B
+unfolding hull trim
+hull-same n B = simp (min-same, max-same)
+  where
+    min-same : (z : ℤ) → minZ z z ≡ z
+    min-same z = omega (ints, min-is z z)
+
+    max-same : (z : ℤ) → maxZ z z ≡ z
+    max-same z = omega (ints, max-is z z)
 
 -- of a box in a sheet's value
 pub box-at : (v : List ℤ) (at j : ℕ) → j < boxSize → boxAt v at ! j ≡ v ! (at + j)

@@ -1,4 +1,5 @@
 pub mod Everything
+pub mod Numbers
 pub mod Box
 pub mod Face
 pub mod Inside
@@ -8,3 +9,6 @@ pub mod Sound
 pub mod Progress
 pub mod Order
 pub mod Ranges
+pub mod Rates
+pub mod Sides
+mod Examples

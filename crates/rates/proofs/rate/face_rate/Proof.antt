@@ -1,0 +1,73 @@
+-- `face_rate` gives the rate over a face's neighborhood. Assumes nothing.
+use mathlib.Core.Path.{_≡_, refl, _∙_}
+use Prim.Native.Nat.{_+_}
+use native.Mathlib.Omega.{arith}
+use lib.IntN.{ℤ, pos, _*ℤ_}
+use lib.Signed.{_≤ℤ_}
+use mir.Facts.{toZ-ofZ, toZ-pos}
+use mir.Syntax.{w64}
+use mir.Val.{SFits, toZ, ofZ}
+use borrow.Author.Needs.{needs}
+use Rattle.integers.specs.Bound.{Bound}
+use Rattle.integers.proofs.Z.{ints, up32, bound-lit, bound-less, bound-mul, fits64}
+use Rattle.sheet.specs.Slots.{cap}
+use Rattle.rates.specs.Rate.{neighborhood, faceRate}
+use Rattle.rates.proofs.Numbers.{wide, times-low}
+use Rattle.rates.proofs.Sides.{cap-bound, neighborhood-bound}
+use Rattle.rates.proofs.rate.face_rate.Statement.{statement}
+use Rattle.rates.proofs.rate.face_rate.Tie as tie
+
+module _ (c : tie.Start) where
+  abbrev reach : ℤ
+  reach = pos (c .args .k + 1) *ℤ cap (c .args .sheet .now) (c .args .i)
+
+  reach-bound : Bound reach 1001000
+  reach-bound = bound-mul {B = 1001} (bound-less (bound-lit (pos (c .args .k + 1))) (omega (arith, c .pre .1 .1))) (cap-bound (c .pre .0 .0) (c .pre .1 .0))
+
+  reach-low : pos 0 ≤ℤ reach
+  reach-low = times-low (c .args .k + 1) (cap (c .args .sheet .now) (c .args .i)) (omega (ints, c .pre .0 .0 .caps (c .args .i) (c .pre .1 .0) .low))
+
+  next-is : toZ w64 (c .args .k + 1) ≡ pos (c .args .k + 1)
+  next-is = toZ-pos w64 (omega (arith, c .pre .1 .1))
+
+-- the reach, as the code has it
+reach-is : (c : tie.After-reach) → let s = c .before in toZ w64 (ofZ w64 (toZ w64 (s .args .k + 1) *ℤ cap (s .args .sheet .now) (s .args .i))) ≡ reach s
+reach-is c = rw (next-is (c .before)) (toZ-ofZ (fits64 (reach-bound (c .before)) tt))
+
+mul-reach-2 : tie.Need-mul-reach-2
+mul-reach-2 c = simp (wide, c .reach .given) (rw (next-is (c .before)) (fits64 (reach-bound (c .before)) tt))
+
+neighborhood-requires : tie.Need-neighborhood-requires
+neighborhood-requires c κs =
+    let s = c .before in
+    ((omega (arith, s .pre .0 .0 .vars, s .pre .1 .0), simp (wide, c .reach .given, reach-is c) (reach-bound s)), s .pre .0 .1 .0)
+
+box-is : (c : tie.After-neighborhood) → let s = c .before .before in c .neighborhood .result ≡ neighborhood (s .args .up) (s .args .s .now) (reach s) (s .args .e .now) (s .args .i)
+box-is c = c .neighborhood .ensures ∙ simp (wide, c .before .reach .given, reach-is (c .before))
+
+rate-requires : tie.Need-rate-requires
+rate-requires c κs =
+    let s = c .before .before .before in
+    let p = s .pre in
+    ((p .0 .0, rw (box-is (c .before)) (neighborhood-bound (s .args .up) (s .args .s .now) _ (s .args .e .now) (s .args .i) (reach-low s) (p .0 .1 .0) (p .0 .1 .1))), p .1 .0)
+
+returns : tie.Need-returns
+unfolding faceRate
+returns c =
+    let f : SFits w64 (c .rate .result) = search needs in
+    toZ-ofZ f ∙ (c .rate .ensures ∙ rw (box-is (c .before .before)) refl)
+
+pub face-rate-spec : {M : Type 1} → statement M
+face-rate-spec =
+    tie.close
+    (tie.spec
+    (λ c. search needs)
+    (λ c. search needs)
+    (λ c. search needs)
+    (λ c. search needs)
+    (λ c. search needs)
+    (λ c. search (needs, up32))
+    mul-reach-2
+    neighborhood-requires
+    rate-requires
+    returns)

@@ -1,0 +1,42 @@
+-- What the code is given: a machine as some numbers beside the sheet's value, and how far its numbers go.
+use mathlib.Core.Bool.{Bool, true, false}
+use mathlib.Core.List.{List}
+use Prim.Native.Nat.{ℕ, _≤_, _<_}
+use lib.IntN.{ℤ, pos}
+use lib.Signed.{_≤ℤ_}
+use Rattle.integers.specs.Bound.{Bound}
+use Rattle.sheet.specs.Slots.{_!_, N, maxBands}
+use Rattle.sheet.specs.Valid.{Between}
+use Rattle.rates.specs.declared.Plant.{Plant}
+use Rattle.rates.specs.Machine.{Law, baseline, command, Machine, cap, rowOf}
+
+unfoldable pub lawOf : Bool → ℤ → Law
+lawOf true u = baseline
+lawOf false u = command u
+
+abbrev pub machineOf : Plant → List ℤ → Machine
+machineOf p v = record { n = p .n; bands = p .bands; var = p .var; law = lawOf (p .baseline) (p .command); sheet = v }
+
+-- there is room for the machine's numbers, and its rates can be worked out
+pub record Usable (m : Machine) : Type 0 where
+  pub vars : m .n ≤ N
+  pub bands : m .bands ≤ maxBands
+  pub var : m .var < m .n
+  pub caps : (i : ℕ) → i < m .n → Between (pos 1) (pos 1000) (cap m i)
+  pub divisors : (k i : ℕ) → k < m .bands → i < m .n → pos 1 ≤ℤ rowOf m k i .q
+
+-- each number of the box is at most b, without its sign
+pub record Sides (b : ℕ) (B : List ℤ) : Type 0 where
+  pub at : (i : ℕ) → Bound (B ! i) b
+
+-- no side that the code takes is greater
+abbrev pub limit : ℕ
+limit = 16777216
+
+-- nor a number of 32 bits
+abbrev pub word : ℕ
+word = 2147483648
+
+-- nor a row's number N over such a box
+abbrev pub rowLimit : ℕ
+rowLimit = 9000000000000000000

@@ -1,0 +1,137 @@
+// Boxes: variable i's lower side at i, its upper side at i + N. Only variables below n count.
+ghost use mathlib.Core.Path.{_≡_};
+ghost use mathlib.Core.Bool.{_&&_};
+ghost use Prim.Native.Nat.{_+_, _≤_};
+ghost use lib.IntN.{pos, _+ℤ_, _*ℤ_};
+ghost use lib.Signed.{leZ};
+ghost use Rattle.integers.specs.Bound.{Bound};
+ghost use Rattle.sheet.specs.Slots as slots;
+ghost use Rattle.rates.specs.Box.{any, hull, meets, moved, trim, within};
+ghost use Rattle.rates.specs.Plant.{Sides, limit};
+use crate::arith::max;
+use crate::arith::min;
+use sheet::slots::BOX_SIZE;
+use sheet::slots::FIRST_UNSAFE;
+use sheet::slots::N;
+use sheet::slots::SLOTS;
+
+pub fn hull(n: usize, a: &[i64; BOX_SIZE], b: &[i64; BOX_SIZE]) -> [i64; BOX_SIZE]
+    requires { ⌜ n ≤ slots.N ⌝ }
+    ensures { λ r. ⌜ r ≡ hull n (now (a .entry)) (now (b .entry)) ⌝ }
+{
+    let mut r: [i64; BOX_SIZE] = [0; BOX_SIZE];
+    let mut i: usize = 0;
+    while i < n {
+        let h = i + N;
+        r[i] = min(a[i], b[i]);
+        r[h] = max(a[h], b[h]);
+        i += 1;
+    }
+    r
+}
+
+// b, with what no variable has set to 0.
+pub fn trim(n: usize, b: &[i64; BOX_SIZE]) -> [i64; BOX_SIZE]
+    requires { ⌜ n ≤ slots.N ⌝ }
+    ensures { λ r. ⌜ r ≡ trim n (now (b .entry)) ⌝ }
+{
+    hull(n, b, b)
+}
+
+// The box whose sides start at a slot of the sheet's value, with what no variable has set to 0.
+pub fn box_at(n: usize, sheet: &[i32; SLOTS], at: usize) -> [i64; BOX_SIZE]
+    requires { ⌜ (n ≤ slots.N) × (at + slots.boxSize ≤ slots.slots) ⌝ }
+    ensures { λ r. ⌜ r ≡ trim n (slots.boxAt (now (sheet .entry)) at) ⌝ }
+{
+    let mut r: [i64; BOX_SIZE] = [0; BOX_SIZE];
+    let mut i: usize = 0;
+    while i < n {
+        let h = i + N;
+        let l = at + i;
+        let u = l + N;
+        r[i] = sheet[l] as i64;
+        r[h] = sheet[u] as i64;
+        i += 1;
+    }
+    r
+}
+
+fn along(a: i64, k: usize, rate: i64) -> i64
+    requires { ⌜ Bound a limit × (Bound rate 1000 × (k ≤ 1000)) ⌝ }
+    ensures { λ r. ⌜ r ≡ a +ℤ pos k *ℤ rate ⌝ }
+{
+    a + (k as i64) * rate
+}
+
+// a with each face moved by k of its rates.
+pub fn moved(n: usize, a: &[i64; BOX_SIZE], k: usize, rates: &[i64; BOX_SIZE]) -> [i64; BOX_SIZE]
+    requires { ⌜ (n ≤ slots.N) × (k ≤ 1000) ⌝ }
+    requires { ⌜ Sides limit (now a) × Sides 1000 (now rates) ⌝ }
+    ensures { λ r. ⌜ r ≡ moved n (now (a .entry)) k (now (rates .entry)) ⌝ }
+{
+    let mut r: [i64; BOX_SIZE] = [0; BOX_SIZE];
+    let mut i: usize = 0;
+    while i < n {
+        let h = i + N;
+        r[i] = along(a[i], k, rates[i]);
+        r[h] = along(a[h], k, rates[h]);
+        i += 1;
+    }
+    r
+}
+
+fn both_le(a: i64, b: i64, c: i64, d: i64) -> bool
+    ensures { λ r. ⌜ r ≡ (leZ a b && leZ c d) ⌝ }
+{
+    if a <= b { c <= d } else { false }
+}
+
+// a lies in b.
+pub fn within(n: usize, a: &[i64; BOX_SIZE], b: &[i64; BOX_SIZE]) -> bool
+    requires { ⌜ n ≤ slots.N ⌝ }
+    ensures { λ r. ⌜ r ≡ within n (now (a .entry)) (now (b .entry)) ⌝ }
+{
+    let mut i: usize = 0;
+    while i < n {
+        let h = i + N;
+        if !both_le(b[i], a[i], a[h], b[h]) {
+            return false;
+        }
+        i += 1;
+    }
+    true
+}
+
+// a shares a state with the box whose sides start at a slot of the sheet's value.
+pub fn meets(n: usize, a: &[i64; BOX_SIZE], sheet: &[i32; SLOTS], at: usize) -> bool
+    requires { ⌜ (n ≤ slots.N) × (at + slots.boxSize ≤ slots.slots) ⌝ }
+    ensures { λ r. ⌜ r ≡ meets n (now (a .entry)) (slots.boxAt (now (sheet .entry)) at) ⌝ }
+{
+    let mut i: usize = 0;
+    while i < n {
+        let h = i + N;
+        let l = at + i;
+        let u = l + N;
+        if !both_le(a[i], sheet[u] as i64, sheet[l] as i64, a[h]) {
+            return false;
+        }
+        i += 1;
+    }
+    true
+}
+
+// a shares a state with one of the first `count` no-go boxes.
+pub fn meets_unsafe(n: usize, a: &[i64; BOX_SIZE], sheet: &[i32; SLOTS], count: usize) -> bool
+    requires { ⌜ (n ≤ slots.N) × (count ≤ slots.maxBoxes) ⌝ }
+    ensures { λ r. ⌜ r ≡ any count (λ j. meets n (now (a .entry)) (slots.unsafeBox (now (sheet .entry)) j)) ⌝ }
+{
+    let mut j: usize = 0;
+    while j < count {
+        let at = FIRST_UNSAFE + j * BOX_SIZE;
+        if meets(n, a, sheet, at) {
+            return true;
+        }
+        j += 1;
+    }
+    false
+}
