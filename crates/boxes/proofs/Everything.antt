@@ -2,8 +2,8 @@
 use Prim.Native.Nat.{ℕ, _+_}
 use Rattle.rates.proofs.Everything as rates
 use Rattle.boxes.specs.Step.{lifted, settles, endBox, grown, andThen, orElse, isOut, rounds, halving, step, swept}
-use Rattle.boxes.specs.Reach.{leg, walk, reach, clear, lawRefusal, sidesRefusal, ticksRefusal, reachRefusal, answer, reachOf}
+use Rattle.boxes.specs.Reach.{leg, walk, reach, clear, lawRefusal, sidesRefusal, ticksRefusal, reachRefusal, answer, reachOf, reachFile}
 
 unfoldable pub everything : ℕ
-unfolding rates.everything lifted settles endBox grown andThen orElse isOut rounds halving step swept leg walk reach clear lawRefusal sidesRefusal ticksRefusal reachRefusal answer reachOf
+unfolding rates.everything lifted settles endBox grown andThen orElse isOut rounds halving step swept leg walk reach clear lawRefusal sidesRefusal ticksRefusal reachRefusal answer reachOf reachFile
 everything = 0

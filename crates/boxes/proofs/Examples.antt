@@ -1,13 +1,13 @@
 -- The definitions compute. Assumes nothing.
 use mathlib.Core.Path.{_≡_, refl}
-use mathlib.Core.Bool.{true, false}
+use mathlib.Core.Bool.{false}
 use mathlib.Core.List.{List, [], _∷_, _++_}
 use Prim.Native.Nat.{ℕ}
 use lib.IntN.{ℤ, pos, negsuc}
 use lib.ListN.{replicate}
 use Rattle.rates.specs.Machine.{baseline, command, machine}
-use Rattle.boxes.specs.Step.{Got, got}
-use Rattle.boxes.specs.Reach.{Reached, reach, clear}
+use Rattle.boxes.specs.Step.{got, failed, unsafe}
+use Rattle.boxes.specs.Reach.{leg, reach, clear}
 use Rattle.boxes.proofs.Everything.{everything}
 
 zeros : ℕ → List ℤ
@@ -29,3 +29,13 @@ after-δ = refl
 after-α : reach false 0 (machine A baseline) (clear 1 A 1) 4 (box (pos 16) (pos 20)) 4 2 ≡ got (record { end = box (pos 12) (pos 20); swept = box (pos 12) (pos 20) }) 4
 unfolding everything zeros box A
 after-α = refl
+
+-- here the rates hang on where the box is at the last tick but one, and not at the last
+under-24 : reach false 0 (machine A (command (pos 24))) (clear 1 A 1) 4 (box (pos 0) (pos 0)) 4 0 ≡ got (record { end = box (pos 16) (pos 20); swept = box (pos 0) (pos 20) }) 2
+unfolding everything zeros box A
+under-24 = refl
+
+-- a step from 131 ends clear of the no-go box, and its swept box is not clear
+swept-unsafe : leg false 0 (machine A baseline) (clear 1 A 1) 1 (box (pos 131) (pos 131)) 4 0 ≡ failed (unsafe 4 (box (pos 126) (pos 131))) 1
+unfolding everything zeros box A
+swept-unsafe = refl

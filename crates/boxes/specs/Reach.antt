@@ -7,6 +7,7 @@ use lib.IntN.{ℤ, pos, negℤ}
 use lib.Signed.{leZ}
 use lib.ListN.{replicate}
 use Rattle.sheet.specs.Slots.{boxSize, vars, leastCommand, greatestCommand, unsafeBox}
+use Rattle.sheet.specs.Sheet.{refusal, values}
 use Rattle.rates.specs.Box.{lo, hi, all, any, hull, meets, trim}
 use Rattle.rates.specs.Machine.{Law, baseline, command, Machine, machine}
 use Rattle.boxes.specs.Step.{Got, got, failed, out, unsafe, unsettled, andThen, Step, step, swept}
@@ -90,3 +91,7 @@ ifAccepted (suc r) a = refused (suc r)
 -- a reach of an accepted sheet's value
 unfoldable pub reachOf : List ℤ → ℕ → ℕ → Law → List ℤ → Answer
 reachOf v ticks w l B = ifAccepted (reachRefusal v ticks w l B) (answer (reach false 0 (machine v l) (clear (vars v) v 0) w (trim (vars v) B) ticks 0))
+
+-- a reach of a sheet's file
+unfoldable pub reachFile : List ℕ → ℕ → ℕ → Law → List ℤ → Answer
+reachFile f ticks w l B = ifAccepted (refusal f) (reachOf (values f) ticks w l B)

@@ -1,1 +1,97 @@
-// The lifted step and the reach (document 01, "One lifted step").
+// The lifted step and the reach (document 01, "One lifted step"), over the rates of the crate below. `step` has the round
+// and the step, `walk` the steps in a row that reach, recovery check and decision are made of, and `reach` is the public
+// operation. Boxes and the sheet's value are lent.
+ghost use mathlib.Core.Path.{_≡_};
+ghost use Rattle.sheet.specs.Valid.{Valid};
+ghost use Rattle.rates.specs.Machine.{machine};
+ghost use Rattle.rates.specs.Plant.{lawOf, machineOf};
+ghost use Rattle.boxes.specs.Reach as spec;
+ghost use Rattle.boxes.specs.Code.{answered};
+
+pub mod refusals;
+pub mod step;
+pub mod walk;
+
+use crate::refusals::reach_refusal;
+use crate::step::Budget;
+use crate::walk::{walk, Walked};
+use rates::shape::trim;
+use rates::Plant;
+use sheet::read_into;
+use sheet::slots::{BANDS, BAND_VAR, BOX_SIZE, SLOTS, VARS};
+
+// The machine of an accepted sheet's value under a law: the baseline, or else one command.
+pub fn plant(sheet: &[i32; SLOTS], baseline: bool, command: i32) -> Plant
+    requires { ⌜ Valid (now sheet) ⌝ }
+    ensures { λ r. ⌜ machineOf r (now (sheet .entry)) ≡ machine (now (sheet .entry)) (lawOf baseline command) ⌝ }
+{
+    let n = sheet[VARS] as usize;
+    let bands = sheet[BANDS] as usize;
+    let var = sheet[BAND_VAR] as usize;
+    Plant {
+        n: n,
+        bands: bands,
+        var: var,
+        baseline: baseline,
+        command: command,
+    }
+}
+
+// A refusal number, or 0 with the two boxes and the rounds.
+pub struct ReachAnswer {
+    pub refusal: u8,
+    pub end: [i64; BOX_SIZE],
+    pub swept: [i64; BOX_SIZE],
+    pub rounds: u32,
+}
+
+fn refused(refusal: u8) -> ReachAnswer
+    ensures { λ r. ⌜ answered r ≡ spec.refused refusal ⌝ }
+{
+    ReachAnswer {
+        refusal: refusal,
+        end: [0; BOX_SIZE],
+        swept: [0; BOX_SIZE],
+        rounds: 0,
+    }
+}
+
+// A reach of an accepted sheet's value.
+pub fn reach_of(sheet: &[i32; SLOTS], ticks: u32, width: u32, baseline: bool, command: i32, start: &[i64; BOX_SIZE]) -> ReachAnswer
+    requires { ⌜ Valid (now sheet) ⌝ }
+    ensures { λ r. ⌜ answered r ≡ spec.reachOf (now (sheet .entry)) ticks width (lawOf baseline command) (now (start .entry)) ⌝ }
+{
+    let p = plant(sheet, baseline, command);
+    let refusal = reach_refusal(p.n, sheet, ticks, width, baseline, command, start);
+    if refusal != 0 {
+        return refused(refusal);
+    }
+    let mut end = trim(p.n, start);
+    let mut swept = end;
+    let free = Budget {
+        limited: false,
+        allowance: 0,
+    };
+    let r = walk(free, p, sheet, 0, width as usize, ticks as usize, 0, &mut end, &mut swept);
+    let Walked::Ended { ticks: _, count } = r else {
+        return refused(0);
+    };
+    ReachAnswer {
+        refusal: 0,
+        end: end,
+        swept: swept,
+        rounds: count,
+    }
+}
+
+// A reach of a sheet's file.
+pub fn reach(f: &[u8], ticks: u32, width: u32, baseline: bool, command: i32, start: &[i64; BOX_SIZE]) -> ReachAnswer
+    ensures { λ r. ⌜ answered r ≡ spec.reachFile (now (f .entry)) ticks width (lawOf baseline command) (now (start .entry)) ⌝ }
+{
+    let mut value: [i32; SLOTS] = [0; SLOTS];
+    let refusal = read_into(f, &mut value);
+    if refusal != 0 {
+        return refused(refusal);
+    }
+    reach_of(&value, ticks, width, baseline, command, start)
+}

@@ -1,0 +1,74 @@
+-- How far the counts and the boxes of rounds, steps and walks go. Assumes nothing.
+use mathlib.Core.Path.{_≡_, sym, ap, _∙_}
+use mathlib.Core.Bool.{Bool, true, false}
+use mathlib.Core.List.{List}
+use Prim.Native.Nat.{ℕ, _+_, _*_, _-_, _≤_, _<_, min}
+use native.Mathlib.Omega.{arith}
+use lib.IntN.{ℤ}
+use Rattle.rates.specs.Box.{moved}
+use Rattle.rates.specs.Machine.{Machine}
+use Rattle.rates.specs.Rate.{rates}
+use Rattle.rates.specs.Plant.{Sides, Usable}
+use Rattle.rates.proofs.Sides.{wider, hull-bound, moved-bound, rates-bound}
+use Rattle.boxes.specs.declared.step.Stepped.{Stepped}
+use Rattle.boxes.specs.declared.step.Stepped.the-variants.{Unsettled}
+use Rattle.boxes.specs.declared.walk.Walked.{Walked}
+use Rattle.boxes.specs.declared.walk.Walked.the-variants.{Ended}
+use Rattle.boxes.specs.Step.{lifted, settles, endBox, grown, got, rounds, Step}
+use Rattle.boxes.specs.Reach.{Reached, leg, reach}
+use Rattle.boxes.specs.Code.{roundBox, stepped, said, legged}
+use Rattle.boxes.proofs.CodeTurns.{Halving, Walking}
+use Rattle.boxes.proofs.Stages.{value-of, failure-of}
+use Rattle.boxes.proofs.Settled.{Settled, starts, rounds-take, Place, start, Walks, here, next, leg-takes, reach-takes}
+
+-- eight rounds add at most eight
+pub halving-count : {l : Bool} {a : ℕ} {m : Machine} {S : List ℤ} {w c k d : ℕ} → Halving l a m S w c k d
+    → (r : Stepped) (E : List ℤ) → stepped E r ≡ rounds l a m S k 8 S d → (i : ℕ) → r ≡ Unsettled i → i ≤ d + 8
+unfolding stepped
+halving-count {l} {a} {m} {S} {k = k} {d = d} h r E e i q = failure-of (rounds-take l a m S k 8 S d (h .some) starts) (sym e ∙ ap (stepped E) q) .1 .few
+
+-- ---- boxes
+
+module _ {m : Machine} (ok : Usable m) (S : List ℤ) (k b : ℕ) (h : Sides b S) where
+  rates-near : (j : ℕ) (E : List ℤ) → Sides (b + j * 1000) (moved (m .n) S j (rates m S k E))
+  rates-near j E = moved-bound (m .n) S j (rates m S k E) h (rates-bound ok S k E)
+
+  pub round-bound : (E : List ℤ) → Sides (b + k * 1000) E → Sides (b + k * 1000) (roundBox m S k E)
+  unfolding roundBox endBox grown lifted
+  round-bound E u = either (settles m S k E)
+    where
+      either : (t : Bool) → Sides (b + k * 1000) (elim t [ true ↦ endBox m S k E | false ↦ grown m S k E ])
+      either true = rates-near k E
+      either false = hull-bound (m .n) E _ u (hull-bound (m .n) S _ (wider (omega arith) h) (wider (omega arith) (rates-near (k - 1) E)))
+
+-- ---- steps and walks
+
+-- a step from a box with sides up to b covers t of the ticks left and ends at E
+pub record Covers (b left t : ℕ) (E : List ℤ) : Type 0 where
+  pub some : 0 < t
+  pub most : t ≤ left
+  pub sides : Sides (b + t * 1000) E
+
+settled-covers : {m : Machine} {S : List ℤ} {k b left : ℕ} {t : Step} → Usable m → Sides b S → k ≤ left → Settled m S k t → Covers b left (t .ticks) (t .end)
+unfolding endBox
+settled-covers {m} {S} {t = t} ok h f s = record { some = s .some; most = omega (arith, s .most); sides = rw (s .end) (rates-near ok S (t .ticks) _ h (t .ticks) (s .E)) }
+
+-- a leg that ended
+pub leg-covers : {l : Bool} {a : ℕ} {m : Machine} {clear : List ℤ → Bool} {w : ℕ} {A : List ℤ} {T c : ℕ} {S W : List ℤ} {left d b : ℕ}
+    → Walking l a m clear w A T c S W left d → Usable m → 0 < w → w ≤ 1000 → Sides b S → 0 < left
+    → (r : Walked) (E P : List ℤ) → legged E P r ≡ leg l a m clear w S left d → (t i : ℕ) → r ≡ Ended t i → Covers b left t E × (i ≤ d + 73)
+unfolding said
+leg-covers {l} {a} {m} {clear} {w} {S = S} {left = left} {d = d} k ok z u h f r E P e t i q =
+    let g = value-of (leg-takes l a m clear w 9 (ok .vars) z (omega arith) (start S left) d f) (sym e ∙ ap (legged E P) q) in
+    (settled-covers ok h (omega arith) (g .0 .0), g .1 .few)
+
+walks-near : {m : Machine} {clear : List ℤ → Bool} {w b : ℕ} {q p : Place} → Usable m → Sides b (p .box) → Walks m clear w q p → Sides (b + p .left * 1000) (q .box)
+walks-near ok h here = wider (omega arith) h
+walks-near {w = w} {p = p} ok h (next s c k) = let n = settled-covers {left = p .left} ok h (omega arith) s in wider (omega (arith, n .most)) (walks-near ok (n .sides) k)
+
+-- a reach that ended: its end box is where the next one starts
+pub reach-near : (l : Bool) (a : ℕ) {m : Machine} (clear : List ℤ → Bool) (w : ℕ) (S : List ℤ) (T c : ℕ) {b d : ℕ} {r : Reached}
+    → Usable m → 0 < w → w ≤ 1000 → Sides b S → reach l a m clear w S T c ≡ got r d → Sides (b + T * 1000) (r .end) × (d ≤ c + 73 * T)
+reach-near l a {m} clear w S T c ok z u h e =
+    let g = value-of (reach-takes l a m clear w 9 (ok .vars) z (omega arith) S T c) e in
+    (walks-near ok h (g .0 .walks), g .1 .few)

@@ -1,0 +1,82 @@
+// A walk over many ticks: steps in a row, each swept box tested.
+ghost use mathlib.Core.Path.{_≡_};
+ghost use Prim.Native.Nat.{_+_, _*_, _≤_, _<_, min};
+ghost use Rattle.sheet.specs.Slots as slots;
+ghost use Rattle.rates.specs.Box as spec;
+ghost use Rattle.rates.specs.Plant.{Sides, Usable, machineOf};
+ghost use Rattle.boxes.specs.Reach.{clear, leg, reach};
+ghost use Rattle.boxes.specs.Code.{countLimit, legged, stepLimit, walkLimit, walked};
+
+use crate::step::{step, Budget, Stepped};
+use rates::shape::{hull, meets_unsafe};
+use rates::Plant;
+use sheet::slots::{BOX_SIZE, SLOTS};
+
+// What a leg or a walk came to, with the count of rounds after it. The boxes are lent beside it.
+pub enum Walked {
+    // it covers so many ticks
+    Ended { ticks: usize, count: u32 },
+    // no length settled; it does not happen
+    Unsettled { count: u32 },
+    // a step's swept box shares a state with a no-go box: the ticks left when that step began
+    Unsafe { left: usize, count: u32 },
+    // a round was due and none was left
+    Out { count: u32 },
+}
+
+fn smaller(a: usize, b: usize) -> usize
+    ensures { λ r. ⌜ r ≡ min a b ⌝ }
+{
+    if a < b { a } else { b }
+}
+
+// A step from `start` with `left` ticks left, and the test of its swept box against the first `boxes` no-go boxes. `end` and
+// `swept` become the step's.
+fn leg(b: Budget, p: Plant, sheet: &[i32; SLOTS], boxes: usize, width: usize, start: &[i64; BOX_SIZE], left: usize, count: u32, end: &mut [i64; BOX_SIZE], swept: &mut [i64; BOX_SIZE]) -> Walked
+    requires { ⌜ Usable (machineOf p (now sheet)) × (boxes ≤ slots.maxBoxes) ⌝ }
+    requires { ⌜ ((0 < width) × (width ≤ 1000)) × ((0 < left) × (Sides stepLimit (now start) × (count + 8 * width ≤ countLimit))) ⌝ }
+    ensures {
+        λ r. ⌜ legged (now (end .exit)) (now (swept .exit)) r ≡ leg (b .limited) (b .allowance) (machineOf p (now (sheet .entry))) (clear (p .n) (now (sheet .entry)) boxes) width (now (start .entry)) left count ⌝
+    }
+    ensures { λ r. ⌜ now (swept .exit) ≡ spec.hull (p .n) (now (start .entry)) (now (end .exit)) ⌝ }
+{
+    let r = step(b, p, sheet, start, smaller(width, left), count, end);
+    *swept = hull(p.n, start, end);
+    match r {
+        Stepped::Settled { ticks, count: c } => {
+            if meets_unsafe(p.n, swept, sheet, boxes) {
+                return Walked::Unsafe { left: left, count: c };
+            }
+            Walked::Ended { ticks: ticks, count: c }
+        }
+        Stepped::Unsettled { count: c } => Walked::Unsettled { count: c },
+        Stepped::Out { count: c } => Walked::Out { count: c },
+    }
+}
+
+// Steps of at most `width` ticks from `end`, after `count` rounds, until `ticks` ticks are covered. `end` becomes the last end
+// box and `swept` the hull of the swept boxes, or that of the step that failed.
+pub fn walk(b: Budget, p: Plant, sheet: &[i32; SLOTS], boxes: usize, width: usize, ticks: usize, count: u32, end: &mut [i64; BOX_SIZE], swept: &mut [i64; BOX_SIZE]) -> Walked
+    requires { ⌜ Usable (machineOf p (now sheet)) × (boxes ≤ slots.maxBoxes) ⌝ }
+    requires { ⌜ ((0 < width) × (width ≤ 1000)) × ((ticks ≤ 1000) × (Sides walkLimit (now end) × (count + 73 * ticks + 8 * width ≤ countLimit))) ⌝ }
+    ensures {
+        λ r. ⌜ walked (now (end .exit)) (now (swept .exit)) r ≡ reach (b .limited) (b .allowance) (machineOf p (now (sheet .entry))) (clear (p .n) (now (sheet .entry)) boxes) width (now (end .entry)) ticks count ⌝
+    }
+{
+    *swept = *end;
+    let mut left = ticks;
+    let mut c = count;
+    while left > 0 {
+        let start = *end;
+        let mut path = start;
+        let r = leg(b, p, sheet, boxes, width, &start, left, c, end, &mut path);
+        let Walked::Ended { ticks: t, count: d } = r else {
+            *swept = path;
+            return r;
+        };
+        *swept = hull(p.n, swept, &path);
+        left -= t;
+        c = d;
+    }
+    Walked::Ended { ticks: ticks, count: c }
+}
