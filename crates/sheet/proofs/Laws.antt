@@ -78,19 +78,23 @@ leZ-no a b h = go (leZ a b) (λ t. let q : a ≤ℤ b = leZ-yes t in omega ints)
 abbrev pub InRange : List ℤ → Field → Type 0
 InRange v x = Between (x .least v) (x .greatest v) (v ! x .slot)
 
+-- the numbers of the causes lie from 1 to 17
+pub number-range : (c : Cause) → (1 ≤ number c) × (number c ≤ 17)
+number-range Cause.beginning = (omega arith, omega arith)
+number-range Cause.shape = (omega arith, omega arith)
+number-range Cause.times = (omega arith, omega arith)
+number-range Cause.commands = (omega arith, omega arith)
+number-range Cause.size = (omega arith, omega arith)
+number-range Cause.cap = (omega arith, omega arith)
+number-range Cause.mark = (omega arith, omega arith)
+number-range Cause.edge = (omega arith, omega arith)
+number-range Cause.safety = (omega arith, omega arith)
+number-range Cause.row = (omega arith, omega arith)
+number-range Cause.side = (omega arith, omega arith)
+number-range Cause.room = (omega arith, omega arith)
+
 pub number-is : (c : Cause) → number c ≡ 0 → ⊥
-number-is Cause.beginning e = omega arith
-number-is Cause.shape e = omega arith
-number-is Cause.times e = omega arith
-number-is Cause.commands e = omega arith
-number-is Cause.size e = omega arith
-number-is Cause.cap e = omega arith
-number-is Cause.mark e = omega arith
-number-is Cause.edge e = omega arith
-number-is Cause.safety e = omega arith
-number-is Cause.row e = omega arith
-number-is Cause.side e = omega arith
-number-is Cause.room e = omega arith
+number-is c e = omega (arith, number-range c .0)
 
 pub unless-zero : (b : Bool) (c : Cause) → unless b c ≡ 0 → b ≡ true
 unless-zero true c e = refl

@@ -1,6 +1,7 @@
 pub mod Streams
 pub mod Records
 pub mod Laws
+pub mod Causes
 pub mod Places
 pub mod Filled
 pub mod Ranges
@@ -21,3 +22,4 @@ mod CodeLayout
 mod CodePlaces
 mod CodeRead
 mod CodeValues
+mod CodeWrite

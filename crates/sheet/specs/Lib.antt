@@ -7,3 +7,4 @@ pub mod File
 pub mod Sheet
 pub mod SheetA
 pub mod Steps
+pub mod Written

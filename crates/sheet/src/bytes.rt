@@ -6,7 +6,10 @@ ghost use lib.Seq.{sets};
 ghost use mir.Syntax.{w32};
 ghost use mir.Val.{ofZ};
 ghost use Rattle.integers.specs.Bytes.{be};
+ghost use Rattle.sheet.specs.Slots.{_!_, slots};
 ghost use Rattle.sheet.specs.Fields.{u8, u16, i16, i32, decoded, encoded};
+
+use crate::slots::SLOTS;
 
 // So many bytes a number has.
 pub const U8: usize = 1;
@@ -29,7 +32,7 @@ fn two(f: &[u8], at: usize) -> u32
 }
 
 // The number that four bytes are.
-fn four(f: &[u8], at: usize) -> u32
+pub fn four(f: &[u8], at: usize) -> u32
     requires { ⌜ at + 4 ≤ length (now f) ⌝ }
     ensures { λ r. ⌜ r ≡ be (take 4 (drop at (now (f .entry)))) ⌝ }
 {
@@ -69,10 +72,12 @@ pub fn get_i32(f: &[u8], at: usize) -> i32
     }
 }
 
-// A number's bits.
-fn bits(x: i32) -> u32
-    ensures { λ r. ⌜ r ≡ ofZ w32 x ⌝ }
+// The bits of the number at a slot.
+fn bits(v: &[i32; SLOTS], slot: usize) -> u32
+    requires { ⌜ slot < slots ⌝ }
+    ensures { λ r. ⌜ r ≡ ofZ w32 (now (v .entry) ! slot) ⌝ }
 {
+    let x = v[slot];
     if x < 0 {
         0xffff_ffff - ((-1 - x) as u32)
     } else {
@@ -80,28 +85,29 @@ fn bits(x: i32) -> u32
     }
 }
 
-pub fn put_u8(s: &mut [u8], at: usize, x: i32)
-    requires { ⌜ at + 1 ≤ length (now s) ⌝ }
-    ensures { λ _. ⌜ now (s .exit) ≡ sets (now (s .entry)) at (encoded u8 x) ⌝ }
+// Each of the following writes the number at a slot.
+pub fn put_u8(s: &mut [u8], at: usize, v: &[i32; SLOTS], slot: usize)
+    requires { ⌜ (at + 1 ≤ length (now s)) × (slot < slots) ⌝ }
+    ensures { λ _. ⌜ now (s .exit) ≡ sets (now (s .entry)) at (encoded u8 (now (v .entry) ! slot)) ⌝ }
 {
-    s[at] = (bits(x) % 256) as u8;
+    s[at] = (bits(v, slot) % 256) as u8;
 }
 
 // Two bytes, of an i16 too: they are the last two of its bits.
-pub fn put_u16(s: &mut [u8], at: usize, x: i32)
-    requires { ⌜ at + 2 ≤ length (now s) ⌝ }
-    ensures { λ _. ⌜ now (s .exit) ≡ sets (now (s .entry)) at (encoded u16 x) ⌝ }
+pub fn put_u16(s: &mut [u8], at: usize, v: &[i32; SLOTS], slot: usize)
+    requires { ⌜ (at + 2 ≤ length (now s)) × (slot < slots) ⌝ }
+    ensures { λ _. ⌜ now (s .exit) ≡ sets (now (s .entry)) at (encoded u16 (now (v .entry) ! slot)) ⌝ }
 {
-    let u = bits(x);
+    let u = bits(v, slot);
     s[at] = (u / 256 % 256) as u8;
     s[at + 1] = (u % 256) as u8;
 }
 
-pub fn put_i32(s: &mut [u8], at: usize, x: i32)
-    requires { ⌜ at + 4 ≤ length (now s) ⌝ }
-    ensures { λ _. ⌜ now (s .exit) ≡ sets (now (s .entry)) at (encoded i32 x) ⌝ }
+pub fn put_i32(s: &mut [u8], at: usize, v: &[i32; SLOTS], slot: usize)
+    requires { ⌜ (at + 4 ≤ length (now s)) × (slot < slots) ⌝ }
+    ensures { λ _. ⌜ now (s .exit) ≡ sets (now (s .entry)) at (encoded i32 (now (v .entry) ! slot)) ⌝ }
 {
-    let u = bits(x);
+    let u = bits(v, slot);
     s[at] = (u / 16777216 % 256) as u8;
     s[at + 1] = (u / 65536 % 256) as u8;
     s[at + 2] = (u / 256 % 256) as u8;

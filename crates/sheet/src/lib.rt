@@ -13,13 +13,15 @@ ghost use Rattle.sheet.specs.Fields.{bad};
 ghost use Rattle.sheet.specs.Layout.{head, headFields};
 ghost use Rattle.sheet.specs.File.{marked};
 ghost use Rattle.sheet.specs.Sheet.{zeros, headOf, contents, refusal, values};
+ghost use Rattle.sheet.specs.Written.{Wrote};
 
 pub mod slots;
 pub mod refusals;
-mod bytes;
+pub mod bytes;
 mod tests;
 mod marks;
 mod reader;
+mod writer;
 
 use slots::{SLOTS, VARS, BANDS, BOXES};
 use refusals::{BEGINNING, SIZE};
@@ -30,13 +32,19 @@ pub struct Parsed {
     pub value: [i32; SLOTS],
 }
 
+// A refusal, or 0 and how many bytes were written.
+pub struct Written {
+    pub refusal: u8,
+    pub length: usize,
+}
+
 fn clear(v: &mut [i32; SLOTS])
     ensures { λ _. ⌜ now (v .exit) ≡ zeros ⌝ }
 {
     *v = [0i32; SLOTS];
 }
 
-fn count(v: &[i32; SLOTS], slot: usize) -> usize
+pub fn count(v: &[i32; SLOTS], slot: usize) -> usize
     requires { ⌜ (slot < slots) × (pos 0 ≤ℤ now v ! slot) ⌝ }
     ensures { λ r. ⌜ r ≡ natAbs (now (v .entry) ! slot) ⌝ }
 {
@@ -98,4 +106,15 @@ pub fn read(f: &[u8]) -> Parsed
     let mut value = [0i32; SLOTS];
     let refusal = read_into(f, &mut value);
     Parsed { refusal: refusal, value: value }
+}
+
+// Writes a sheet to the buffer from a place on; a refusal leaves the buffer as it was.
+pub fn write(v: &[i32; SLOTS], buffer: &mut [u8], place: usize) -> Written
+    ensures { λ r. ⌜ Wrote (now (v .entry)) (now (buffer .entry)) place (r .refusal) (r .length) (now (buffer .exit)) ⌝ }
+{
+    let x = writer::bad_sheet(v);
+    if x != 0 {
+        return Written { refusal: x, length: 0 };
+    }
+    writer::write_valid(v, buffer, place)
 }

@@ -1,12 +1,8 @@
 -- `put_u16` writes a number's last two bytes. Assumes nothing.
-use mathlib.Core.Path.{_∙_, _≡_}
 use native.Mathlib.Nat.{div-one}
 use native.Mathlib.Numerals.{towards-suc}
 use native.Mathlib.Omega.{arith}
 use lib.ListN.{length-set}
-use mir.Facts.{toZ-ofZ}
-use mir.Syntax.{w32}
-use mir.Val.{ofZ}
 use borrow.Author.Needs.{needs}
 use Rattle.integers.specs.Bytes.{beBytes}
 use Rattle.sheet.specs.Fields.{encoded}
@@ -36,8 +32,7 @@ same-length c = search needs
 
 returns : tie.Need-returns
 unfolding encoded beBytes
-returns c =     let e : c .bits .result ≡ ofZ w32 (c .before .before .args .x) = c .bits .ensures ∙ simp (toZ-ofZ, c .before .before .fits .x) in
-    simp (towards-suc, div-one, e)
+returns c = simp (towards-suc, div-one, c .bits .ensures)
 
 pub put-u16-spec : {M : Type 1} → statement M
 put-u16-spec =
