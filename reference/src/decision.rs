@@ -2,7 +2,7 @@
 //! and the one number that the drive gets.
 
 use crate::machine::StateBox;
-use crate::reach::{advance, Budget, Law, NoWatch, Step, Stop, Watch};
+use crate::reach::{advance, Budget, Face, Law, NoWatch, Step, Stop, Watch};
 use crate::sheet::{self, Fields, Refusal, Sheet, START_LIMIT};
 use std::ops::ControlFlow;
 
@@ -120,7 +120,7 @@ struct Safety<'a, W> {
 
 impl<W: Watch> Watch for Safety<'_, W> {
     #[inline]
-    fn neighborhood(&mut self, variable: usize, face: crate::reach::Face, bands: usize) {
+    fn neighborhood(&mut self, variable: usize, face: Face, bands: usize) {
         self.watch.neighborhood(variable, face, bands);
     }
 

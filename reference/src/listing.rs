@@ -1,4 +1,5 @@
-//! The floor listing: the program's text for the bytes of its two files.
+//! The floor listing: the program's text for the bytes of its two files,
+//! the sheet's line first and then one line for each question.
 
 use crate::decision::{check_recovery, decide, question_length, Decision, RecoveryCheck};
 use std::fmt::Write;

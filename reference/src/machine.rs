@@ -1,4 +1,5 @@
-//! The machine on a sheet: states, boxes of states, bands, and the changes allowed in a tick.
+//! The machine on a sheet: states, boxes of states, bands of one variable,
+//! and the changes that a row allows in one tick, with outward rounding and the clamp.
 
 use crate::sheet::{Row, Sheet, VARIABLES};
 use std::ops::Range;

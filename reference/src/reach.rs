@@ -2,7 +2,7 @@
 //! The engine is generic over a `Watch`, which sees each step and may stop the reach.
 
 use crate::machine::{bands_met, greatest_change, least_change, State, StateBox};
-use crate::sheet::{Refusal, Row, Sheet, START_LIMIT, TICKS_LIMIT};
+use crate::sheet::{Band, Refusal, Row, Sheet, START_LIMIT, TICKS_LIMIT};
 use std::ops::ControlFlow;
 
 /// A step that has not settled after this many rounds begins again with half its ticks.
@@ -138,6 +138,18 @@ fn greatest_numerator<const N: usize>(row: &Row, around: &StateBox, commands: (i
     sum
 }
 
+/// The least and the greatest command that the law has in a band.
+#[inline]
+fn commands(law: Law, band: &Band) -> (i64, i64) {
+    match law {
+        Law::Baseline => (
+            i64::from(band.safety.least),
+            i64::from(band.safety.greatest),
+        ),
+        Law::Command(command) => (i64::from(command), i64::from(command)),
+    }
+}
+
 /// One round: the rate of every face over its neighborhood within the enclosure.
 #[inline]
 fn round<const N: usize, W: Watch>(
@@ -199,18 +211,6 @@ fn round<const N: usize, W: Watch>(
         around.lower[i] = enclosure.lower[i];
     }
     rates
-}
-
-/// The least and the greatest command that the law has in a band.
-#[inline]
-fn commands(law: Law, band: &crate::sheet::Band) -> (i64, i64) {
-    match law {
-        Law::Baseline => (
-            i64::from(band.safety.least),
-            i64::from(band.safety.greatest),
-        ),
-        Law::Command(command) => (i64::from(command), i64::from(command)),
-    }
 }
 
 /// The start box with each face moved by so many rates.

@@ -398,7 +398,8 @@ fn faults_change_answers() {
         }),
         Decision::Keep { width: 4, .. }
     ));
-    // From 95 with the coach's push the end is above a recovery box up to 90; measured it is not.
+    // Pushed from 0 it ends at 12..20, outside a recovery box up to 5; from the measured box
+    // the plain law would stay at 0.
     let mut sheet = sheet_a();
     sheet.recovery = interval(-100, 5);
     let with = |faults| decide_watched(&sheet, &question, faults, &mut NoWatch);
@@ -869,7 +870,6 @@ fn writer_tests_in_file_order() {
             numbers[slot] = value;
             let mut buffer = [0; 400];
             let answer = sheet::write(&Sheet::from_numbers(&numbers), &mut buffer, 0);
-            // A first edge of 0 makes no difference to what follows it in the file.
             assert_eq!(answer.err().map(Refusal::number), Some(number));
             assert_eq!(buffer, [0; 400]);
         }

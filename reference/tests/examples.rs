@@ -1,4 +1,5 @@
-//! `examples.txt` is what the program prints today.
+//! `examples.txt` is what the program `print_examples` prints today;
+//! the program itself stops where an example does not cover what it says.
 
 use std::process::Command;
 

@@ -12,14 +12,10 @@ use Rattle.integers.specs.Bound.{p, m, size, Bound}
 use Rattle.integers.specs.Division.{floorDiv, ceilDiv}
 use Rattle.integers.proofs.Z.{ints, flat, sum, sub, neg, prod, mul-mono, le-by, le-read, neg-is}
 
--- they compute
-ex1 : floorDiv (negsuc 130) 20 ≡ negsuc 6
-unfolding floorDiv
-ex1 = refl
-
-ex2 : ceilDiv (negsuc 130) 20 ≡ negsuc 5
+-- −7/2 (document 01, "Shortcuts that let the sledge through")
+outward : (floorDiv (negsuc 6) 2 ≡ negsuc 3) × (ceilDiv (negsuc 6) 2 ≡ negsuc 2)
 unfolding floorDiv ceilDiv
-ex2 = refl
+outward = (refl, refl)
 
 pub floor-lo : (z : ℤ) (q : ℕ) → 0 < q → (pos q *ℤ floorDiv z q) ≤ℤ z
 unfolding floorDiv

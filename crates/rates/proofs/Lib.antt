@@ -12,3 +12,4 @@ pub mod Ranges
 pub mod Rates
 pub mod Sides
 mod Examples
+mod Shortcuts

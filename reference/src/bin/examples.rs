@@ -790,9 +790,12 @@ fn shows(covers: Covers, example: &Example, answer: &Answer) -> bool {
         Covers::WidthInTurn(turn) => answer.width == answer.first_width >> (turn - 1),
         Covers::WidthOne => answer.width == 1,
         Covers::SpentBetweenWidths => {
-            // The last width has had no step, and no round is missing from the settled ones.
+            // All ticks of the attempts before, and none of the last.
+            let ticks: u32 = counts.steps.iter().map(|step| step.ticks).sum();
+            let before = (answer.first_width / answer.width).ilog2();
             let settled: u64 = counts.steps.iter().map(|s| u64::from(s.rounds)).sum();
-            decided(2) && settled == answer.rounds && answer.width < answer.first_width
+            let attempt = (sheet.delta + sheet.alpha) as u32;
+            decided(2) && before > 0 && ticks == before * attempt && settled == answer.rounds
         }
         Covers::KeepWithExactAllowance => decided(0) && answer.rounds == allowance,
         Covers::UnsafeMet => counts

@@ -1,0 +1,334 @@
+//! A million calls of the archive with random, cut, flipped and spliced bytes in fenced buffers:
+//! no access outside a buffer, no write on refusal, every answer that of the second guard.
+
+use matching::archive::{self, ReachCall};
+use matching::expected::{self, number_bytes, NUMBER_BYTES};
+use matching::fences::{watch_fences, Fenced, Side};
+use matching::generate::{model, near, question_bytes, shape, sheet_bytes, times, widths, Case};
+use matching::random::Random;
+use matching::spoil::damage;
+use matching::tally::{hex, KindId, Tally};
+
+const CALLS: usize = 1_000_000;
+/// How many sound cases the bytes are made from.
+const CORPUS: usize = 500;
+/// The longest input in bytes.
+const ROOM: usize = 4_096;
+
+/// One sound case as bytes.
+struct Sound {
+    case: Case,
+    sheet: Vec<u8>,
+    question: Vec<u8>,
+    numbers: Vec<u8>,
+    start: Vec<u8>,
+}
+
+struct Kinds {
+    calls: Vec<KindId>,
+    accepted: Vec<KindId>,
+    refused: Vec<KindId>,
+    refusals: Vec<KindId>,
+    inputs_kept: KindId,
+    outputs: KindId,
+    outputs_on_refusal: KindId,
+    around: KindId,
+    locked: KindId,
+}
+
+const NAMES: [&str; 6] = [
+    "sheet",
+    "recovery",
+    "decide",
+    "sheet_read",
+    "sheet_write",
+    "reach",
+];
+
+impl Kinds {
+    fn new(tally: &mut Tally) -> Kinds {
+        let mut each = |what: &str, least: u64| -> Vec<KindId> {
+            NAMES
+                .iter()
+                .map(|name| tally.kind(format!("guard_{name}: {what}"), least))
+                .collect()
+        };
+        let calls = each("answers alike", 50_000);
+        let accepted = each("accepted", 5_000);
+        let refused = each("refused", 5_000);
+        Kinds {
+            calls,
+            accepted,
+            refused,
+            refusals: (1..=17)
+                .map(|number| tally.kind(format!("refused by {number}"), 500))
+                .collect(),
+            inputs_kept: tally.kind("inputs as they were", 1_000_000),
+            outputs: tally.kind("outputs alike", 100_000),
+            outputs_on_refusal: tally.kind("no write on refusal", 50_000),
+            around: tally.kind("no write around a buffer", 1_000_000),
+            locked: tally.kind("buffers that cannot be written", 50_000),
+        }
+    }
+}
+
+struct Fuzz {
+    random: Random,
+    tally: Tally,
+    kinds: Kinds,
+    corpus: Vec<Sound>,
+    /// Two buffers that are read and one that is written.
+    first: Fenced,
+    second: Fenced,
+    out: Fenced,
+}
+
+fn corpus(random: &mut Random) -> Vec<Sound> {
+    (0..CORPUS)
+        .map(|_| {
+            let most = random.pick(&[3, 6, 10]);
+            let times = times(random, most);
+            let mut case = model(random, times, 4);
+            let turns = widths(&case.sheet).len();
+            let halvings = random.below(turns);
+            shape(random, &mut case, halvings);
+            let n = case.sheet.n();
+            let allowance = random.spread(1, 400) as u32;
+            Sound {
+                sheet: sheet_bytes(&case.sheet),
+                question: question_bytes(allowance, case.command, &case.measured, n),
+                numbers: number_bytes(&case.sheet),
+                start: expected::pairs(&near(random, &case), n),
+                case,
+            }
+        })
+        .collect()
+}
+
+/// Bytes made from some sound ones and others of their sort.
+fn mangle(random: &mut Random, sound: &[u8], other: &[u8]) -> Vec<u8> {
+    let mut bytes = sound.to_vec();
+    match random.below(100) {
+        // Sound.
+        0..=29 => {}
+        // Flipped.
+        30..=59 => damage(random, &mut bytes),
+        // Cut.
+        60..=67 => bytes.truncate(random.below(sound.len() + 1)),
+        // Longer.
+        68..=72 => {
+            let mut more = vec![0; random.below(40)];
+            random.fill(&mut more);
+            bytes.extend(more);
+        }
+        // Spliced: a front of one and a back of the other.
+        73..=82 => {
+            bytes.truncate(random.below(sound.len() + 1));
+            bytes.extend(&other[random.below(other.len() + 1)..]);
+        }
+        // The other's bytes at the same places.
+        83..=89 => {
+            let end = sound.len().min(other.len());
+            let from = random.below(end + 1);
+            let to = from + random.below(end - from + 1);
+            bytes[from..to].copy_from_slice(&other[from..to]);
+        }
+        // Random behind a sound front.
+        90..=95 => {
+            let from = random.below(sound.len() + 1);
+            random.fill(&mut bytes[from..]);
+        }
+        // Random.
+        _ => {
+            bytes = vec![0; random.below(200)];
+            random.fill(&mut bytes);
+        }
+    }
+    bytes.truncate(ROOM);
+    bytes
+}
+
+impl Fuzz {
+    fn new() -> Fuzz {
+        let mut random = Random::new(7);
+        let mut tally = Tally::new();
+        Fuzz {
+            kinds: Kinds::new(&mut tally),
+            corpus: corpus(&mut random),
+            random,
+            tally,
+            first: Fenced::new(ROOM),
+            second: Fenced::new(ROOM),
+            out: Fenced::new(ROOM),
+        }
+    }
+
+    fn side(&mut self) -> Side {
+        if self.random.percent(60) {
+            Side::End
+        } else {
+            Side::Start
+        }
+    }
+
+    /// Bytes made from the sheets of two sound cases.
+    fn mangled_sheet(&mut self, at: usize, other: usize) -> Vec<u8> {
+        let (sound, other) = (&self.corpus[at].sheet, &self.corpus[other].sheet);
+        mangle(&mut self.random, sound, other)
+    }
+
+    fn call(&mut self, call: usize) {
+        let at = self.random.below(CORPUS);
+        let other = self.random.below(CORPUS);
+        let (one, two) = match call {
+            0 | 1 | 3 => (self.mangled_sheet(at, other), Vec::new()),
+            2 => {
+                // Mostly only one of the two is mangled.
+                let sheet = if self.random.percent(60) {
+                    self.corpus[at].sheet.clone()
+                } else {
+                    self.mangled_sheet(at, other)
+                };
+                let (sound, other) = (&self.corpus[at].question, &self.corpus[other].question);
+                (sheet, mangle(&mut self.random, sound, other))
+            }
+            4 => {
+                let (sound, other) = (&self.corpus[at].numbers, &self.corpus[other].numbers);
+                (mangle(&mut self.random, sound, other), Vec::new())
+            }
+            _ => {
+                let sheet = if self.random.percent(70) {
+                    self.corpus[at].sheet.clone()
+                } else {
+                    self.mangled_sheet(at, other)
+                };
+                let (sound, other) = (&self.corpus[at].start, &self.corpus[other].start);
+                (sheet, mangle(&mut self.random, sound, other))
+            }
+        };
+        let room = match call {
+            3 => match self.random.below(4) {
+                0 => self.random.below(NUMBER_BYTES + 40),
+                1 => NUMBER_BYTES - 1,
+                _ => NUMBER_BYTES + self.random.below(3),
+            },
+            4 => match self.random.below(4) {
+                0 => self.random.below(1_200),
+                _ => self.corpus[at].sheet.len() + self.random.below(30),
+            },
+            5 => match self.random.below(4) {
+                0 => self.random.below(80),
+                _ => 16 * self.corpus[at].case.sheet.n() + self.random.below(3),
+            },
+            _ => 0,
+        };
+        let place = match self.random.below(12) {
+            0 => self.random.bits(),
+            1 => u64::MAX - self.random.below(1_200) as u64,
+            2 => self.random.below(1_200) as u64,
+            3..=6 => self.random.below(30) as u64,
+            _ => 0,
+        };
+        let case = &self.corpus[at].case;
+        let reach = ReachCall {
+            ticks: match self.random.below(20) {
+                0 => self.random.bits() as u32,
+                1 => 1_001,
+                _ => self.random.below(12) as u32,
+            },
+            width: match self.random.below(20) {
+                0 => self.random.bits() as u32,
+                1 => self.random.pick(&[0, 1_000, 1_001]),
+                _ => 1 + self.random.below(12) as u32,
+            },
+            law: self.random.below(3) as u32,
+            command: match self.random.below(10) {
+                0 => self.random.bits() as i32,
+                _ => case.command,
+            },
+        };
+
+        let mut before = vec![0; room];
+        self.random.fill(&mut before);
+        let sides = [self.side(), self.side(), self.side()];
+        self.first.lend(&one, sides[0]);
+        self.second.lend(&two, sides[1]);
+        // In some of the calls the buffers that are only read cannot be written at all.
+        let locked = self.random.below(8) == 0;
+        if locked {
+            self.first.lock(true);
+            self.second.lock(true);
+        }
+        let (first, second) = (self.first.lent(), self.second.lent());
+        let out = self.out.lend(&before, sides[2]);
+        let found = match call {
+            0 => archive::sheet(first),
+            1 => archive::recovery(first),
+            2 => archive::decide(first, second),
+            3 => archive::sheet_read(first, out),
+            4 => archive::sheet_write(first, out, place),
+            _ => archive::reach(first, reach, second, out),
+        };
+        if locked {
+            self.first.lock(false);
+            self.second.lock(false);
+        }
+        let mut wanted_out = before.clone();
+        let wanted = match call {
+            0 => expected::sheet(&one),
+            1 => expected::recovery(&one),
+            2 => expected::decide(&one, &two),
+            3 => expected::sheet_read(&one, &mut wanted_out),
+            4 => expected::sheet_write(&one, &mut wanted_out, place),
+            _ => expected::reach(&one, reach, &two, &mut wanted_out),
+        };
+
+        let describe = || {
+            format!(
+                "guard_{} {} {} place {place} {reach:?} room {room}: wanted {wanted:x}, found {found:x}",
+                NAMES[call],
+                hex(&one),
+                hex(&two)
+            )
+        };
+        let refused = wanted >> 48 == 3;
+        let right = wanted == found;
+        self.tally.check(self.kinds.calls[call], right, describe);
+        if refused {
+            self.tally.saw(self.kinds.refused[call]);
+            let number = (wanted >> 32) as usize & 0xFFFF;
+            let kind = self.kinds.refusals[number - 1];
+            self.tally.check(kind, right, describe);
+        } else {
+            self.tally.saw(self.kinds.accepted[call]);
+        }
+        let kept = self.first.lent() == one && self.second.lent() == two;
+        self.tally.check(self.kinds.inputs_kept, kept, describe);
+        if room > 0 {
+            let alike = self.out.lent() == wanted_out;
+            let kind = if refused {
+                self.kinds.outputs_on_refusal
+            } else {
+                self.kinds.outputs
+            };
+            self.tally.check(kind, alike, describe);
+        }
+        let around = self.first.surroundings_kept()
+            && self.second.surroundings_kept()
+            && self.out.surroundings_kept();
+        self.tally.check(self.kinds.around, around, describe);
+        if locked {
+            self.tally.saw(self.kinds.locked);
+        }
+    }
+}
+
+fn main() {
+    watch_fences();
+    let mut fuzz = Fuzz::new();
+    for _ in 0..CALLS {
+        let call = fuzz.random.pick(&[0, 0, 1, 2, 2, 2, 3, 4, 4, 5, 5]);
+        fuzz.call(call);
+    }
+    std::process::exit(fuzz.tally.finish());
+}

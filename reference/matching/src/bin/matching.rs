@@ -1,0 +1,968 @@
+//! The archive against the second guard on sheets and questions from fixed seeds: values read,
+//! bytes written, recovery checks, decisions and reach boxes. It fails where an answer differs
+//! or a kind of case is too rare.
+
+use matching::archive::{self, ReachCall};
+use matching::expected::{self, number_bytes, NUMBER_BYTES};
+use matching::generate::{
+    long_times, model, near, pick_command, question_bytes, shape, sheet_bytes, slow_growth, times,
+    widths, worst_case, Case, Shape, BOUNDS,
+};
+use matching::random::Random;
+use matching::spoil::{damage, number_fault, question_fault, sheet_fault, Fault};
+use matching::tally::{hex, KindId, Tally};
+use second_guard::decision::{
+    check_recovery_watched, decide_watched, read_question, trace, Decision, Faults, Question,
+    RecoveryCheck,
+};
+use second_guard::machine::StateBox;
+use second_guard::reach::{Face, Step, Watch};
+use second_guard::sheet::Sheet;
+use std::collections::HashMap;
+use std::ops::ControlFlow;
+use std::time::Instant;
+
+/// How many sheets of everyday times, of long times at most, and of slow growth.
+const SHEETS: usize = 30_000;
+const LONG_SHEETS: usize = 20_000;
+const SLOW_SHEETS: usize = 3_000;
+/// Long sheets go on until each number of halvings has so many keeps.
+const LONG_KEEPS: u64 = 400;
+/// So many of each pair of faults and of each damage.
+const PAIRS: u64 = 210;
+const DAMAGED: usize = 6_000;
+/// Bytes behind a lent buffer, which have to stay as they are.
+const BEHIND: usize = 64;
+
+/// What a decision did on the way.
+#[derive(Default)]
+struct Sight {
+    most_bands: usize,
+    halvings: u32,
+    most_halvings: u32,
+}
+
+impl Watch for Sight {
+    fn neighborhood(&mut self, _variable: usize, _face: Face, bands: usize) {
+        self.most_bands = self.most_bands.max(bands);
+    }
+
+    fn halved(&mut self, _ticks: u32) {
+        self.halvings += 1;
+        self.most_halvings = self.most_halvings.max(self.halvings);
+    }
+
+    fn settled(&mut self, _step: &Step) -> ControlFlow<()> {
+        self.halvings = 0;
+        ControlFlow::Continue(())
+    }
+}
+
+/// All kinds of cases with their least numbers.
+struct Kinds {
+    calls: KindId,
+    decisions: KindId,
+    keep: KindId,
+    finest: KindId,
+    spent: KindId,
+    keep_after: Vec<KindId>,
+    two_bands: KindId,
+    three_bands: KindId,
+    halved_twice: KindId,
+    many_rounds: KindId,
+    allowance_zero: KindId,
+    one_less: KindId,
+    exactly_enough: KindId,
+    spent_lower: KindId,
+    spent_between: KindId,
+    beside: KindId,
+    touching: KindId,
+    by_variables: Vec<KindId>,
+    sheets: KindId,
+    values_read: KindId,
+    bytes_written: KindId,
+    numbers_cut: KindId,
+    recovery_pass: KindId,
+    recovery_pass_later: KindId,
+    recovery_fail: KindId,
+    reaches: KindId,
+    reach_no_ticks: KindId,
+    reach_several_bands: KindId,
+    reach_ignores_command: KindId,
+    damaged_sheets: KindId,
+    damaged_questions: KindId,
+    damaged_numbers: KindId,
+    cut_bytes: KindId,
+    refusals: Vec<KindId>,
+    pairs: HashMap<(&'static str, u8, u8), KindId>,
+}
+
+impl Kinds {
+    fn new(tally: &mut Tally) -> Kinds {
+        Kinds {
+            calls: tally.kind("calls in all", 300_000),
+            decisions: tally.kind("decisions", 200_000),
+            keep: tally.kind("keep", 2_000),
+            finest: tally.kind("finest", 2_000),
+            spent: tally.kind("spent", 2_000),
+            keep_after: (0..10)
+                .map(|h| tally.kind(format!("keep after {h} halvings of the width"), 100))
+                .collect(),
+            two_bands: tally.kind("neighborhood over two bands", 200),
+            three_bands: tally.kind("neighborhood over three bands or more", 200),
+            halved_twice: tally.kind("a step halves twice or more", 200),
+            many_rounds: tally.kind("decisions of over 100,000 rounds", 3),
+            allowance_zero: tally.kind("allowance 0", 200),
+            one_less: tally.kind("allowance one less than needed", 200),
+            exactly_enough: tally.kind("allowance exactly enough", 200),
+            spent_lower: tally.kind("spent at a lower width than the first", 200),
+            spent_between: tally.kind("spent right after a failed attempt", 200),
+            beside: tally.kind("unsafe box beside the swept box: keep", 200),
+            touching: tally.kind("unsafe box touching the swept box: no keep there", 200),
+            by_variables: (1..=4)
+                .map(|n| tally.kind(format!("decisions with n = {n}"), 200))
+                .collect(),
+            sheets: tally.kind("sheets accepted", 200),
+            values_read: tally.kind("values read", 200),
+            bytes_written: tally.kind("bytes written", 200),
+            numbers_cut: tally.kind("numbers cut short or too many", 200),
+            recovery_pass: tally.kind("recovery check passes", 200),
+            recovery_pass_later: tally.kind("recovery check passes at a lower width", 200),
+            recovery_fail: tally.kind("recovery check fails", 200),
+            reaches: tally.kind("reach boxes", 200),
+            reach_no_ticks: tally.kind("reach of no ticks", 200),
+            reach_several_bands: tally.kind("reach on a sheet of several bands", 200),
+            reach_ignores_command: tally.kind("baseline reach with any command", 200),
+            damaged_sheets: tally.kind("damaged bytes of sheets", 200),
+            damaged_questions: tally.kind("damaged bytes of questions", 200),
+            damaged_numbers: tally.kind("damaged bytes of numbers", 200),
+            cut_bytes: tally.kind("cut bytes", 200),
+            refusals: (1..=17)
+                .map(|number| tally.kind(format!("refused by {number}"), 200))
+                .collect(),
+            pairs: HashMap::new(),
+        }
+    }
+}
+
+struct Matching {
+    random: Random,
+    tally: Tally,
+    kinds: Kinds,
+}
+
+/// The refusal number in an answer, or 0.
+fn refusal(answer: u64) -> usize {
+    if answer >> 48 == 3 {
+        (answer >> 32) as usize & 0xFFFF
+    } else {
+        0
+    }
+}
+
+fn show(answer: u64) -> String {
+    format!(
+        "code {} w {} rounds {}",
+        answer >> 48,
+        answer >> 32 & 0xFFFF,
+        answer & 0xFFFF_FFFF
+    )
+}
+
+impl Matching {
+    fn new() -> Matching {
+        let mut tally = Tally::new();
+        let kinds = Kinds::new(&mut tally);
+        Matching {
+            random: Random::new(1),
+            tally,
+            kinds,
+        }
+    }
+
+    /// Counts the case under these kinds, and under its refusal if it has one.
+    fn note(
+        &mut self,
+        kinds: &[KindId],
+        wanted: u64,
+        right: bool,
+        describe: impl FnOnce() -> String,
+    ) {
+        let refused = match refusal(wanted) {
+            0 => None,
+            number => Some(self.kinds.refusals[number - 1]),
+        };
+        for kind in kinds.iter().copied().chain(refused) {
+            self.tally.saw(kind);
+            if !right {
+                self.tally.mark_wrong(kind);
+            }
+        }
+        self.tally.check(self.kinds.calls, right, describe);
+    }
+
+    fn call_sheet(&mut self, kinds: &[KindId], sheet: &[u8]) -> u64 {
+        let (wanted, found) = (expected::sheet(sheet), archive::sheet(sheet));
+        self.note(kinds, wanted, wanted == found, || {
+            format!(
+                "sheet {}: wanted {}, found {}",
+                hex(sheet),
+                show(wanted),
+                show(found)
+            )
+        });
+        wanted
+    }
+
+    fn call_recovery(&mut self, kinds: &[KindId], sheet: &[u8]) -> u64 {
+        let (wanted, found) = (expected::recovery(sheet), archive::recovery(sheet));
+        self.note(kinds, wanted, wanted == found, || {
+            format!(
+                "recovery {}: wanted {}, found {}",
+                hex(sheet),
+                show(wanted),
+                show(found)
+            )
+        });
+        wanted
+    }
+
+    fn call_decide(&mut self, kinds: &[KindId], sheet: &[u8], question: &[u8]) -> u64 {
+        let wanted = expected::decide(sheet, question);
+        self.compare_decision(kinds, sheet, question, wanted);
+        wanted
+    }
+
+    fn compare_decision(&mut self, kinds: &[KindId], sheet: &[u8], question: &[u8], wanted: u64) {
+        let found = archive::decide(sheet, question);
+        self.note(kinds, wanted, wanted == found, || {
+            format!(
+                "decide {} {}: wanted {}, found {}",
+                hex(sheet),
+                hex(question),
+                show(wanted),
+                show(found)
+            )
+        });
+    }
+
+    fn call_read(&mut self, kinds: &[KindId], sheet: &[u8], room: usize) -> u64 {
+        let mut wanted_out = vec![0xEE; room + BEHIND];
+        let mut found_out = wanted_out.clone();
+        let wanted = expected::sheet_read(sheet, &mut wanted_out[..room]);
+        let found = archive::sheet_read(sheet, &mut found_out[..room]);
+        let right = wanted == found && wanted_out == found_out;
+        self.note(kinds, wanted, right, || {
+            format!(
+                "read {} into {room}: wanted {}, found {}, same buffer {}",
+                hex(sheet),
+                show(wanted),
+                show(found),
+                wanted_out == found_out
+            )
+        });
+        wanted
+    }
+
+    fn call_write(&mut self, kinds: &[KindId], numbers: &[u8], room: usize, place: u64) -> u64 {
+        let mut wanted_buffer = vec![0; room + BEHIND];
+        self.random.fill(&mut wanted_buffer);
+        let mut found_buffer = wanted_buffer.clone();
+        let wanted = expected::sheet_write(numbers, &mut wanted_buffer[..room], place);
+        let found = archive::sheet_write(numbers, &mut found_buffer[..room], place);
+        let right = wanted == found && wanted_buffer == found_buffer;
+        self.note(kinds, wanted, right, || {
+            format!(
+                "write {} to {place} of {room}: wanted {}, found {}, same buffer {}",
+                hex(numbers),
+                show(wanted),
+                show(found),
+                wanted_buffer == found_buffer
+            )
+        });
+        wanted
+    }
+
+    fn call_reach(
+        &mut self,
+        kinds: &[KindId],
+        sheet: &[u8],
+        call: ReachCall,
+        start: &[u8],
+        room: usize,
+    ) -> u64 {
+        let mut wanted_out = vec![0x77; room + BEHIND];
+        let mut found_out = wanted_out.clone();
+        let wanted = expected::reach(sheet, call, start, &mut wanted_out[..room]);
+        let found = archive::reach(sheet, call, start, &mut found_out[..room]);
+        let right = wanted == found && wanted_out == found_out;
+        self.note(kinds, wanted, right, || {
+            format!(
+                "reach {} {call:?} {}: wanted {} {}, found {} {}",
+                hex(sheet),
+                hex(start),
+                show(wanted),
+                hex(&wanted_out),
+                show(found),
+                hex(&found_out)
+            )
+        });
+        wanted
+    }
+
+    /// A decision on a sheet and a question that are accepted; gives the second guard's answer.
+    fn decision(&mut self, sheet: &Sheet, bytes: &[u8], question: &Question) -> Decision {
+        let question_bytes = question_bytes(
+            question.allowance,
+            question.command,
+            &question.measured,
+            sheet.n(),
+        );
+        let mut sight = Sight::default();
+        let decision = decide_watched(sheet, question, Faults::default(), &mut sight);
+        debug_assert_eq!(read_question(sheet, &question_bytes), Ok(*question));
+        let mut kinds = vec![self.kinds.decisions, self.kinds.by_variables[sheet.n() - 1]];
+        let first = sheet.delta.max(sheet.alpha) as u32;
+        match decision {
+            Decision::Keep { width, rounds } => {
+                kinds.push(self.kinds.keep);
+                let turn = widths(sheet).iter().position(|&w| w == width);
+                kinds.push(self.kinds.keep_after[turn.expect("a width of the sheet")]);
+                if rounds > 100_000 {
+                    kinds.push(self.kinds.many_rounds);
+                }
+            }
+            Decision::Finest { rounds, .. } => {
+                kinds.push(self.kinds.finest);
+                if rounds > 100_000 {
+                    kinds.push(self.kinds.many_rounds);
+                }
+            }
+            Decision::Spent { width, rounds } => {
+                kinds.push(self.kinds.spent);
+                if width < first {
+                    kinds.push(self.kinds.spent_lower);
+                }
+                if rounds > 100_000 {
+                    kinds.push(self.kinds.many_rounds);
+                }
+            }
+            Decision::Refused(_) => unreachable!("sheet and question are in range"),
+        }
+        if sight.most_bands == 2 {
+            kinds.push(self.kinds.two_bands);
+        } else if sight.most_bands > 2 {
+            kinds.push(self.kinds.three_bands);
+        }
+        if sight.most_halvings >= 2 {
+            kinds.push(self.kinds.halved_twice);
+        }
+        if question.allowance == 0 {
+            kinds.push(self.kinds.allowance_zero);
+        }
+        self.compare_decision(&kinds, bytes, &question_bytes, decision.pack());
+        decision
+    }
+
+    /// The decision with all rounds it needs, then with the allowances around them.
+    fn decisions_around(&mut self, case: &Case, bytes: &[u8], spare: usize) -> Decision {
+        let sheet = &case.sheet;
+        let mut question = Question {
+            allowance: 1_000_000,
+            command: case.command,
+            measured: case.measured,
+        };
+        let decision = self.decision(sheet, bytes, &question);
+        let (Decision::Keep { rounds, .. } | Decision::Finest { rounds, .. }) = decision else {
+            unreachable!("a million rounds are enough");
+        };
+        question.allowance = rounds as u32;
+        let exact = self.decision(sheet, bytes, &question);
+        let right = exact == decision;
+        self.tally
+            .check(self.kinds.exactly_enough, right, || "not the same".into());
+        question.allowance = rounds as u32 - 1;
+        let less = self.decision(sheet, bytes, &question);
+        let right = matches!(less, Decision::Spent { rounds: count, .. } if count == rounds - 1);
+        self.tally
+            .check(self.kinds.one_less, right, || "not spent".into());
+        question.allowance = 0;
+        self.decision(sheet, bytes, &question);
+        for _ in 0..spare {
+            question.allowance = self.random.below(rounds as usize) as u32;
+            self.decision(sheet, bytes, &question);
+        }
+        // As many rounds as the first attempt takes, where that one fails.
+        let first = trace(sheet, &question, widths(sheet)[0], Faults::default());
+        if let (false, Some(&second)) = (first.succeeded, widths(sheet).get(1)) {
+            question.allowance = first.rounds as u32;
+            let between = self.decision(sheet, bytes, &question);
+            let right = between
+                == Decision::Spent {
+                    width: second,
+                    rounds: first.rounds,
+                };
+            self.tally.check(self.kinds.spent_between, right, || {
+                "not spent with the next width".into()
+            });
+        }
+        decision
+    }
+
+    /// Reading and writing the sheet, its recovery check, and reaches on it.
+    fn sheet_calls(&mut self, case: &Case, bytes: &[u8]) {
+        let sheet = &case.sheet;
+        let n = sheet.n();
+        self.call_sheet(&[self.kinds.sheets], bytes);
+        let room = NUMBER_BYTES + self.random.pick(&[0, 0, 1, 40]);
+        self.call_read(&[self.kinds.values_read], bytes, room);
+
+        let mut numbers = number_bytes(sheet);
+        if self.random.percent(30) {
+            // Values beyond the counts do not matter.
+            let at = 4 * self.random.below(numbers.len() / 4);
+            let slot = at / 4;
+            let beyond = slot >= 9 + n && slot < 13
+                || slot >= 13 + 35 * sheet.band_count as usize && slot < 293
+                || slot >= 301 + 8 * sheet.unsafe_count as usize;
+            if beyond {
+                self.random.fill(&mut numbers[at..at + 4]);
+            }
+        }
+        let place = self.random.pick(&[0, 0, 1, 7, 300]);
+        let room = place as usize + bytes.len() + self.random.pick(&[0, 0, 1, 50]);
+        self.call_write(&[self.kinds.bytes_written], &numbers, room, place);
+        let cut = self.random.below(numbers.len() + 1);
+        if self.random.percent(50) {
+            self.call_write(&[self.kinds.numbers_cut], &numbers[..cut], room, place);
+        } else {
+            numbers.extend([1; 9]);
+            self.call_write(&[self.kinds.numbers_cut], &numbers, room, place);
+        }
+
+        for _ in 0..2 {
+            let ticks = if self.random.percent(10) {
+                0
+            } else {
+                self.random.spread(1, 60) as u32
+            };
+            let call = ReachCall {
+                ticks,
+                width: self.random.spread(1, 80) as u32,
+                law: self.random.pick(&[0, 1, 1, u32::MAX]),
+                command: pick_command(&mut self.random, sheet),
+            };
+            let start = near(&mut self.random, case);
+            self.reach_on(sheet, bytes, call, &start);
+        }
+    }
+
+    fn reach_on(&mut self, sheet: &Sheet, bytes: &[u8], mut call: ReachCall, start: &StateBox) {
+        let n = sheet.n();
+        let mut kinds = vec![self.kinds.reaches];
+        if call.ticks == 0 {
+            kinds.push(self.kinds.reach_no_ticks);
+        }
+        if sheet.band_count > 1 {
+            kinds.push(self.kinds.reach_several_bands);
+        }
+        if call.law == 0 && self.random.percent(50) {
+            call.command = self.random.pick(&[i32::MIN, i32::MAX, 10_001]);
+            kinds.push(self.kinds.reach_ignores_command);
+        }
+        let room = 16 * n + self.random.pick(&[0, 0, 3]);
+        self.call_reach(&kinds, bytes, call, &expected::pairs(start, n), room);
+    }
+
+    fn recovery_check(&mut self, sheet: &Sheet, bytes: &[u8]) {
+        let kind = match check_recovery_watched(sheet, &mut Sight::default()) {
+            RecoveryCheck::Pass { width, .. } if width < sheet.rho as u32 => {
+                self.kinds.recovery_pass_later
+            }
+            RecoveryCheck::Pass { .. } => self.kinds.recovery_pass,
+            _ => self.kinds.recovery_fail,
+        };
+        self.call_recovery(&[kind], bytes);
+    }
+
+    fn everyday(&mut self) {
+        for turn in 0..SHEETS {
+            let most = self.random.pick(&[4, 12, 12, 40, 40, 120]);
+            let times = times(&mut self.random, most);
+            let mut case = model(&mut self.random, times, 4);
+            let turns = widths(&case.sheet).len();
+            let halvings = self.random.below(turns);
+            let shaped = shape(&mut self.random, &mut case, halvings);
+            let bytes = sheet_bytes(&case.sheet);
+            self.sheet_calls(&case, &bytes);
+            let decision = self.decisions_around(&case, &bytes, 4);
+            let width = widths(&case.sheet)[halvings];
+            let kept_there = matches!(decision, Decision::Keep { width: w, .. } if w == width);
+            match shaped {
+                Shape::Beside => {
+                    if kept_there {
+                        self.tally.saw(self.kinds.beside);
+                    }
+                }
+                Shape::Touching => {
+                    self.tally.check(self.kinds.touching, !kept_there, || {
+                        format!("kept on {}", hex(&bytes))
+                    });
+                }
+                Shape::ByRecovery | Shape::None => {}
+            }
+            for _ in 0..7 {
+                let measured = near(&mut self.random, &case);
+                let question = Question {
+                    allowance: self.random.spread(1, 1_000_000) as u32,
+                    command: pick_command(&mut self.random, &case.sheet),
+                    measured,
+                };
+                self.decision(&case.sheet, &bytes, &question);
+            }
+            if turn % 4 == 0 {
+                self.recovery_check(&case.sheet, &bytes);
+                // The same machine with its recovery box where a reach of it ends.
+                self.passing_check(&case);
+            }
+        }
+    }
+
+    /// A recovery box that the baseline brings back to itself, as far as one is found.
+    fn passing_check(&mut self, case: &Case) {
+        let mut sheet = case.sheet;
+        let n = sheet.n();
+        for _ in 0..6 {
+            let check = check_recovery_watched(&sheet, &mut Sight::default());
+            if matches!(check, RecoveryCheck::Pass { .. }) {
+                break;
+            }
+            for i in 0..n {
+                let cap = i64::from(sheet.caps[i]);
+                let grow = self.random.spread(1, 30 * cap);
+                sheet.recovery.lower[i] = (sheet.recovery.lower[i] - grow).max(-1_000_000);
+                sheet.recovery.upper[i] = (sheet.recovery.upper[i] + grow).min(1_000_000);
+            }
+        }
+        let bytes = sheet_bytes(&sheet);
+        self.recovery_check(&sheet, &bytes);
+    }
+
+    /// Decisions whose first width halves nine times.
+    fn long(&mut self) {
+        for _ in 0..LONG_SHEETS {
+            let rare: Vec<usize> = (0..10)
+                .filter(|&h| self.tally.seen(self.kinds.keep_after[h]) < LONG_KEEPS)
+                .collect();
+            if rare.is_empty() {
+                return;
+            }
+            let halvings = self.random.pick(&rare);
+            let times = long_times(&mut self.random);
+            let most_variables = self.random.pick(&[1, 1, 2, 2, 4]);
+            let mut case = model(&mut self.random, times, most_variables);
+            if shape(&mut self.random, &mut case, halvings) == Shape::None {
+                continue;
+            }
+            let bytes = sheet_bytes(&case.sheet);
+            let question = Question {
+                allowance: 1_000_000,
+                command: case.command,
+                measured: case.measured,
+            };
+            self.decision(&case.sheet, &bytes, &question);
+        }
+    }
+
+    fn slow(&mut self) {
+        for _ in 0..SLOW_SHEETS {
+            let case = slow_growth(&mut self.random);
+            let bytes = sheet_bytes(&case.sheet);
+            self.decisions_around(&case, &bytes, 1);
+        }
+    }
+
+    fn worst(&mut self) {
+        let case = worst_case();
+        let bytes = sheet_bytes(&case.sheet);
+        self.decisions_around(&case, &bytes, 0);
+    }
+
+    /// The kind of a pair of faults; the first is the one reported.
+    fn pair(&mut self, call: &'static str, first: u8, second: u8) -> KindId {
+        let tally = &mut self.tally;
+        *self
+            .kinds
+            .pairs
+            .entry((call, first, second))
+            .or_insert_with(|| tally.kind(format!("{call}: {first} before {second}"), 200))
+    }
+
+    /// Two faults of these numbers, the first of which is found first.
+    fn two_faults(
+        &mut self,
+        first: u8,
+        second: u8,
+        mut draw: impl FnMut(&mut Random, u8) -> Fault,
+    ) -> Option<(Fault, Fault)> {
+        let one = draw(&mut self.random, first);
+        let other = draw(&mut self.random, second);
+        (one.rank < other.rank && one.apart(&other)).then_some((one, other))
+    }
+
+    /// All pairs of faults that can stand together.
+    fn faults(&mut self) {
+        let mut cases = Vec::new();
+        for turn in 0..400 {
+            let times = times(&mut self.random, 12);
+            let mut case = model(&mut self.random, times, 4);
+            shape(&mut self.random, &mut case, 0);
+            if turn % 2 == 0 && case.sheet.band_count == 1 {
+                continue;
+            }
+            cases.push(case);
+        }
+
+        // Two faults in one sheet: by number up to 6, then in the file's order.
+        let in_file = [(8, 7), (9, 7), (9, 8), (10, 7), (10, 8), (10, 9), (11, 7)];
+        let twice = (6..=11).map(|number| (number, number));
+        let pairs: Vec<(u8, u8)> = (1..=11)
+            .flat_map(|first| (first + 1..=11).map(move |second| (first, second)))
+            .chain(in_file)
+            .chain(twice)
+            .collect();
+        for (first, second) in pairs {
+            let kind = self.pair("sheet", first, second);
+            for _ in 0..200 * PAIRS {
+                if self.tally.seen(kind) >= PAIRS {
+                    break;
+                }
+                let case = cases[self.random.below(cases.len())];
+                let layout_kept = second > 4;
+                let draw = |random: &mut Random, number: u8| {
+                    sheet_fault(random, &case.sheet, number, layout_kept)
+                };
+                let Some((one, other)) = self.two_faults(first, second, draw) else {
+                    continue;
+                };
+                let mut bytes = sheet_bytes(&case.sheet);
+                one.apply(&mut bytes);
+                other.apply(&mut bytes);
+                let answer = self.any_sheet_call(&[kind], &case, &bytes);
+                assert_eq!(refusal(answer), usize::from(first), "{one:?} {other:?}");
+            }
+        }
+
+        // Cut sheets: too short for a head, or for their length.
+        for turn in 0..2 * PAIRS {
+            let case = cases[self.random.below(cases.len())];
+            let bytes = sheet_bytes(&case.sheet);
+            let length = if turn % 2 == 0 {
+                self.random.below(20)
+            } else {
+                self.random.range(20, bytes.len() as i64 - 1) as usize
+            };
+            self.any_sheet_call(&[self.kinds.cut_bytes], &case, &bytes[..length]);
+        }
+
+        // Faults of a sheet and of the call on it.
+        for first in 1..=11 {
+            for second in [12, 13, 14, 15] {
+                let kind = self.pair("sheet and question", first, second);
+                for _ in 0..PAIRS {
+                    let case = cases[self.random.below(cases.len())];
+                    let mut bytes = sheet_bytes(&case.sheet);
+                    sheet_fault(&mut self.random, &case.sheet, first, true).apply(&mut bytes);
+                    let mut question = plain_question(&case);
+                    question_fault(&mut self.random, &case.sheet, second).apply(&mut question);
+                    self.call_decide(&[kind], &bytes, &question);
+                }
+            }
+            for second in [14, 15, 16, 17] {
+                let kind = self.pair("sheet and reach", first, second);
+                for _ in 0..PAIRS {
+                    let case = cases[self.random.below(cases.len())];
+                    let mut bytes = sheet_bytes(&case.sheet);
+                    sheet_fault(&mut self.random, &case.sheet, first, true).apply(&mut bytes);
+                    self.faulty_reach(&[kind], &case, &bytes, &[second]);
+                }
+            }
+            let kind = self.pair("sheet read", first, 17);
+            for _ in 0..PAIRS {
+                let case = cases[self.random.below(cases.len())];
+                let mut bytes = sheet_bytes(&case.sheet);
+                sheet_fault(&mut self.random, &case.sheet, first, true).apply(&mut bytes);
+                let room = self.random.below(NUMBER_BYTES);
+                self.call_read(&[kind], &bytes, room);
+            }
+        }
+
+        // Two faults in one question.
+        for (first, second) in [(12, 13), (12, 14), (12, 15), (13, 14), (13, 15), (14, 15)] {
+            let kind = self.pair("question", first, second);
+            for _ in 0..PAIRS {
+                let case = cases[self.random.below(cases.len())];
+                let bytes = sheet_bytes(&case.sheet);
+                let mut question = plain_question(&case);
+                // The length goes last, so that the other places stay.
+                question_fault(&mut self.random, &case.sheet, second).apply(&mut question);
+                question_fault(&mut self.random, &case.sheet, first).apply(&mut question);
+                let answer = self.call_decide(&[kind], &bytes, &question);
+                assert_eq!(refusal(answer), usize::from(first));
+            }
+        }
+
+        // Two faults in one reach: 16, 14, 15, 17.
+        let order = [16, 14, 15, 17];
+        for (place, &first) in order.iter().enumerate() {
+            for &second in &order[place + 1..] {
+                let kind = self.pair("reach", first, second);
+                for _ in 0..PAIRS {
+                    let case = cases[self.random.below(cases.len())];
+                    let bytes = sheet_bytes(&case.sheet);
+                    let answer = self.faulty_reach(&[kind], &case, &bytes, &[first, second]);
+                    assert_eq!(refusal(answer), usize::from(first));
+                }
+            }
+        }
+
+        // Too little room for the values read.
+        for _ in 0..PAIRS {
+            let case = cases[self.random.below(cases.len())];
+            let bytes = sheet_bytes(&case.sheet);
+            let room = self.random.pick(&[NUMBER_BYTES - 1, 0, 4, 70]);
+            self.call_read(&[], &bytes, room);
+        }
+
+        self.writer_faults(&cases);
+    }
+
+    fn writer_faults(&mut self, cases: &[Case]) {
+        let numbers = [2, 3, 4, 6, 8, 9, 10, 11];
+        let mut pairs: Vec<(u8, u8)> = vec![(9, 8), (10, 8), (10, 9)];
+        for (place, &first) in numbers.iter().enumerate() {
+            for &second in &numbers[place..] {
+                if first != second || first >= 6 {
+                    pairs.push((first, second));
+                }
+            }
+        }
+        for (first, second) in pairs {
+            let kind = self.pair("writer", first, second);
+            for _ in 0..200 * PAIRS {
+                if self.tally.seen(kind) >= PAIRS {
+                    break;
+                }
+                let case = cases[self.random.below(cases.len())];
+                let draw = |random: &mut Random, number: u8| {
+                    number_fault(random, &case.sheet, number, second > 4)
+                };
+                let Some((one, other)) = self.two_faults(first, second, draw) else {
+                    continue;
+                };
+                let mut bytes = number_bytes(&case.sheet);
+                one.apply(&mut bytes);
+                other.apply(&mut bytes);
+                let answer = self.call_write(&[kind], &bytes, 1_200, 9);
+                assert_eq!(refusal(answer), usize::from(first), "{one:?} {other:?}");
+            }
+        }
+        for first in numbers.into_iter().chain([17]) {
+            let kinds: Vec<KindId> = (first != 17)
+                .then(|| self.pair("writer", first, 17))
+                .into_iter()
+                .collect();
+            for _ in 0..PAIRS {
+                let case = cases[self.random.below(cases.len())];
+                let mut bytes = number_bytes(&case.sheet);
+                if first != 17 {
+                    number_fault(&mut self.random, &case.sheet, first, true).apply(&mut bytes);
+                }
+                let length = case.sheet.length() as u64;
+                let (room, place) = match self.random.below(6) {
+                    0 => (length - 1, 0),
+                    1 => (length + 10, 11),
+                    2 => (length, u64::MAX),
+                    3 => (length, u64::MAX - length + 1),
+                    4 => (length, length + self.random.bits() % 1_000),
+                    _ => (0, 0),
+                };
+                let answer = self.call_write(&kinds, &bytes, room as usize, place);
+                assert_eq!(refusal(answer), usize::from(first));
+            }
+        }
+    }
+
+    /// One of the calls that take a sheet, all else being in range.
+    fn any_sheet_call(&mut self, kinds: &[KindId], case: &Case, bytes: &[u8]) -> u64 {
+        match self.random.below(5) {
+            0 => self.call_sheet(kinds, bytes),
+            1 => self.call_recovery(kinds, bytes),
+            2 => self.call_decide(kinds, bytes, &plain_question(case)),
+            3 => self.call_read(kinds, bytes, NUMBER_BYTES),
+            _ => {
+                let n = case.sheet.n();
+                let call = plain_reach(case);
+                let start = expected::pairs(&case.measured, n);
+                self.call_reach(kinds, bytes, call, &start, 16 * n)
+            }
+        }
+    }
+
+    /// A reach with the faults of these numbers.
+    fn faulty_reach(&mut self, kinds: &[KindId], case: &Case, bytes: &[u8], faults: &[u8]) -> u64 {
+        let sheet = &case.sheet;
+        let n = sheet.n();
+        let mut call = plain_reach(case);
+        let mut start = expected::pairs(&case.measured, n);
+        let mut room = 16 * n;
+        for fault in faults {
+            match fault {
+                14 => {
+                    call.law = self.random.pick(&[1, 2, u32::MAX]);
+                    call.command = self.random.pick(&[
+                        sheet.commands.least - 1,
+                        sheet.commands.greatest + 1,
+                        i32::MIN,
+                        i32::MAX,
+                    ]);
+                }
+                15 => match self.random.below(3) {
+                    0 => {
+                        start.pop();
+                    }
+                    1 => start.extend([0; 8]),
+                    _ => {
+                        let at = 8 * self.random.below(n);
+                        let beyond = self.random.pick(&[1_000_001, i32::MAX]);
+                        start[at..at + 4].copy_from_slice(&beyond.to_be_bytes());
+                    }
+                },
+                16 => match self.random.below(3) {
+                    0 => call.ticks = self.random.pick(&[1_001, 65_536, u32::MAX]),
+                    1 => call.width = 0,
+                    _ => call.width = self.random.pick(&[1_001, 65_537, u32::MAX]),
+                },
+                _ => room = self.random.below(16 * n),
+            }
+        }
+        self.call_reach(kinds, bytes, call, &start, room)
+    }
+
+    /// Values at their bounds, which are still accepted.
+    fn bounds(&mut self) {
+        for (name, put) in BOUNDS {
+            let kind = self.tally.kind(format!("bound: {name}"), 200);
+            for _ in 0..PAIRS {
+                let times = times(&mut self.random, 12);
+                let mut case = model(&mut self.random, times, 4);
+                shape(&mut self.random, &mut case, 0);
+                put(&mut self.random, &mut case.sheet);
+                let (sheet, n) = (&case.sheet, case.sheet.n());
+                let bytes = sheet_bytes(sheet);
+                let command = pick_command(&mut self.random, sheet);
+                self.call_sheet(&[kind], &bytes);
+                self.call_read(&[], &bytes, NUMBER_BYTES);
+                self.call_write(&[], &number_bytes(sheet), bytes.len(), 0);
+                self.call_recovery(&[], &bytes);
+                let question = question_bytes(300, command, &case.measured, n);
+                self.call_decide(&[], &bytes, &question);
+                let call = ReachCall {
+                    command,
+                    ..plain_reach(&case)
+                };
+                let start = expected::pairs(&case.measured, n);
+                self.call_reach(&[], &bytes, call, &start, 16 * n);
+            }
+        }
+        // Questions and reaches at their bounds; boxes that reach the ends of all bands.
+        let ends = [
+            self.tally.kind("bound: allowance 1,000,000", 200),
+            self.tally
+                .kind("bound: measured sides -1,000,000 and 1,000,000", 200),
+            self.tally.kind("bound: reach of 1,000 ticks", 200),
+            self.tally.kind("bound: width 1,000", 200),
+        ];
+        for _ in 0..PAIRS {
+            let times = times(&mut self.random, 12);
+            let mut case = model(&mut self.random, times, 4);
+            shape(&mut self.random, &mut case, 0);
+            let n = case.sheet.n();
+            let bytes = sheet_bytes(&case.sheet);
+            let question = question_bytes(1_000_000, case.command, &case.measured, n);
+            self.call_decide(&[ends[0]], &bytes, &question);
+            for i in 0..n {
+                let far = [(-1_000_000, 1_000_000), (1_000_000, 1_000_000)];
+                let near = [(-1_000_000, -1_000_000), (-1_000_000, 0)];
+                let sides = [far, near].concat();
+                let (lower, upper) = self.random.pick(&sides);
+                case.measured.lower[i] = lower;
+                case.measured.upper[i] = upper;
+            }
+            let question = question_bytes(1_000_000, case.command, &case.measured, n);
+            self.call_decide(&[ends[1]], &bytes, &question);
+            let start = expected::pairs(&case.measured, n);
+            let mut call = plain_reach(&case);
+            call.ticks = 1_000;
+            call.width = self.random.spread(1, 1_000) as u32;
+            self.call_reach(&[ends[2]], &bytes, call, &start, 16 * n);
+            call.ticks = self.random.below(1_001) as u32;
+            call.width = 1_000;
+            self.call_reach(&[ends[3]], &bytes, call, &start, 16 * n);
+        }
+    }
+
+    /// Bytes changed at random, whatever comes of it.
+    fn damaged(&mut self) {
+        for _ in 0..DAMAGED {
+            let times = times(&mut self.random, 12);
+            let mut case = model(&mut self.random, times, 4);
+            shape(&mut self.random, &mut case, 0);
+            let sound = sheet_bytes(&case.sheet);
+            let mut bytes = sound.clone();
+            damage(&mut self.random, &mut bytes);
+            self.any_sheet_call(&[self.kinds.damaged_sheets], &case, &bytes);
+            let mut question = plain_question(&case);
+            damage(&mut self.random, &mut question);
+            self.call_decide(&[self.kinds.damaged_questions], &sound, &question);
+            let mut numbers = number_bytes(&case.sheet);
+            damage(&mut self.random, &mut numbers);
+            self.call_write(&[self.kinds.damaged_numbers], &numbers, 1_100, 3);
+        }
+    }
+}
+
+fn plain_question(case: &Case) -> Vec<u8> {
+    question_bytes(500, case.command, &case.measured, case.sheet.n())
+}
+
+fn plain_reach(case: &Case) -> ReachCall {
+    ReachCall {
+        ticks: 6,
+        width: 4,
+        law: 1,
+        command: case.command,
+    }
+}
+
+/// A part of the matching and its name.
+type Part = (&'static str, fn(&mut Matching));
+
+fn main() {
+    let mut matching = Matching::new();
+    let parts: [Part; 7] = [
+        ("values at their bounds", Matching::bounds),
+        ("pairs of faults", Matching::faults),
+        ("damaged bytes", Matching::damaged),
+        ("everyday sheets", Matching::everyday),
+        ("slow growth", Matching::slow),
+        ("many rounds", Matching::worst),
+        ("long times", Matching::long),
+    ];
+    for (name, part) in parts {
+        let start = Instant::now();
+        part(&mut matching);
+        println!("{name}: {:.1} s", start.elapsed().as_secs_f64());
+    }
+    std::process::exit(matching.tally.finish());
+}

@@ -1,0 +1,672 @@
+//! Runs the machine itself, kept and handed over as the archive answers, with random allowed
+//! changes and the worst ones; fails on a forbidden state or a missed return. With `--fault` a
+//! faulty guard stands in the archive's place and has to be found out; `--self-test` tries all.
+
+use matching::archive;
+use matching::generate::{everywhere, question_bytes, sheet_bytes};
+use matching::random::Random;
+use matching::tally::{hex, KindId, Tally};
+use second_guard::decision::{
+    check_recovery, decide_watched, read_question, trace_recovery, Faults, RecoveryCheck,
+};
+use second_guard::machine::{allowed_change, band_of, State, StateBox};
+use second_guard::reach::NoWatch;
+use second_guard::sheet::{self, Band, CommandRange, Row, Sheet, VARIABLES};
+use std::time::{Duration, Instant};
+
+/// A run without fault takes so many ticks in all.
+const TICKS: u64 = 12_000_000;
+/// Periods on one sheet.
+const PERIODS: usize = 1_000;
+/// A fault has to be found within this time.
+const PATIENCE: Duration = Duration::from_secs(60);
+
+/// Who answers the questions.
+#[derive(Clone, Copy)]
+enum Guard {
+    Archive,
+    Faulty(Faults),
+    AlwaysKeeps,
+}
+
+impl Guard {
+    /// The code of the answer, and its width.
+    fn answer(self, sheet: &Sheet, bytes: &[u8], question: &[u8]) -> (u64, u32) {
+        let packed = match self {
+            Guard::Archive => archive::decide(bytes, question),
+            Guard::Faulty(faults) => match read_question(sheet, question) {
+                Ok(question) => decide_watched(sheet, &question, faults, &mut NoWatch).pack(),
+                Err(_) => 3 << 48,
+            },
+            Guard::AlwaysKeeps => match read_question(sheet, question) {
+                Ok(_) => 1 << 32,
+                Err(_) => 3 << 48,
+            },
+        };
+        (packed >> 48, (packed >> 32) as u32 & 0xFFFF)
+    }
+
+    /// The sheet passes its recovery check.
+    fn passes(self, bytes: &[u8]) -> bool {
+        match self {
+            Guard::Archive => archive::recovery(bytes) >> 48 == 0,
+            _ => matches!(check_recovery(bytes), RecoveryCheck::Pass { .. }),
+        }
+    }
+}
+
+struct Kinds {
+    ticks: KindId,
+    forbidden: KindId,
+    returns: KindId,
+    sheets: KindId,
+    keeps: KindId,
+    keeps_refined: KindId,
+    keeps_outside: KindId,
+    finest: KindId,
+    spent: KindId,
+    refused: KindId,
+    no_question: KindId,
+    near_edge: KindId,
+    crossings: KindId,
+    beside: KindId,
+    outside: KindId,
+}
+
+impl Kinds {
+    fn new(tally: &mut Tally) -> Kinds {
+        Kinds {
+            forbidden: tally.kind("ticks without a forbidden state", 2_000_000),
+            returns: tally.kind("returns after alpha plain ticks behind a keep", 20_000),
+            ticks: tally.kind("ticks", 2_000_000),
+            sheets: tally.kind("sheets that pass", 100),
+            keeps: tally.kind("periods kept", 50_000),
+            keeps_refined: tally.kind("periods kept below the first width", 5_000),
+            keeps_outside: tally.kind("periods kept from outside the recovery box", 5_000),
+            finest: tally.kind("periods handed over: finest", 20_000),
+            spent: tally.kind("periods handed over: spent", 1_000),
+            refused: tally.kind("periods handed over: refused", 1_000),
+            no_question: tally.kind("periods without a question", 20_000),
+            near_edge: tally.kind("ticks within a cap of a band edge", 100_000),
+            crossings: tally.kind("ticks from one band into another", 10_000),
+            beside: tally.kind("ticks beside a forbidden box", 50_000),
+            outside: tally.kind("ticks outside the recovery box", 100_000),
+        }
+    }
+}
+
+/// A sheet whose check passes, and how it was found.
+struct Scene {
+    sheet: Sheet,
+    bytes: Vec<u8>,
+}
+
+fn clamp(value: i64, limit: i64) -> i32 {
+    value.clamp(-limit, limit) as i32
+}
+
+/// A machine that its plain law draws toward a center, with walls beside what the recovery
+/// check sweeps; nothing where the check does not pass.
+fn scene(random: &mut Random, guard: Guard) -> Option<Scene> {
+    let n = random.pick(&[1, 1, 2, 2, 3, 4]);
+    let v = random.below(n);
+    let strongest = random.spread(5, 2_000) as i32;
+    let mut sheet = Sheet {
+        variables: n as i32,
+        band_variable: v as i32,
+        delta: random.int(1, 12),
+        alpha: random.int(1, 25),
+        rho: random.int(1, 20),
+        commands: CommandRange {
+            least: -strongest,
+            greatest: strongest,
+        },
+        ..Sheet::default()
+    };
+    let mut center = [0; VARIABLES];
+    let mut radius = [0; VARIABLES];
+    let mut pull = [0; VARIABLES];
+    let mut divisor = [0; VARIABLES];
+    for i in 0..n {
+        let cap = random.spread(1, 300);
+        sheet.caps[i] = cap as i32;
+        if random.percent(40) {
+            center[i] = random.range(-20_000, 20_000);
+        }
+        radius[i] = cap * random.spread(3, 50);
+        // At the radius the plain law changes by `strength` tenths of the cap.
+        let strength = random.range(6, 30);
+        pull[i] = random.spread(10, 1_000);
+        divisor[i] = 10 * pull[i] * radius[i] / (cap * strength);
+        if divisor[i] > 4_096 {
+            pull[i] = (4_096 * cap * strength / (10 * radius[i])).clamp(1, 1_000);
+            divisor[i] = 4_096;
+        }
+        divisor[i] = divisor[i].max(1);
+        sheet.recovery.lower[i] = center[i] - radius[i];
+        sheet.recovery.upper[i] = center[i] + radius[i];
+    }
+
+    let mut edges = vec![i64::from(sheet::FIRST_EDGE)];
+    for _ in 1..random.pick(&[1, 2, 3, 4, 8]) {
+        // Some edges near the sides of the recovery box, where the machine is driven to.
+        let cap = i64::from(sheet.caps[v]);
+        let edge = if random.percent(50) {
+            let side = random.pick(&[-radius[v], radius[v]]);
+            center[v] + side + random.range(-4 * cap, 4 * cap)
+        } else {
+            center[v] + random.range(-radius[v], radius[v])
+        };
+        if !edges.contains(&edge) {
+            edges.push(edge);
+        }
+    }
+    edges.sort_unstable();
+    sheet.band_count = edges.len() as i32;
+
+    let mut base = [Row::default(); VARIABLES];
+    for i in 0..n {
+        let cap = i64::from(sheet.caps[i]);
+        let row = &mut base[i];
+        row.q = divisor[i] as i32;
+        row.a[i] = -pull[i] as i32;
+        let mut offset = pull[i] * center[i];
+        for j in (0..n).filter(|&j| j != i) {
+            if random.percent(60) {
+                let most = pull[i] * radius[i] / (3 * n as i64 * radius[j]);
+                let a = random.range(-most, most).clamp(-1_000, 1_000);
+                row.a[j] = a as i32;
+                offset -= a * center[j];
+            }
+        }
+        row.c = clamp(offset, 100_000_000);
+        let push = divisor[i] * cap * random.range(10, 40) / (10 * i64::from(strongest));
+        row.b = clamp(random.pick(&[push, push, -push, 0]), 1_000);
+        if random.percent(40) {
+            row.d = random.spread(1, (pull[i] * radius[i] / 12).max(1)) as i32;
+        }
+    }
+    for (k, &edge) in edges.iter().enumerate() {
+        let mut band = Band {
+            edge: edge as i32,
+            rows: base,
+            ..Band::default()
+        };
+        let soft = (strongest / 20).max(1);
+        let middle = random.int(-soft, soft);
+        let room = random.pick(&[0, 0, soft]);
+        band.safety = CommandRange {
+            least: (middle - room).max(-strongest),
+            greatest: (middle + room).min(strongest),
+        };
+        for (i, row) in band.rows[..n].iter_mut().enumerate() {
+            if random.percent(50) {
+                let shift = (pull[i] * radius[i] / 12).max(1);
+                row.c = clamp(i64::from(row.c) + random.range(-shift, shift), 100_000_000);
+            }
+            if random.percent(30) {
+                row.b = -row.b;
+            }
+        }
+        sheet.bands[k] = band;
+    }
+
+    // No wall yet: what does the recovery check sweep?
+    sheet.unsafe_count = 1;
+    sheet.unsafe_boxes[0] = everywhere(n);
+    sheet.unsafe_boxes[0].lower[0] = sheet::SIDE_LIMIT;
+    let RecoveryCheck::Pass { width, .. } = check_recovery(&sheet_bytes(&sheet)) else {
+        return None;
+    };
+    let swept = trace_recovery(&sheet, width)
+        .steps
+        .iter()
+        .fold(sheet.recovery, |all, step| all.hull(&step.swept));
+    for j in 0..random.pick(&[1, 2, 4, 8]) {
+        let i = random.below(n);
+        let cap = i64::from(sheet.caps[i]);
+        let gap = random.pick(&[1, 1, 2, cap, 3 * cap]);
+        let thick = random.pick(&[0, cap / 2, cap, 2 * cap, 2 * cap, 1_000_000]);
+        let mut wall = everywhere(n);
+        if random.percent(50) {
+            wall.lower[i] = swept.upper[i] + gap;
+            wall.upper[i] = wall.lower[i] + thick;
+        } else {
+            wall.upper[i] = swept.lower[i] - gap;
+            wall.lower[i] = wall.upper[i] - thick;
+        }
+        // Some walls have an end in another variable.
+        let other = random.below(n);
+        if other != i && random.percent(40) {
+            wall.lower[other] = center[other] - random.range(0, 2 * radius[other]);
+            wall.upper[other] = center[other] + random.range(0, 2 * radius[other]);
+        }
+        sheet.unsafe_boxes[j] = wall;
+        sheet.unsafe_count = j as i32 + 1;
+    }
+    let bytes = sheet_bytes(&sheet);
+    guard.passes(&bytes).then_some(Scene { sheet, bytes })
+}
+
+/// How the machine takes its changes, and how the plain law picks its command.
+#[derive(Clone, Copy)]
+enum Adversary {
+    /// Any allowed change.
+    Random,
+    /// Always toward one side in each variable.
+    Pushing([bool; VARIABLES]),
+    /// Toward the nearest side of a forbidden box.
+    Toward(usize),
+    /// Away from the recovery box's middle.
+    Outward,
+    /// An end of the range, either one.
+    Ends,
+}
+
+struct Run<'a> {
+    guard: Guard,
+    random: &'a mut Random,
+    tally: &'a mut Tally,
+    kinds: &'a Kinds,
+    scene: &'a Scene,
+    state: State,
+    adversary: Adversary,
+    /// The plain ticks since the last kept period, where one was.
+    behind_keep: Option<u32>,
+}
+
+impl Run<'_> {
+    /// Whether the adversary wants variable i to grow.
+    fn upward(&mut self, i: usize) -> bool {
+        let sheet = &self.scene.sheet;
+        match self.adversary {
+            Adversary::Pushing(up) => up[i],
+            Adversary::Toward(j) => {
+                let target = &sheet.unsafe_boxes[j];
+                if self.state[i] < target.lower[i] {
+                    true
+                } else if self.state[i] > target.upper[i] {
+                    false
+                } else {
+                    self.random.percent(50)
+                }
+            }
+            Adversary::Outward => {
+                let middle = (sheet.recovery.lower[i] + sheet.recovery.upper[i]) / 2;
+                self.state[i] >= middle
+            }
+            Adversary::Random | Adversary::Ends => self.random.percent(50),
+        }
+    }
+
+    /// The variable that a command is picked for: where a target is furthest, in caps.
+    fn driven_variable(&mut self) -> usize {
+        let sheet = &self.scene.sheet;
+        let n = sheet.n();
+        let any = self.random.below(n);
+        let Adversary::Toward(j) = self.adversary else {
+            return any;
+        };
+        let target = &sheet.unsafe_boxes[j];
+        let distance = |i: usize| {
+            let below = target.lower[i] - self.state[i];
+            let above = self.state[i] - target.upper[i];
+            below.max(above).max(0) / i64::from(sheet.caps[i])
+        };
+        (0..n)
+            .max_by_key(|&i| distance(i))
+            .filter(|&i| distance(i) > 0)
+            .unwrap_or(any)
+    }
+
+    /// One tick; false where it ends in a forbidden state or misses a return.
+    fn tick(&mut self, kept: Option<i32>) -> bool {
+        let sheet = &self.scene.sheet;
+        let n = sheet.n();
+        let v = sheet.band_variable as usize;
+        let band = band_of(sheet, self.state[v]).expect("the state has a band");
+        let command = match kept {
+            Some(command) => command,
+            None => {
+                let CommandRange { least, greatest } = sheet.bands[band].safety;
+                match self.adversary {
+                    Adversary::Random => self.random.int(least, greatest),
+                    _ => {
+                        let i = self.random.below(n);
+                        let raises = self.upward(i) == (sheet.bands[band].rows[i].b >= 0);
+                        if raises {
+                            greatest
+                        } else {
+                            least
+                        }
+                    }
+                }
+            }
+        };
+        let mut next = self.state;
+        for (i, next) in next.iter_mut().enumerate().take(n) {
+            let (least, greatest) =
+                allowed_change(sheet, &self.state, command, i).expect("the state has a band");
+            *next += if matches!(self.adversary, Adversary::Random) {
+                self.random.range(least, greatest)
+            } else if self.upward(i) {
+                greatest
+            } else {
+                least
+            };
+        }
+        self.state = next;
+        self.look_around(band);
+        let safe = !sheet.unsafe_boxes().iter().any(|u| u.holds(&next));
+        let (scene, state) = (self.scene, self.state);
+        self.tally.check(self.kinds.forbidden, safe, || {
+            format!("state {state:?} on sheet {}", hex(&scene.bytes))
+        });
+        if kept.is_some() {
+            return safe;
+        }
+        if let Some(ticks) = &mut self.behind_keep {
+            *ticks += 1;
+            if *ticks == sheet.alpha as u32 {
+                self.behind_keep = None;
+                let returned = sheet.recovery.holds(&next);
+                self.tally.check(self.kinds.returns, returned, || {
+                    format!("state {state:?} on sheet {}", hex(&scene.bytes))
+                });
+                return safe && returned;
+            }
+        }
+        safe
+    }
+
+    /// Counts where the state is.
+    fn look_around(&mut self, band_before: usize) {
+        let sheet = &self.scene.sheet;
+        let n = sheet.n();
+        let v = sheet.band_variable as usize;
+        let (state, cap) = (&self.state, i64::from(sheet.caps[v]));
+        self.tally.saw(self.kinds.ticks);
+        let near_edge = sheet.bands()[1..]
+            .iter()
+            .any(|band| (state[v] - i64::from(band.edge)).abs() <= cap);
+        if near_edge {
+            self.tally.saw(self.kinds.near_edge);
+        }
+        if band_of(sheet, state[v]) != Some(band_before) {
+            self.tally.saw(self.kinds.crossings);
+        }
+        let beside = sheet.unsafe_boxes().iter().any(|u| {
+            (0..n).all(|i| {
+                let cap = i64::from(sheet.caps[i]);
+                u.lower[i] - cap <= state[i] && state[i] <= u.upper[i] + cap
+            })
+        });
+        if beside {
+            self.tally.saw(self.kinds.beside);
+        }
+        if !sheet.recovery.holds(state) {
+            self.tally.saw(self.kinds.outside);
+        }
+    }
+
+    /// A measured box that holds the state.
+    fn measured(&mut self) -> StateBox {
+        let sheet = &self.scene.sheet;
+        let mut measured = StateBox {
+            lower: self.state,
+            upper: self.state,
+        };
+        for i in 0..sheet.n() {
+            let cap = i64::from(sheet.caps[i]);
+            let most = self.random.pick(&[0, 0, 1, cap, 2 * cap]);
+            measured.lower[i] -= self.random.range(0, most);
+            measured.upper[i] += self.random.range(0, most);
+        }
+        measured
+    }
+
+    /// Asks for ever weaker commands until one is kept; the last question is the period's.
+    fn ask(&mut self) -> Option<i32> {
+        let scene = self.scene;
+        let sheet = &scene.sheet;
+        let n = sheet.n();
+        let CommandRange { least, greatest } = sheet.commands;
+        let measured = self.measured();
+        let allowance = if self.random.percent(90) {
+            1_000_000
+        } else {
+            self.random.spread(1, 1_000) as u32
+        };
+        let mut command = match self.random.below(4) {
+            0 => self.random.int(least, greatest),
+            turn => {
+                let band = band_of(sheet, self.state[sheet.band_variable as usize]);
+                let i = self.driven_variable();
+                let b = sheet.bands[band.expect("the state has a band")].rows[i].b;
+                let strong = if self.upward(i) == (b >= 0) {
+                    greatest
+                } else {
+                    least
+                };
+                strong / (turn as i32 + 1) * 2
+            }
+        };
+        let mut tries = self.random.pick(&[1, 6, 12]);
+        loop {
+            let mut question = question_bytes(allowance, command, &measured, n);
+            if self.random.percent(2) {
+                let at = self.random.below(question.len());
+                question[at] ^= 0x80;
+                // A damaged question may still be read, and then it is not about this state.
+                match read_question(sheet, &question) {
+                    Ok(other) if !other.measured.holds(&self.state) => continue,
+                    Ok(other) => command = other.command,
+                    Err(_) => {}
+                }
+            }
+            let (code, width) = self.guard.answer(sheet, &scene.bytes, &question);
+            tries -= 1;
+            if code != 0 && tries > 0 {
+                command = command * 3 / 4;
+                continue;
+            }
+            let kind = match code {
+                0 => self.kinds.keeps,
+                1 => self.kinds.finest,
+                2 => self.kinds.spent,
+                _ => self.kinds.refused,
+            };
+            self.tally.saw(kind);
+            if code != 0 {
+                return None;
+            }
+            if width < sheet.delta.max(sheet.alpha) as u32 {
+                self.tally.saw(self.kinds.keeps_refined);
+            }
+            if !sheet.recovery.holds(&self.state) {
+                self.tally.saw(self.kinds.keeps_outside);
+            }
+            return Some(command);
+        }
+    }
+
+    fn pick_adversary(&mut self) {
+        let boxes = self.scene.sheet.unsafe_boxes().len();
+        self.adversary = match self.random.below(12) {
+            0 => Adversary::Random,
+            1 => Adversary::Ends,
+            2 | 3 => {
+                let mut up = [false; VARIABLES];
+                for side in &mut up {
+                    *side = self.random.percent(50);
+                }
+                Adversary::Pushing(up)
+            }
+            4 => Adversary::Outward,
+            _ => Adversary::Toward(self.random.below(boxes)),
+        };
+    }
+
+    /// The periods of one run; false where it failed.
+    fn periods(&mut self) -> bool {
+        let sheet = &self.scene.sheet;
+        let mut quiet = 0;
+        for _ in 0..PERIODS {
+            if self.random.percent(2) {
+                self.pick_adversary();
+            }
+            let kept = if quiet > 0 || self.random.percent(3) {
+                quiet = (quiet - 1).max(0);
+                self.tally.saw(self.kinds.no_question);
+                None
+            } else {
+                self.ask()
+            };
+            for _ in 0..sheet.delta {
+                if !self.tick(kept) {
+                    return false;
+                }
+            }
+            if kept.is_some() {
+                self.behind_keep = Some(0);
+                if self.random.percent(12) {
+                    // Enough periods without a question for a return.
+                    quiet = (sheet.alpha + sheet.delta - 1) / sheet.delta;
+                }
+            }
+        }
+        true
+    }
+}
+
+/// A first state in the recovery box, often in a corner of it.
+fn first_state(random: &mut Random, sheet: &Sheet) -> State {
+    let mut state = [0; VARIABLES];
+    for (i, x) in state.iter_mut().enumerate().take(sheet.n()) {
+        let (lower, upper) = (sheet.recovery.lower[i], sheet.recovery.upper[i]);
+        *x = match random.below(3) {
+            0 => lower,
+            1 => upper,
+            _ => random.range(lower, upper),
+        };
+    }
+    state
+}
+
+/// Runs sheet after sheet; the answer is whether all went well.
+fn simulate(guard: Guard, ticks: u64, patience: Duration, tally: &mut Tally) -> bool {
+    let kinds = Kinds::new(tally);
+    let mut random = Random::new(11);
+    let start = Instant::now();
+    // A guard under which hardly any sheet passes comes to an end, too.
+    let mut drawn = 0_u64;
+    while tally.seen(kinds.ticks) < ticks && start.elapsed() < patience {
+        drawn += 1;
+        if drawn > 10_000 && tally.seen(kinds.sheets) < drawn / 100 {
+            break;
+        }
+        let Some(scene) = scene(&mut random, guard) else {
+            continue;
+        };
+        tally.saw(kinds.sheets);
+        let state = first_state(&mut random, &scene.sheet);
+        let mut run = Run {
+            guard,
+            random: &mut random,
+            tally,
+            kinds: &kinds,
+            scene: &scene,
+            state,
+            adversary: Adversary::Random,
+            behind_keep: None,
+        };
+        run.pick_adversary();
+        if !run.periods() {
+            return false;
+        }
+    }
+    true
+}
+
+/// The faulty guards that have to be found out.
+fn faults() -> [(&'static str, Guard); 3] {
+    let none = Faults::default();
+    [
+        (
+            "swept",
+            Guard::Faulty(Faults {
+                end_boxes_only: true,
+                ..none
+            }),
+        ),
+        (
+            "measured",
+            Guard::Faulty(Faults {
+                baseline_from_measured: true,
+                ..none
+            }),
+        ),
+        ("keeps", Guard::AlwaysKeeps),
+    ]
+}
+
+/// Each faulty guard is found out, and the second guard without faults is not.
+fn self_test() -> i32 {
+    let mut failed = 0;
+    let mut passed = 0;
+    let mut verdict = |name: &str, right: bool, seconds: f64| {
+        println!(
+            "{name}: {} in {seconds:.1} s",
+            if right { "ok" } else { "FAILED" }
+        );
+        if right {
+            passed += 1;
+        } else {
+            failed += 1;
+        }
+    };
+    for (name, guard) in faults() {
+        let start = Instant::now();
+        let well = simulate(guard, u64::MAX, PATIENCE, &mut Tally::new());
+        let found = !well;
+        verdict(
+            &format!("fault {name} is found"),
+            found,
+            start.elapsed().as_secs_f64(),
+        );
+    }
+    let start = Instant::now();
+    let sound = Guard::Faulty(Faults::default());
+    let well = simulate(sound, TICKS / 4, Duration::MAX, &mut Tally::new());
+    verdict(
+        "nothing is found without a fault",
+        well,
+        start.elapsed().as_secs_f64(),
+    );
+    println!("{passed} passed, {failed} failed");
+    i32::from(failed > 0)
+}
+
+fn main() {
+    let arguments: Vec<String> = std::env::args().skip(1).collect();
+    let words: Vec<&str> = arguments.iter().map(String::as_str).collect();
+    let (guard, ticks, patience) = match words[..] {
+        [] => (Guard::Archive, TICKS, Duration::MAX),
+        ["--self-test"] => std::process::exit(self_test()),
+        ["--fault", name] => match faults().into_iter().find(|fault| fault.0 == name) {
+            Some((_, guard)) => (guard, u64::MAX, PATIENCE),
+            None => usage(),
+        },
+        _ => usage(),
+    };
+    let mut tally = Tally::new();
+    let start = Instant::now();
+    simulate(guard, ticks, patience, &mut tally);
+    println!("{:.1} s", start.elapsed().as_secs_f64());
+    std::process::exit(tally.finish());
+}
+
+fn usage() -> ! {
+    eprintln!("simulator [--fault swept|measured|keeps | --self-test]");
+    std::process::exit(2);
+}

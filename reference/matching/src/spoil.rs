@@ -1,0 +1,367 @@
+//! Faults put into the bytes of sheets, questions and numbers, one for each refusal.
+//! A fault's rank says which of two is found first.
+
+use crate::random::Random;
+use second_guard::sheet::Sheet;
+
+/// A change of bytes that is refused.
+#[derive(Clone, Debug)]
+pub struct Fault {
+    pub number: u8,
+    pub rank: usize,
+    at: usize,
+    bytes: Vec<u8>,
+}
+
+impl Fault {
+    fn new(number: u8, rank: usize, at: usize, bytes: &[u8]) -> Fault {
+        Fault {
+            number,
+            rank,
+            at,
+            bytes: bytes.to_vec(),
+        }
+    }
+
+    /// Puts the fault into the bytes. One without a place adds its bytes at the end.
+    pub fn apply(&self, bytes: &mut Vec<u8>) {
+        match self.at {
+            usize::MAX => bytes.extend_from_slice(&self.bytes),
+            at => bytes[at..at + self.bytes.len()].copy_from_slice(&self.bytes),
+        }
+    }
+
+    /// The two change different bytes.
+    pub fn apart(&self, other: &Fault) -> bool {
+        self.at == usize::MAX
+            || other.at == usize::MAX
+            || self.at + self.bytes.len() <= other.at
+            || other.at + other.bytes.len() <= self.at
+    }
+}
+
+/// Ranks of what comes before the file's order.
+const FILE_ORDER: usize = 100;
+
+fn not_mark(random: &mut Random, mark: &[u8; 2]) -> [u8; 2] {
+    let mut wrong = *mark;
+    let place = random.below(2);
+    wrong[place] = wrong[place].wrapping_add(random.int(1, 255) as u8);
+    if random.percent(30) {
+        wrong = random.pick(&[*b"SH", *b"BD", *b"NG", *b"RC", *b"QS", [0, 0]]);
+        if wrong == *mark {
+            wrong = *b"Sh";
+        }
+    }
+    wrong
+}
+
+fn beyond(random: &mut Random, limit: i64) -> i32 {
+    let above = random.pick(&[limit + 1, limit + 1, limit + 1_000, i64::from(i32::MAX)]);
+    let value = if random.percent(50) {
+        above
+    } else {
+        (-above).max(i64::from(i32::MIN))
+    };
+    value as i32
+}
+
+/// Where the records of a sheet begin.
+struct Layout {
+    n: usize,
+    bands: usize,
+    unsafe_boxes: usize,
+}
+
+impl Layout {
+    fn of(sheet: &Sheet) -> Layout {
+        Layout {
+            n: sheet.n(),
+            bands: sheet.band_count as usize,
+            unsafe_boxes: sheet.unsafe_count as usize,
+        }
+    }
+
+    fn band(&self, k: usize) -> usize {
+        20 + 2 * self.n + k * (14 + self.n * (2 * self.n + 12))
+    }
+
+    /// The unsafe boxes, and after them the recovery box.
+    fn sides(&self, j: usize) -> usize {
+        self.band(self.bands) + j * (2 + 8 * self.n)
+    }
+}
+
+/// A fault for this refusal (1 to 11) in a sheet's bytes. With `layout_kept` the counts keep
+/// their values, so that the rest of the bytes means what it meant.
+pub fn sheet_fault(random: &mut Random, sheet: &Sheet, number: u8, layout_kept: bool) -> Fault {
+    let layout = Layout::of(sheet);
+    let n = layout.n;
+    let any_band = random.below(layout.bands);
+    let band = layout.band(any_band);
+    let any_sides = random.below(layout.unsafe_boxes + 1);
+    let sides = layout.sides(any_sides);
+    let is_recovery = any_sides == layout.unsafe_boxes;
+    let int = |value: i32| value.to_be_bytes();
+    let in_file = |number, at: usize, bytes: &[u8]| Fault::new(number, FILE_ORDER + at, at, bytes);
+    match number {
+        1 => Fault::new(1, 1, 0, &not_mark(random, b"SH")),
+        2 => {
+            let (at, value) = if layout_kept {
+                (5, random.int(n as i32, 255))
+            } else {
+                random.pick(&[
+                    (2, 0),
+                    (2, 5),
+                    (2, 255),
+                    (3, 0),
+                    (3, 9),
+                    (3, 128),
+                    (4, 0),
+                    (4, 9),
+                    (4, 200),
+                    (5, n as i32),
+                    (5, 255),
+                ])
+            };
+            Fault::new(2, 2, at, &[value as u8])
+        }
+        3 => {
+            let (at, value): (usize, u16) = match random.below(6) {
+                0 => (6, 0),
+                1 => (8, 0),
+                2 => (10, random.pick(&[0, 1_001, 65_535])),
+                3 => (6, random.pick(&[1_000, 1_001, 65_535])),
+                // Just one tick too many in all.
+                4 => (6, (1_001 - sheet.alpha) as u16),
+                _ => (8, (1_001 - sheet.delta) as u16),
+            };
+            Fault::new(3, 3, at, &value.to_be_bytes())
+        }
+        4 => {
+            let (at, value) = match random.below(4) {
+                0 => (12, random.pick(&[-10_001, i32::MIN])),
+                1 => (16, random.pick(&[10_001, i32::MAX])),
+                2 => (12, sheet.commands.greatest + 1),
+                _ => (16, sheet.commands.least - 1),
+            };
+            Fault::new(4, 4, at, &int(value))
+        }
+        5 => {
+            let mut more = vec![0; random.pick(&[1, 1, 2, 14, 40])];
+            random.fill(&mut more);
+            Fault::new(5, 5, usize::MAX, &more)
+        }
+        6 => {
+            let cap: u16 = random.pick(&[0, 1_001, 32_768, 65_535]);
+            let i = random.below(n);
+            Fault::new(6, 6 + i, 20 + 2 * i, &cap.to_be_bytes())
+        }
+        7 if random.percent(50) => in_file(7, band, &not_mark(random, b"BD")),
+        7 => {
+            let mark = if is_recovery { b"RC" } else { b"NG" };
+            in_file(7, sides, &not_mark(random, mark))
+        }
+        8 => {
+            let edge = if any_band == 0 {
+                random.pick(&[-1_999_999, -2_000_001, 0, i32::MIN])
+            } else {
+                let last = sheet.bands[any_band - 1].edge;
+                random.pick(&[2_000_001, i32::MAX, last, last, last - 1])
+            };
+            in_file(8, band + 2, &int(edge))
+        }
+        9 => {
+            let safety = sheet.bands[any_band].safety;
+            let (at, value) = match random.below(4) {
+                0 => (6, sheet.commands.least - 1),
+                1 => (10, sheet.commands.greatest + 1),
+                2 => (6, safety.greatest + 1),
+                _ => (10, safety.least - 1),
+            };
+            in_file(9, band + at, &int(value))
+        }
+        10 => {
+            let row = band + 14 + random.below(n) * (2 * n + 12);
+            let (b, c) = (row + 2 * n, row + 2 * n + 2);
+            match random.below(5) {
+                0 | 1 => {
+                    let coefficient: i16 = random.pick(&[1_001, -1_001, i16::MAX, i16::MIN]);
+                    let at = row + 2 * random.below(n + 1);
+                    debug_assert!(at <= b);
+                    in_file(10, at, &coefficient.to_be_bytes())
+                }
+                2 => in_file(10, c, &int(beyond(random, 100_000_000))),
+                3 => {
+                    let d = random.pick(&[-1, 100_000_001, i32::MIN, i32::MAX]);
+                    in_file(10, c + 4, &int(d))
+                }
+                _ => {
+                    let q: u16 = random.pick(&[0, 4_097, 65_535]);
+                    in_file(10, c + 8, &q.to_be_bytes())
+                }
+            }
+        }
+        11 => {
+            let i = random.below(n);
+            let pair = sides + 2 + 8 * i;
+            let (values, limit) = if is_recovery {
+                (&sheet.recovery, 1_000_000)
+            } else {
+                (&sheet.unsafe_boxes[any_sides], 2_000_000)
+            };
+            match random.below(4) {
+                0 => in_file(11, pair, &int(beyond(random, limit))),
+                1 => in_file(11, pair + 4, &int(beyond(random, limit))),
+                2 => in_file(11, pair, &int(values.upper[i] as i32 + 1)),
+                _ => in_file(11, pair + 4, &int(values.lower[i] as i32 - 1)),
+            }
+        }
+        _ => unreachable!("not a refusal of a sheet"),
+    }
+}
+
+/// A fault for this refusal (12 to 15) in a question's bytes.
+pub fn question_fault(random: &mut Random, sheet: &Sheet, number: u8) -> Fault {
+    let n = sheet.n();
+    let rank = usize::from(number);
+    let int = |value: i32| value.to_be_bytes();
+    match number {
+        12 if random.percent(50) => Fault::new(12, rank, 0, &not_mark(random, b"QS")),
+        12 => Fault::new(12, rank, usize::MAX, &vec![0; random.pick(&[1, 8, 18])]),
+        13 => {
+            let allowance: u32 = random.pick(&[1_000_001, 2_000_000, u32::MAX, 1 << 31]);
+            Fault::new(13, rank, 2, &allowance.to_be_bytes())
+        }
+        14 => {
+            let command = random.pick(&[
+                sheet.commands.least - 1,
+                sheet.commands.greatest + 1,
+                i32::MIN,
+                i32::MAX,
+            ]);
+            Fault::new(14, rank, 6, &int(command))
+        }
+        15 => {
+            let at = 10 + 8 * random.below(n);
+            if random.percent(30) {
+                // Lower above upper.
+                let mut pair = int(5).to_vec();
+                pair.extend(int(4));
+                Fault::new(15, rank, at, &pair)
+            } else {
+                let at = at + random.pick(&[0, 4]);
+                Fault::new(15, rank, at, &int(beyond(random, 1_000_000)))
+            }
+        }
+        _ => unreachable!("not a refusal of a question"),
+    }
+}
+
+/// A fault for this refusal (2 to 11 without 5 and 7) in the numbers of a sheet, as bytes.
+pub fn number_fault(random: &mut Random, sheet: &Sheet, number: u8, layout_kept: bool) -> Fault {
+    let n = sheet.n();
+    let any_band = random.below(sheet.band_count as usize);
+    let band = 13 + 35 * any_band;
+    let boxes = sheet.unsafe_count as usize;
+    let any_box = random.below(boxes + 1);
+    let is_recovery = any_box == boxes;
+    // The recovery box comes last in the file and before the unsafe boxes in the slots.
+    let (sides, sides_rank) = if is_recovery {
+        (293, 9_000)
+    } else {
+        (301 + 8 * any_box, 1_000 + 8 * any_box)
+    };
+    let at_slot = |rank: usize, slot: usize, value: i32| {
+        Fault::new(number, rank, 4 * slot, &value.to_be_bytes())
+    };
+    match number {
+        2 if layout_kept => {
+            let variable = random.pick(&[-1, n as i32, 256, i32::MAX, i32::MIN]);
+            at_slot(2, 3, variable)
+        }
+        2 => {
+            let slot = random.below(4);
+            let value = random.pick(&[-1, 9, 256, 257, i32::MIN, i32::MAX]);
+            at_slot(2, slot, value)
+        }
+        3 => {
+            let slot = random.int(4, 6) as usize;
+            let value = random.pick(&[0, -1, 1_001, 65_537, i32::MAX, i32::MIN]);
+            at_slot(3, slot, value)
+        }
+        4 => match random.below(3) {
+            0 => at_slot(4, 7, random.pick(&[-10_001, i32::MIN])),
+            1 => at_slot(4, 8, random.pick(&[10_001, i32::MAX])),
+            _ => at_slot(4, 8, sheet.commands.least - 1),
+        },
+        6 => {
+            let cap = random.pick(&[0, -1, 1_001, 65_537, i32::MIN]);
+            let i = random.below(n);
+            at_slot(6 + i, 9 + i, cap)
+        }
+        8 => {
+            let edge = if any_band == 0 {
+                random.pick(&[-1_999_999, -2_000_001, 0])
+            } else {
+                let last = sheet.bands[any_band - 1].edge;
+                random.pick(&[2_000_001, last, last - 1, i32::MAX])
+            };
+            at_slot(FILE_ORDER + band, band, edge)
+        }
+        9 => {
+            let (slot, value) = match random.below(3) {
+                0 => (band + 1, sheet.commands.least - 1),
+                1 => (band + 2, sheet.commands.greatest + 1),
+                _ => (band + 1, sheet.bands[any_band].safety.greatest + 1),
+            };
+            at_slot(FILE_ORDER + band + 1, slot, value)
+        }
+        10 => {
+            let row = band + 3 + 8 * random.below(n);
+            let (slot, value) = match random.below(5) {
+                0 => (
+                    row + random.below(n),
+                    random.pick(&[1_001, -1_001, 65_536, i32::MIN]),
+                ),
+                1 => (row + 4, random.pick(&[1_001, -1_001, 70_000])),
+                2 => (row + 5, beyond(random, 100_000_000)),
+                3 => (row + 6, random.pick(&[-1, 100_000_001])),
+                _ => (row + 7, random.pick(&[0, -1, 4_097, 65_537])),
+            };
+            at_slot(FILE_ORDER + slot, slot, value)
+        }
+        11 => {
+            let i = random.below(n);
+            let (values, limit) = if is_recovery {
+                (&sheet.recovery, 1_000_000)
+            } else {
+                (&sheet.unsafe_boxes[any_box], 2_000_000)
+            };
+            let (slot, value) = match random.below(4) {
+                0 => (i, beyond(random, limit)),
+                1 => (4 + i, beyond(random, limit)),
+                2 => (i, values.upper[i] as i32 + 1),
+                _ => (4 + i, values.lower[i] as i32 - 1),
+            };
+            at_slot(sides_rank, sides + slot, value)
+        }
+        _ => unreachable!("not a refusal of the writer"),
+    }
+}
+
+/// Changes some bytes at random.
+pub fn damage(random: &mut Random, bytes: &mut [u8]) {
+    for _ in 0..random.pick(&[1, 1, 1, 2, 4]) {
+        if bytes.is_empty() {
+            return;
+        }
+        let at = random.below(bytes.len());
+        bytes[at] = match random.below(4) {
+            0 => bytes[at] ^ (1 << random.below(8)),
+            1 => random.pick(&[0, 1, 127, 128, 255]),
+            2 => bytes[at].wrapping_add(random.pick(&[1, 255])),
+            _ => random.bits() as u8,
+        };
+    }
+}
