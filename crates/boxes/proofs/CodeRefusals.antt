@@ -88,7 +88,7 @@ module _ (n : ℕ) (B : List ℤ) where
   sides-stop i h e = rw (all-stop n (sideIn B) i h e) refl
 
   -- what no variable has is 0
-  sides-near : sidesRefusal n B ≡ 0 → Sides 1000000 (trim n B)
+  pub sides-near : sidesRefusal n B ≡ 0 → Sides 1000000 (trim n B)
   unfolding trim
   sides-near e = sides-bound 1000000 n (lo B) (hi B) (λ i h. near i h .0) (λ i h. near i h .1)
     where
@@ -98,15 +98,15 @@ module _ (n : ℕ) (B : List ℤ) where
 -- ---- the first of them
 
 -- a is the code's refusal, r the definition's
-or-stop : (r s : ℕ) {a : ℕ} → a ≡ r → (a ≡ 0 → ⊥) → a ≡ orNext r s
+pub or-stop : (r s : ℕ) {a : ℕ} → a ≡ r → (a ≡ 0 → ⊥) → a ≡ orNext r s
 or-stop zero s p n = absurd (n p)
 or-stop (suc r) s p n = p
 
-or-go : (r s : ℕ) {a : ℕ} → a ≡ r → a ≡ 0 → s ≡ orNext r s
+pub or-go : (r s : ℕ) {a : ℕ} → a ≡ r → a ≡ 0 → s ≡ orNext r s
 or-go zero s p e = refl
 or-go (suc r) s p e = absurd (omega arith)
 
-or-none : (r s : ℕ) → orNext r s ≡ 0 → (r ≡ 0) × (s ≡ 0)
+pub or-none : (r s : ℕ) → orNext r s ≡ 0 → (r ≡ 0) × (s ≡ 0)
 or-none zero s e = (refl, e)
 or-none (suc r) s e = absurd (omega arith)
 

@@ -1,6 +1,6 @@
 -- The rounds of a decision and of a recovery check: never past the allowance, and at most 370,000, so that an allowance of 730,000 is never spent. Their
 -- widths, and the parts of the packed answer. Assumes nothing.
-use mathlib.Core.Path.{_≡_, refl, subst}
+use mathlib.Core.Path.{_≡_, refl, sym, subst}
 use mathlib.Core.Bool.{Bool, true, false, cond, _&&_}
 use mathlib.Core.List.{List, [], _∷_}
 use Prim.Native.Nat.{ℕ, zero, suc, _+_, _*_, _/_, _%_, _^_, _≤_, _<_, max}
@@ -173,18 +173,29 @@ pub check-answer : (f : List ℕ) → Answer false 0 (checkRecovery f)
 unfolding checkRecovery
 check-answer f = unless-answer (refusal f) (refusal-most f) (λ e. recovery-answer (valid f e))
 
+-- on values, a recovery check is never spent
+pub recoveryOf-unspent : {v : List ℤ} → Valid v → {w c : ℕ} → recoveryOf v ≡ answered spent w c → ⊥
+recoveryOf-unspent ok e = differ (subst (Answer false 0) e (recovery-answer ok) .reason .0) refl
+
 module _ (f g : List ℕ) where
   -- the rounds of a decision never pass its allowance, nor 370,000
   pub decide-allowed : roundsOf (decide f g) ≤ allowanceOf g
   decide-allowed = decide-answer f g .counted .allowed refl (omega arith)
 
+  pub answer-allowed : {r : Reply} → r ≡ decide f g → (r ≡ decide f g) × (roundsOf r ≤ allowanceOf g)
+  answer-allowed e = (e, subst (λ (r : Reply). roundsOf r ≤ allowanceOf g) (sym e) decide-allowed)
+
   pub decide-few : roundsOf (decide f g) ≤ 370000
   decide-few = decide-answer f g .counted .few
 
-  -- so an allowance above that, such as 730,000, is never spent
+  -- so an allowance above that is never spent
   pub decide-unspent : {w c : ℕ} → 370000 < allowanceOf g → decide f g ≡ answered spent w c → ⊥
   unfolding roundsOf
   decide-unspent h e = let o = subst (Answer true (allowanceOf g)) e (decide-answer f g) in omega (arith, o .counted .few, o .reason .1)
+
+  -- 730,000 rounds are always enough
+  pub decide-enough : {w c : ℕ} → 730000 ≤ allowanceOf g → decide f g ≡ answered spent w c → ⊥
+  decide-enough h = decide-unspent (omega arith)
 
   -- finest has width 1
   pub decide-finest : {w c : ℕ} → decide f g ≡ answered finest w c → w ≡ 1

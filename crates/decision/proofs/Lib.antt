@@ -10,3 +10,7 @@ pub mod Progress
 mod RunTest
 mod ExampleRuns
 mod Reference
+mod CodeQuestion
+mod CodeAttempts
+mod CodeRecovery
+mod CodeAnswers

@@ -3,3 +3,4 @@ pub mod Decision
 pub mod Run
 pub mod Listing
 pub mod Starred
+pub mod Code

@@ -1,2 +1,141 @@
-// The decision and the recovery check (document 01, "The decision"), the run, and the theorem that every run is safe
-// (specs/Run.antt says it, proofs/Run.antt proves it).
+// The decision and the recovery check (document 01, "The decision") on any bytes. `question` reads a question, `attempts`
+// tries ever smaller widths. The definitions are in specs/Decision.antt; specs/Run.antt says what they are for, that every
+// run of the machine is safe, and proofs/Run.antt proves it.
+ghost use mathlib.Core.Path.{_≡_};
+ghost use Prim.Native.Nat.{ℕ, _≤_, max};
+ghost use Rattle.sheet.specs.Slots.{recoveryBox, vars};
+ghost use Rattle.sheet.specs.Valid.{Valid};
+ghost use Rattle.rates.specs.Box.{trim};
+ghost use Rattle.decision.specs.Question.{allowanceOf};
+ghost use Rattle.decision.specs.Decision.{answered, checkRecovery, decide, recoveryOf, roundsOf, spent};
+ghost use Rattle.decision.specs.Code.{checked, decided, decisionOn};
+
+mod attempts;
+pub mod question;
+
+use attempts::Trial;
+use attempts::tries;
+use boxes::step::Budget;
+use rates::shape::box_at;
+use sheet::count;
+use sheet::read_into;
+use sheet::slots::ALPHA;
+use sheet::slots::DELTA;
+use sheet::slots::RECOVERY;
+use sheet::slots::RHO;
+use sheet::slots::SLOTS;
+use sheet::slots::VARS;
+
+// A decision: a verdict with the width and the rounds over all widths, or the number of a refusal.
+pub enum Decision {
+    Keep { width: u32, rounds: u32 },
+    Finest { width: u32, rounds: u32 },
+    Spent { width: u32, rounds: u32 },
+    Refused { number: u8 },
+}
+
+// A recovery check's answer, likewise.
+pub enum Recovery {
+    Pass { width: u32, rounds: u32 },
+    Fail { width: u32, rounds: u32 },
+    Refused { number: u8 },
+}
+
+fn larger(a: usize, b: usize) -> usize
+    ensures { λ r. ⌜ r ≡ max a b ⌝ }
+{
+    if a < b { b } else { a }
+}
+
+// The decision on an accepted sheet's value and a question's bytes.
+fn decide_on(sheet: &[i32; SLOTS], g: &[u8]) -> Decision
+    requires { ⌜ Valid (now sheet) ⌝ }
+    ensures { λ r. ⌜ decided r ≡ decisionOn (now (sheet .entry)) (now (g .entry)) ⌝ }
+{
+    let n = count(sheet, VARS);
+    let refusal = question::refusal(n, sheet, g);
+    if refusal != 0 {
+        return Decision::Refused { number: refusal };
+    }
+    let start = question::measured(n, g);
+    let first = count(sheet, DELTA);
+    let then = count(sheet, ALPHA);
+    let budget = Budget {
+        limited: true,
+        allowance: question::allowance(g),
+    };
+    let t = Trial {
+        budget: budget,
+        command: question::command(g),
+        first: first,
+        then: then,
+    };
+    tries(t, sheet, &start, larger(first, then))
+}
+
+// The decision on a sheet's and a question's bytes.
+pub fn decide(sheet: &[u8], question: &[u8]) -> Decision
+    ensures { λ r. ⌜ decided r ≡ decide (now (sheet .entry)) (now (question .entry)) ⌝ }
+    ensures allowed { λ r. ⌜ roundsOf (decided r) ≤ allowanceOf (now (question .entry)) ⌝ }
+{
+    let mut v = [0i32; SLOTS];
+    let refusal = read_into(sheet, &mut v);
+    if refusal != 0 {
+        return Decision::Refused { number: refusal };
+    }
+    decide_on(&v, question)
+}
+
+// A verdict that is not spent, as a recovery check's answer.
+fn recovery_of(d: Decision) -> Recovery
+    requires { ⌜ ((w c : ℕ) → decided d ≡ answered spent w c → ⊥) ⌝ }
+    ensures { λ r. ⌜ checked r ≡ decided d ⌝ }
+{
+    match d {
+        Decision::Keep { width, rounds } => Recovery::Pass {
+            width: width,
+            rounds: rounds,
+        },
+        Decision::Finest { width, rounds } => Recovery::Fail {
+            width: width,
+            rounds: rounds,
+        },
+        Decision::Spent { width, rounds } => Recovery::Fail {
+            width: width,
+            rounds: rounds,
+        },
+        Decision::Refused { number } => Recovery::Refused { number: number },
+    }
+}
+
+// The recovery check of an accepted sheet's value.
+fn check_on(sheet: &[i32; SLOTS]) -> Recovery
+    requires { ⌜ Valid (now sheet) × (trim (vars (now sheet)) (recoveryBox (now sheet)) ≡ recoveryBox (now sheet)) ⌝ }
+    ensures { λ r. ⌜ checked r ≡ recoveryOf (now (sheet .entry)) ⌝ }
+{
+    let home = box_at(count(sheet, VARS), sheet, RECOVERY);
+    let ticks = count(sheet, RHO);
+    let budget = Budget {
+        limited: false,
+        allowance: 0,
+    };
+    let t = Trial {
+        budget: budget,
+        command: 0,
+        first: 0,
+        then: ticks,
+    };
+    recovery_of(tries(t, sheet, &home, ticks))
+}
+
+// The recovery check of a sheet's bytes.
+pub fn check_recovery(sheet: &[u8]) -> Recovery
+    ensures { λ r. ⌜ checked r ≡ checkRecovery (now (sheet .entry)) ⌝ }
+{
+    let mut v = [0i32; SLOTS];
+    let refusal = read_into(sheet, &mut v);
+    if refusal != 0 {
+        return Recovery::Refused { number: refusal };
+    }
+    check_on(&v)
+}

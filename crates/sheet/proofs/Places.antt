@@ -220,3 +220,14 @@ module _ (s : Shape) (l : Small s) where
   slot-lt r a j b =
       let x : limit (recordAt s r) ≤ slots = record-cases s (λ r y. limit y ≤ slots) (omega arith) (λ k q. omega (arith, l .bands)) (λ j q. omega (arith, l .boxes)) (omega arith) r a in
       omega (arith, spread-at r .high j b)
+
+  -- no field has the slot of a side of the recovery box beyond the variables
+  pub recovery-free : (i q : ℕ) → s .vars ≤ i → i < N → q < 2 → (r : ℕ) → r < records s → (j : ℕ) → j < countAt s r → fieldsAt s r j .slot ≡ recoverySlot + i + q * N → ⊥
+  unfolding fields
+  recovery-free i q b h k =
+      let room : s .vars ≤ N = omega (arith, l .vars) in
+      record-cases s (λ r x. (j : ℕ) → j < count (s .vars) x → fields (s .vars) x j .slot ≡ recoverySlot + i + q * N → ⊥)
+      (λ j c e. omega (arith, spread-record (s .vars) room head .high j c))
+      (λ m d j c e. omega (arith, spread-record (s .vars) room (band m) .high j c, l .bands))
+      (λ m d j c e. omega (arith, spread-record (s .vars) room (unsafe m) .low j c))
+      (λ j c e. omega (arith, side-slot (s .vars) room recoveryLimit recoverySlot j))

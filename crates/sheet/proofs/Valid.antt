@@ -2,7 +2,7 @@
 use mathlib.Core.Path.{_≡_, refl, sym, _∙_, subst}
 use mathlib.Core.List.{List}
 use mathlib.Core.Logic.{_⊎_, inl, inr, ⊎-elim}
-use Prim.Native.Nat.{ℕ, zero, suc, _*_, _<_}
+use Prim.Native.Nat.{ℕ, zero, suc, _+_, _*_, _≤_, _<_}
 use native.Mathlib.Omega.{arith}
 use lib.IntN.{ℤ, pos, negsuc, natAbs}
 use lib.Signed.{_≤ℤ_}
@@ -10,7 +10,7 @@ use lib.ListN.{length}
 use mir.Syntax.{w32}
 use mir.Val.{SFits}
 use Rattle.integers.proofs.Z.{ints, flat}
-use Rattle.sheet.specs.Slots.{_!_, slots, bandSlot, recoverySlot, unsafeSlot, vars, bands, row}
+use Rattle.sheet.specs.Slots.{_!_, N, slots, bandSlot, recoverySlot, unsafeSlot, vars, bands, row}
 use Rattle.sheet.specs.Valid.{ValidRow, ValidBox, Valid}
 use Rattle.sheet.specs.Fields.{Kind, u8, u16, i16, i32}
 use Rattle.sheet.specs.Layout.{unsafeLimit, recoveryLimit, _▸_, varsSlot, bandsSlot, boxesSlot, bandVarSlot, δSlot, αSlot, ρSlot, headFields, edgeField, rowRest, rowFields, bandFields, sideFields, boxFields}
@@ -19,7 +19,7 @@ use Rattle.sheet.specs.Sheet.{zeros, shapeOf, contents, refusal, values}
 use Rattle.sheet.proofs.Streams.{Each, each-next, each-low, each-high}
 use Rattle.sheet.proofs.Laws.{InRange, AllGood}
 use Rattle.sheet.proofs.Records.{each-head, each-band, each-unsafe, each-recovery, each-cap, each-row, each-side}
-use Rattle.sheet.proofs.Places.{head-slot}
+use Rattle.sheet.proofs.Places.{head-slot, recovery-free}
 use Rattle.sheet.proofs.Filled.{TakenAll, origin-all, length-all}
 use Rattle.sheet.proofs.Ranges.{abs-in, Fit, all-fit}
 use Rattle.sheet.proofs.Accepted.{Accepted, accepted, contents-good, same-shape, length-zeros, zeros-at}
@@ -181,3 +181,9 @@ module _ (f : List ℕ) where
   values-beyond i =
       let P : List ℤ → Type 0 = λ v. (TakenAll (shape v) (records (shape v)) i → ⊥) → v ! i ≡ pos 0 in
       cases P (λ e. let a = accepted f e in subst P (sym (a .values)) (λ n. ⊎-elim (λ z. z) (λ t. absurd (n t)) (zero-or-taken f a i))) (λ n. zeros-at i)
+
+  pub recovery-beyond : refusal f ≡ 0 → (i q : ℕ) → vars (values f) ≤ i → i < N → q < 2 → values f ! (recoverySlot + i + q * N) ≡ pos 0
+  recovery-beyond e i q b h k =
+      let ok = valid f e in
+      values-beyond (recoverySlot + i + q * N)
+      (λ t. recovery-free (shape (values f)) (record { vars = ok .vars-high; bands = ok .bands-high; boxes = ok .boxes-high }) i q b h k (t .r) (t .below) (t .taken .j) (t .taken .below) (t .taken .is))

@@ -1,0 +1,76 @@
+-- Why a question is refused, one law for each way out of the code; and what holds of one that is not. Assumes nothing.
+use mathlib.Core.Path.{_≡_, refl, sym, _∙_, subst}
+use mathlib.Core.Bool.{Bool, true, _&&_}
+use mathlib.Core.List.{List}
+use Prim.Native.Nat.{ℕ, zero, suc, _≤_, _<_}
+use native.Mathlib.Omega.{arith}
+use borrow.Author.Tests.{eqb-true, le-leb, lt-leb}
+use lib.Dec.{eqb}
+use lib.IntN.{ℤ}
+use lib.ListN.{length, getD}
+use Rattle.sheet.specs.Slots.{N, vars}
+use Rattle.rates.specs.Box.{lo, hi, sides, trim}
+use Rattle.rates.specs.Machine.{command}
+use Rattle.rates.specs.Plant.{Sides}
+use Rattle.rates.proofs.Box.{and-both, sides-lo, sides-hi}
+use Rattle.boxes.specs.Reach.{lawRefusal, sidesRefusal, orNext}
+use Rattle.boxes.proofs.Count.{cond-zero}
+use Rattle.boxes.proofs.CodeRefusals.{or-stop, or-go, or-none, sides-near}
+use Rattle.decision.specs.Question.{questionLength, allowanceOf, commandOf, pairs, measured, formRefusal, allowanceRefusal, questionRefusal}
+use Rattle.decision.specs.Code.{startLimit}
+
+pub form-length : (n : ℕ) (g : List ℕ) → formRefusal n g ≡ 0 → length g ≡ questionLength n
+unfolding formRefusal
+form-length n g e =
+    let a = and-both (eqb (length g) (questionLength n) && eqb (getD g 0 0) 81) _ (cond-zero _ 11 e) in
+    eqb-true (length g) (questionLength n) (and-both (eqb (length g) (questionLength n)) _ (a .0) .0)
+
+-- ---- the first refusal
+
+module _ (v : List ℤ) (g : List ℕ) {a : ℕ} (p : a ≡ formRefusal (vars v) g) where
+  pub stop-form : (a ≡ 0 → ⊥) → a ≡ questionRefusal v g
+  unfolding questionRefusal
+  stop-form n = or-stop (formRefusal (vars v) g) _ p n
+
+  module _ (e : a ≡ 0) where
+    pub stop-allowance : 1000000 < allowanceOf g → 13 ≡ questionRefusal v g
+    unfolding questionRefusal allowanceRefusal
+    stop-allowance h = or-stop (allowanceRefusal g) _ {a = 13} (rw (lt-leb (allowanceOf g) 1000000 h) refl) (λ z. omega arith) ∙ or-go (formRefusal (vars v) g) _ p e
+
+    module _ (few : allowanceOf g ≤ 1000000) {b : ℕ} (q : b ≡ lawRefusal v (command (commandOf g))) where
+      abbrev behind : ℕ
+      behind = orNext (lawRefusal v (command (commandOf g))) (sidesRefusal (vars v) (measured (vars v) g))
+
+      go-law : behind ≡ questionRefusal v g
+      unfolding questionRefusal allowanceRefusal
+      go-law = or-go (allowanceRefusal g) behind {a = 0} (rw (le-leb (allowanceOf g) 1000000 few) refl) refl ∙ or-go (formRefusal (vars v) g) _ p e
+
+      pub stop-law : (b ≡ 0 → ⊥) → b ≡ questionRefusal v g
+      stop-law n = or-stop (lawRefusal v (command (commandOf g))) _ q n ∙ go-law
+
+      pub stop-sides : b ≡ 0 → sidesRefusal (vars v) (measured (vars v) g) ≡ questionRefusal v g
+      stop-sides f = or-go (lawRefusal v (command (commandOf g))) _ q f ∙ go-law
+
+-- ---- a question that is not refused
+
+-- a box of n sides has nothing beyond them
+trim-sides : (n : ℕ) (f g : ℕ → ℤ) → n ≤ N → trim n (sides n f g) ≡ sides n f g
+unfolding trim sides
+trim-sides n f g k = same n (λ i h. sides-lo f g n i k h) (λ i h. sides-hi f g n i k h)
+  where
+    same : (m : ℕ) {a b c d : ℕ → ℤ} → ((i : ℕ) → i < m → a i ≡ c i) → ((i : ℕ) → i < m → b i ≡ d i) → sides m a b ≡ sides m c d
+    same zero h k = refl
+    same (suc m) h k = rw (same m (λ i l. h i (omega arith)) (λ i l. k i (omega arith)), h m (omega arith), k m (omega arith)) refl
+
+module _ (v : List ℤ) (g : List ℕ) (e : questionRefusal v g ≡ 0) where
+  pub asked-length : length g ≡ questionLength (vars v)
+  unfolding questionRefusal
+  asked-length = form-length (vars v) g (or-none (formRefusal (vars v) g) _ e .0)
+
+  pub measured-near : vars v ≤ N → Sides startLimit (measured (vars v) g)
+  unfolding questionRefusal measured pairs
+  measured-near k =
+      let a = or-none (formRefusal (vars v) g) _ e in
+      let b = or-none (allowanceRefusal g) _ (a .1) in
+      let c = or-none (lawRefusal v (command (commandOf g))) _ (b .1) in
+      subst (Sides startLimit) (trim-sides (vars v) _ _ k) (sides-near (vars v) (measured (vars v) g) (c .1))

@@ -1,0 +1,34 @@
+-- `check_recovery` is the recovery check of the definitions. Assumes nothing.
+use mathlib.Core.Path.{_≡_, sym, ap, _∙_, subst}
+use mathlib.Core.List.{List}
+use lib.IntN.{ℤ}
+use borrow.Author.Needs.{needs}
+use Rattle.sheet.specs.Slots.{vars, recoveryBox}
+use Rattle.sheet.specs.Valid.{Valid}
+use Rattle.sheet.proofs.Valid.{valid}
+use Rattle.rates.specs.Box.{trim}
+use Rattle.decision.specs.Decision.{recoveryOf, checkRecovery}
+use Rattle.decision.specs.Code.{checked}
+use Rattle.decision.proofs.CodeAnswers.{unless-refused, unless-passed}
+use Rattle.decision.proofs.CodeRecovery.{recovery-trimmed}
+use Rattle.decision.proofs.check_recovery.Statement.{statement}
+use Rattle.decision.proofs.check_recovery.Tie as tie
+
+returns : tie.Need-returns
+unfolding checked checkRecovery
+returns c = unless-refused _ _ (c .before .read-into .ensures .0) (c .if1 .taken)
+
+check-on-requires : tie.Need-check-on-requires
+check-on-requires c κs =
+    let r = c .before .before .read-into .ensures in
+    let e = sym (r .0) ∙ c .before .if1 .left in
+    subst (λ (v : List ℤ). Valid v × (trim (vars v) (recoveryBox v) ≡ recoveryBox v)) (sym (r .1)) (valid _ e, recovery-trimmed _ e)
+
+returns-2 : tie.Need-returns-2
+unfolding checkRecovery
+returns-2 c =
+    let r = c .before .before .before .read-into .ensures in
+    c .check-on .ensures ∙ ap recoveryOf (r .1) ∙ unless-passed _ _ (r .0) (c .before .before .if1 .left)
+
+pub check-recovery-spec : {M : Type 1} → statement M
+check-recovery-spec = tie.close (tie.spec (λ c κs. search needs) returns check-on-requires returns-2)
