@@ -1,0 +1,25 @@
+-- The number of variables of any file, 0 where it is refused. Assumes nothing.
+use mathlib.Core.Path.{_≡_, refl, sym, _∙_, subst}
+use mathlib.Core.List.{List}
+use Prim.Native.Nat.{ℕ, zero, suc, _≤_}
+use native.Mathlib.Omega.{arith}
+use lib.IntN.{ℤ, pos}
+use lib.Signed.{_≤ℤ_}
+use Rattle.integers.proofs.Z.{ints}
+use Rattle.sheet.specs.Slots.{_!_, N, vars}
+use Rattle.sheet.specs.Layout.{varsSlot}
+use Rattle.sheet.specs.Sheet.{refusal, values, zeros}
+use Rattle.sheet.proofs.Valid.{valid, values-zero}
+
+-- v's number of variables is one for which there is room
+pub record Counted (v : List ℤ) : Type 0 where
+  pub low : pos 0 ≤ℤ v ! varsSlot
+  pub high : vars v ≤ N
+
+pub counted : (f : List ℕ) → Counted (values f)
+unfolding zeros
+counted f = go (refusal f) refl
+  where
+    go : (c : ℕ) → refusal f ≡ c → Counted (values f)
+    go zero e = record { low = valid f e .head varsSlot (omega arith); high = valid f e .vars-high }
+    go (suc c) e = subst Counted (sym (values-zero f (λ z. let x : _≡_ {A = ℕ} 0 (suc c) = sym z ∙ e in omega arith))) (record { low = omega ints; high = omega arith })

@@ -1,0 +1,41 @@
+-- `question_length`: the number of variables that was read is one for which there is room. Assumes nothing.
+use mathlib.Core.Path.{_≡_, _∙_, sym, subst, ap}
+use Prim.Native.Nat.{_≤_}
+use native.Mathlib.Omega.{arith}
+use borrow.Author.Needs.{needs}
+use Rattle.sheet.specs.Slots.{N, vars}
+use Rattle.sheet.specs.Sheet.{values}
+use Rattle.listing.proofs.Vars.{Counted, counted}
+use Rattle.listing.proofs.question_length.Statement.{statement}
+use Rattle.listing.proofs.question_length.Tie as tie
+
+read-into-requires : tie.Need-read-into-requires
+read-into-requires c κs = search needs
+
+count-requires : tie.Need-count-requires
+count-requires c κs =
+    let r = c .before in
+    (omega arith, subst Counted (sym (r .read-into .ensures .1)) (counted (r .before .before .before .args .sheet .now)) .low)
+
+-- the number that was read is the file's
+pub record Read (c : tie.After-count) : Type 0 where
+  pub is : c .count .result ≡ vars (values (c .before .before .before .before .before .args .sheet .now))
+  pub high : c .count .result ≤ N
+
+read : (c : tie.After-count) → Read c
+read c =
+    let e = c .count .ensures ∙ ap vars (c .before .before .read-into .ensures .1) in
+    record { is = e; high = rw e (counted (c .before .before .before .before .before .args .sheet .now) .high) }
+
+mul-result : tie.Need-mul-result
+mul-result c = omega (arith, read c .high)
+
+add-result : tie.Need-add-result
+add-result c = omega (arith, read c .high)
+
+returns : tie.Need-returns
+returns c = (omega (arith, read c .is), omega (arith, read c .high))
+
+pub question-length-spec : {M : Type 1} → statement M
+question-length-spec =
+    tie.close (tie.spec read-into-requires count-requires mul-result add-result returns)

@@ -1,0 +1,27 @@
+-- `sheet_line` is the line over the recovery check's answer. Assumes nothing.
+use mathlib.Core.Path.{ap, _∙_}
+use borrow.Author.Needs.{needs}
+use Rattle.decision.specs.Run.{isKeep}
+use Rattle.decision.specs.Listing.{sheetLine}
+use Rattle.listing.proofs.sheet_line.Statement.{statement}
+use Rattle.listing.proofs.sheet_line.Tie as tie
+
+check-recovery-requires : tie.Need-check-recovery-requires
+check-recovery-requires c κs = search needs
+
+put-sheet-line-requires : tie.Need-put-sheet-line-requires
+put-sheet-line-requires c κs = search needs
+
+has-passed-requires : tie.Need-has-passed-requires
+has-passed-requires c κs = search needs
+
+returns : tie.Need-returns
+unfolding sheetLine
+returns c =
+    let e = c .before .before .before .check-recovery .ensures in
+    (rw e at (c .before .put-sheet-line .ensures), c .has-passed .ensures ∙ ap isKeep e)
+
+pub sheet-line-spec : {M : Type 1} → statement M
+sheet-line-spec =
+    tie.close
+    (tie.spec check-recovery-requires put-sheet-line-requires has-passed-requires returns)

@@ -1,0 +1,302 @@
+//! `make_listing_cases FOLDER`: the cases on which the floor listing is compared, a folder for each.
+//! A case names text that its listing has, and the program stops where the second guard's listing has it not.
+
+use second_guard::listing::listing;
+use second_guard::machine::StateBox;
+use second_guard::sheet::{self, Band, CommandRange, Row, Sheet};
+use std::path::Path;
+use std::{env, fs};
+
+/// What stands under a file's name.
+enum Place {
+    Missing,
+    Folder,
+    File(Vec<u8>),
+}
+
+struct Case {
+    name: String,
+    says: String,
+    sheet: Place,
+    asks: Place,
+}
+
+fn interval(lower: i32, upper: i32) -> StateBox {
+    let mut sides = StateBox::default();
+    sides.lower[0] = lower.into();
+    sides.upper[0] = upper.into();
+    sides
+}
+
+/// Document 01's sheet A.
+fn sheet_a() -> Sheet {
+    let mut a = Sheet {
+        variables: 1,
+        band_count: 1,
+        unsafe_count: 1,
+        delta: 4,
+        alpha: 4,
+        rho: 4,
+        commands: CommandRange {
+            least: -25,
+            greatest: 25,
+        },
+        recovery: interval(-100, 100),
+        ..Sheet::default()
+    };
+    a.caps[0] = 5;
+    a.bands[0].edge = sheet::FIRST_EDGE;
+    a.bands[0].rows[0] = Row {
+        a: [-1, 0, 0, 0],
+        b: 4,
+        q: 20,
+        ..Row::default()
+    };
+    a.unsafe_boxes[0] = interval(130, 2_000_000);
+    a
+}
+
+/// A sheet as long as any: every count is the greatest.
+fn longest() -> Sheet {
+    let mut all = sheet_a();
+    all.variables = 4;
+    all.band_count = 8;
+    all.unsafe_count = 8;
+    all.band_variable = 2;
+    all.caps = [5; 4];
+    all.recovery.lower = [-100; 4];
+    all.recovery.upper = [100; 4];
+    for k in 0..8 {
+        all.bands[k] = Band {
+            edge: [sheet::FIRST_EDGE, -300, -200, -50, 0, 50, 200, 300][k],
+            ..Band::default()
+        };
+        for i in 0..4 {
+            all.bands[k].rows[i].a[i] = -1;
+            all.bands[k].rows[i].b = 4;
+            all.bands[k].rows[i].q = 20 + k as i32;
+        }
+        all.unsafe_boxes[k].lower = [130 + k as i64; 4];
+        all.unsafe_boxes[k].upper = [2_000_000; 4];
+    }
+    all
+}
+
+fn bytes(sheet: &Sheet) -> Vec<u8> {
+    let mut bytes = vec![0; sheet.length()];
+    sheet::write(sheet, &mut bytes, 0).expect("the values are allowed");
+    bytes
+}
+
+fn question(mark: &[u8; 2], allowance: u32, command: i32, pairs: &[(i32, i32)]) -> Vec<u8> {
+    let mut bytes = mark.to_vec();
+    bytes.extend(allowance.to_be_bytes());
+    bytes.extend(command.to_be_bytes());
+    for (lower, upper) in pairs {
+        bytes.extend(lower.to_be_bytes());
+        bytes.extend(upper.to_be_bytes());
+    }
+    bytes
+}
+
+fn ask(lower: i32, upper: i32, command: i32, allowance: u32) -> Vec<u8> {
+    question(b"QS", allowance, command, &[(lower, upper)])
+}
+
+/// Document 01's five questions.
+fn asks_a() -> Vec<u8> {
+    [
+        ask(0, 0, 25, 100),
+        ask(95, 100, 25, 100),
+        ask(95, 100, 25, 4),
+        ask(131, 131, 0, 100),
+        ask(0, 0, 26, 100),
+    ]
+    .concat()
+}
+
+/// Numbers that only look random: the same ones in every run.
+struct Numbers(u64);
+
+impl Numbers {
+    fn from_to(&mut self, least: i32, greatest: i32) -> i32 {
+        self.0 = self
+            .0
+            .wrapping_mul(6_364_136_223_846_793_005)
+            .wrapping_add(1_442_695_040_888_963_407);
+        let span = (greatest - least + 1) as u64;
+        least + ((self.0 >> 33) % span) as i32
+    }
+}
+
+/// Questions of n variables, a few of them refused.
+fn many(count: usize, n: usize) -> Vec<u8> {
+    let mut numbers = Numbers(n as u64);
+    let mut asks = Vec::new();
+    for _ in 0..count {
+        let mark = if numbers.from_to(0, 20) == 0 {
+            b"QX"
+        } else {
+            b"QS"
+        };
+        let allowance = numbers.from_to(0, 30) as u32;
+        let command = numbers.from_to(-26, 26);
+        let pairs: Vec<(i32, i32)> = (0..n)
+            .map(|_| {
+                let lower = numbers.from_to(-150, 150);
+                (lower, lower + numbers.from_to(-1, 40))
+            })
+            .collect();
+        asks.extend(question(mark, allowance, command, &pairs));
+    }
+    asks
+}
+
+/// Sheet A with other bytes from a place on.
+fn patched(at: usize, new: &[u8]) -> Vec<u8> {
+    let mut sheet = bytes(&sheet_a());
+    sheet[at..at + new.len()].copy_from_slice(new);
+    sheet
+}
+
+fn files(name: &str, says: &str, sheet: Vec<u8>, asks: Vec<u8>) -> Case {
+    let (sheet, asks) = (Place::File(sheet), Place::File(asks));
+    places(name, says, sheet, asks)
+}
+
+fn places(name: &str, says: &str, sheet: Place, asks: Place) -> Case {
+    Case {
+        name: name.into(),
+        says: says.into(),
+        sheet,
+        asks,
+    }
+}
+
+/// Files that are missing, folders, empty or too long.
+fn file_cases() -> Vec<Case> {
+    use Place::{File, Folder, Missing};
+    let a = || File(bytes(&sheet_a()));
+    let asks = || File(asks_a());
+    let mut cases = vec![
+        places("missing_sheet", "sheet refused 1\n", Missing, asks()),
+        places("missing_asks", "sheet pass 4 1\n", a(), Missing),
+        places("missing_both", "sheet refused 1\n", Missing, Missing),
+        places("folder_for_sheet", "sheet refused 1\n", Folder, asks()),
+        places("folder_for_asks", "sheet pass 4 1\n", a(), Folder),
+        places("empty_sheet", "sheet refused 1\n", File(vec![]), asks()),
+        places("empty_asks", "sheet pass 4 1\n", a(), File(vec![])),
+    ];
+    for size in [71, 1_086, 1_087, 4_095, 4_096, 4_097, 100_000] {
+        let mut long = bytes(&sheet_a());
+        long.resize(size, 0);
+        let name = format!("a_in_{size}_bytes");
+        cases.push(files(&name, "sheet refused 5\n", long, asks_a()));
+    }
+    for size in [1_087, 4_096, 4_097] {
+        let mut long = bytes(&longest());
+        long.resize(size, 0);
+        let name = format!("longest_in_{size}_bytes");
+        cases.push(files(&name, "sheet refused 5\n", long, asks_a()));
+    }
+    let zeros = vec![0; 5_000];
+    cases.push(files("long_zeros", "sheet refused 1\n", zeros, asks_a()));
+    cases
+}
+
+/// A refused sheet for each number up to 11, and first refusals among several.
+fn refused_sheets() -> Vec<Case> {
+    let a = bytes(&sheet_a());
+    let refused = [
+        (1, "short", a[..19].to_vec()),
+        (1, "mark", patched(0, b"XH")),
+        (2, "no_variable", patched(2, &[0])),
+        (2, "five_variables", patched(2, &[5])),
+        (2, "band_variable_before_times", patched(5, &[1, 0, 0])),
+        (3, "sum_of_times", patched(6, &997_u16.to_be_bytes())),
+        (4, "commands", patched(12, &26_i32.to_be_bytes())),
+        (5, "short", a[..69].to_vec()),
+        (5, "other_counts", patched(3, &[2])),
+        (6, "cap", patched(20, &[0, 0])),
+        (7, "band", patched(22, b"BX")),
+        (7, "recovery", patched(60, b"NG")),
+        (8, "edge", patched(24, &[0; 4])),
+        (9, "safety_range", patched(32, &26_i32.to_be_bytes())),
+        (10, "divisor", patched(48, &[0, 0])),
+        (11, "no_go_box", patched(56, &[0; 4])),
+        (11, "recovery_box", patched(62, &[1, 0])),
+    ];
+    refused
+        .into_iter()
+        .map(|(number, name, sheet)| {
+            let says = format!("sheet refused {number}\n");
+            files(&format!("sheet_{number}_{name}"), &says, sheet, asks_a())
+        })
+        .collect()
+}
+
+/// Questions of all kinds on sheets that passed, and one sheet that did not.
+fn questions() -> Vec<Case> {
+    let a = || bytes(&sheet_a());
+    let mut drifting = sheet_a();
+    drifting.bands[0].rows[0].a[0] = 0;
+    drifting.bands[0].rows[0].c = 40;
+    let tail = |length: usize| [&asks_a()[..], &ask(0, 0, 25, 100)[..length]].concat();
+    let mut many_a = many(100_000, 1);
+    many_a.extend([b'Q'; 7]);
+    vec![
+        files("sheet_a", "5 refused 14\n", a(), asks_a()),
+        files("failing_sheet", "sheet fail 1 ", bytes(&drifting), asks_a()),
+        files("tail_of_1", "6 refused 12\n", a(), tail(1)),
+        files("tail_of_17", "6 refused 12\n", a(), tail(17)),
+        files("only_a_tail", "1 refused 12\n", a(), b"QS".to_vec()),
+        files(
+            "12_mark",
+            "1 refused 12\n",
+            a(),
+            [question(b"QT", 9, 0, &[(0, 0)]), asks_a()].concat(),
+        ),
+        files(
+            "13_allowance",
+            "1 refused 13\n",
+            a(),
+            ask(0, 0, 26, 1_000_001),
+        ),
+        files(
+            "14_command",
+            "1 refused 14\n",
+            a(),
+            ask(1, 0, -26, 1_000_000),
+        ),
+        files("15_reversed", "1 refused 15\n", a(), ask(1, 0, 25, 100)),
+        files("15_far", "1 refused 15\n", a(), ask(0, 1_000_001, 25, 100)),
+        files("spent_at_once", "1 over spent 4 0\n", a(), ask(0, 0, 25, 0)),
+        files("longest_sheet", "500 ", bytes(&longest()), many(500, 4)),
+        files("many", "100001 refused 12\n", a(), many_a),
+    ]
+}
+
+fn set(path: &Path, place: &Place) {
+    match place {
+        Place::Missing => {}
+        Place::Folder => fs::create_dir(path).expect("a new folder"),
+        Place::File(bytes) => fs::write(path, bytes).expect("a new file"),
+    }
+}
+
+fn main() {
+    let root = env::args().nth(1).expect("a folder");
+    let cases = [file_cases(), refused_sheets(), questions()];
+    for case in cases.into_iter().flatten() {
+        let read = |place: &Place| match place {
+            Place::File(bytes) => bytes.clone(),
+            _ => Vec::new(),
+        };
+        let text = listing(&read(&case.sheet), &read(&case.asks));
+        assert!(text.contains(&case.says), "{}: {text}", case.name);
+        let folder = Path::new(&root).join(&case.name);
+        fs::create_dir(&folder).expect("a new folder");
+        set(&folder.join("sheet.bin"), &case.sheet);
+        set(&folder.join("asks.bin"), &case.asks);
+    }
+}
