@@ -2,20 +2,21 @@
 use mathlib.Core.Path.{_≡_, refl, sym, ap, _∙_, subst}
 use mathlib.Core.Bool.{Bool, true, false, not}
 use mathlib.Core.List.{List}
-use Prim.Native.Nat.{ℕ, zero, suc, _+_, _-_, _/_, _≤_, _<_, min}
+use Prim.Native.Nat.{ℕ, suc, _+_, _-_, _/_, _≤_, _<_, min}
 use native.Mathlib.Omega.{arith}
 use native.Mathlib.Nat.{le-refl}
 use borrow.Author.Tests.{le-leb, lt-leb}
 use lib.Dec.{leb}
 use lib.IntN.{ℤ}
-use Rattle.rates.specs.Box.{hull}
+use Rattle.rates.specs.Box.{hull, within, moved}
 use Rattle.rates.specs.Machine.{Machine}
+use Rattle.rates.specs.Rate.{rates}
 use Rattle.boxes.specs.declared.step.Stepped.{Stepped}
 use Rattle.boxes.specs.declared.step.Stepped.the-variants.{Settled, Unsettled, Out}
 use Rattle.boxes.specs.declared.walk.Walked.{Walked}
 use Rattle.boxes.specs.declared.walk.Walked.the-variants.{Ended, Unsafe}
 use Rattle.boxes.specs.declared.walk.Walked.the-variants as walked
-use Rattle.boxes.specs.Step.{Got, got, failed, out, unsettled, unsafe, andThen, orElse, isOut, settles, endBox, grown, Step, rounds, halving, step, swept}
+use Rattle.boxes.specs.Step.{lifted, settles, endBox, grown, Got, got, failed, unsettled, unsafe, andThen, orElse, isOut, Step, rounds, halving, step, swept}
 use Rattle.boxes.specs.Reach.{Reached, leg, walk, reach}
 use Rattle.boxes.specs.Code.{roundBox, stepped, said, legged, walked}
 
@@ -28,6 +29,25 @@ pick-no {A} b x y e = subst (λ (t : Bool). (elim t as (λ _. A) [ true ↦ x | 
 -- a number that is not 0 has one before it
 suc-of : (n : ℕ) → 0 < n → n ≡ suc (n - 1)
 suc-of n h = omega arith
+
+-- ---- a round, as the code works it out
+
+module _ (m : Machine) (S : List ℤ) (k : ℕ) (E : List ℤ) where
+  pub lifted-is : {r t M : List ℤ} → M ≡ hull (m .n) S t → t ≡ moved (m .n) S (k - 1) r → r ≡ rates m S k E → M ≡ lifted m S k E
+  unfolding lifted
+  lifted-is p q e = p ∙ ap (hull (m .n) S) (q ∙ ap (moved (m .n) S (k - 1)) e)
+
+  pub settles-is : {t : Bool} {M : List ℤ} → t ≡ within (m .n) M E → M ≡ lifted m S k E → t ≡ settles m S k E
+  unfolding settles
+  settles-is p e = p ∙ ap (λ (X : List ℤ). within (m .n) X E) e
+
+  pub round-ends : {r B : List ℤ} → settles m S k E ≡ true → B ≡ moved (m .n) S k r → r ≡ rates m S k E → B ≡ roundBox m S k E
+  unfolding roundBox endBox
+  round-ends t p e = p ∙ ap (moved (m .n) S k) e ∙ sym (pick-yes (settles m S k E) _ _ t)
+
+  pub round-grows : {M B : List ℤ} → settles m S k E ≡ false → B ≡ hull (m .n) E M → M ≡ lifted m S k E → B ≡ roundBox m S k E
+  unfolding roundBox grown
+  round-grows t p e = p ∙ ap (hull (m .n) E) e ∙ sym (pick-no (settles m S k E) _ _ t)
 
 -- ---- rounds
 
@@ -133,16 +153,16 @@ module _ {l : Bool} {a : ℕ} {m : Machine} {w : ℕ} {S : List ℤ} {left c : �
   leg-out d q = leg-is (Out d) q
 
   -- it settled, and its swept box is not clear where u is true
-  module _ (t d : ℕ) (q : r ≡ Settled t d) (u : Bool) (v : clear P ≡ not u) where
+  module _ (t d : ℕ) (q : r ≡ Settled t d) {u x : Bool} (v : u ≡ x) (y : clear P ≡ not x) where
     pub leg-clear : u ≡ false → legged E P (Ended t d) ≡ leg l a m clear w S left c
     unfolding stepped said andThen swept
-    leg-clear z = sym (pick-yes (clear (hull (m .n) S E)) _ _ (ap clear (sym (h .swept)) ∙ v ∙ ap not z)) ∙ leg-is (Settled t d) q
+    leg-clear z = sym (pick-yes (clear (hull (m .n) S E)) _ _ (ap clear (sym (h .swept)) ∙ y ∙ ap not (sym v ∙ z))) ∙ leg-is (Settled t d) q
 
     pub leg-unsafe : u ≡ true → legged E P (Unsafe left d) ≡ leg l a m clear w S left c
     unfolding stepped said andThen swept
     leg-unsafe z =
         ap (λ (B : List ℤ). failed (unsafe left B) d) (h .swept)
-        ∙ sym (pick-no (clear (hull (m .n) S E)) _ _ (ap clear (sym (h .swept)) ∙ v ∙ ap not z)) ∙ leg-is (Settled t d) q
+        ∙ sym (pick-no (clear (hull (m .n) S E)) _ _ (ap clear (sym (h .swept)) ∙ y ∙ ap not (sym v ∙ z))) ∙ leg-is (Settled t d) q
 
 -- ---- the walk
 

@@ -1,41 +1,55 @@
--- The definitions compute. Assumes nothing.
+-- The definitions compute: reaches and a step on document 01's sheet A. Assumes nothing.
 use mathlib.Core.Path.{_≡_, refl}
 use mathlib.Core.Bool.{false}
-use mathlib.Core.List.{List, [], _∷_, _++_}
-use Prim.Native.Nat.{ℕ}
-use lib.IntN.{ℤ, pos, negsuc}
+use mathlib.Core.List.{List, _∷_, _++_}
+use Prim.Native.Nat.{ℕ, _-_}
+use lib.IntN.{ℤ, pos}
 use lib.ListN.{replicate}
-use Rattle.rates.specs.Machine.{baseline, command, machine}
-use Rattle.boxes.specs.Step.{got, failed, unsafe}
-use Rattle.boxes.specs.Reach.{leg, reach, clear}
+use Rattle.sheet.specs.Slots.{N}
+use Rattle.sheet.specs.Sheet.{values}
+use Rattle.sheet.specs.SheetA.{fileA}
+use Rattle.rates.specs.Machine.{Law, baseline, command, machine}
+use Rattle.boxes.specs.Step.{Got, Step, got, failed, unsafe}
+use Rattle.boxes.specs.Reach.{Reached, leg, reach, clear, Answer, refused, reachFile}
 use Rattle.boxes.proofs.Everything.{everything}
 
-zeros : ℕ → List ℤ
-zeros k = replicate k (pos 0)
-
+-- a box of one variable
 box : ℤ → ℤ → List ℤ
-box l h = l ∷ (pos 0 ∷ (pos 0 ∷ (pos 0 ∷ (h ∷ (pos 0 ∷ (pos 0 ∷ (pos 0 ∷ [])))))))
+box l h = (l ∷ replicate (N - 1) (pos 0)) ++ (h ∷ replicate (N - 1) (pos 0))
 
--- sheet A's value
-A : List ℤ
-A = (pos 1 ∷ pos 1 ∷ pos 1 ∷ pos 0 ∷ pos 4 ∷ pos 4 ∷ pos 4 ∷ negsuc 24 ∷ pos 25 ∷ pos 5 ∷ zeros 3)
-    ++ ((negsuc 1999999 ∷ pos 0 ∷ pos 0 ∷ negsuc 0 ∷ pos 0 ∷ pos 0 ∷ pos 0 ∷ pos 4 ∷ pos 0 ∷ pos 0 ∷ pos 20 ∷ zeros 24)
-    ++ (zeros 245 ++ (box (negsuc 99) (pos 100) ++ (box (pos 130) (pos 2000000) ++ zeros 56))))
+-- four ticks at width 4 after c rounds, and a step of width 1
+four : Law → List ℤ → ℕ → Got Reached
+four l S c = reach false 0 (machine (values fileA) l) (clear 1 (values fileA) 1) 4 S 4 c
 
-after-δ : reach false 0 (machine A (command (pos 25))) (clear 1 A 1) 4 (box (pos 0) (pos 0)) 4 0 ≡ got (record { end = box (pos 16) (pos 20); swept = box (pos 0) (pos 20) }) 2
-unfolding everything zeros box A
+one : Law → List ℤ → Got Step
+one l S = leg false 0 (machine (values fileA) l) (clear 1 (values fileA) 1) 1 S 4 0
+
+after-δ : four (command (pos 25)) (box (pos 0) (pos 0)) 0 ≡ got (record { end = box (pos 16) (pos 20); swept = box (pos 0) (pos 20) }) 2
+unfolding everything box four
 after-δ = refl
 
-after-α : reach false 0 (machine A baseline) (clear 1 A 1) 4 (box (pos 16) (pos 20)) 4 2 ≡ got (record { end = box (pos 12) (pos 20); swept = box (pos 12) (pos 20) }) 4
-unfolding everything zeros box A
+after-α : four baseline (box (pos 16) (pos 20)) 2 ≡ got (record { end = box (pos 12) (pos 20); swept = box (pos 12) (pos 20) }) 4
+unfolding everything box four
 after-α = refl
 
 -- here the rates hang on where the box is at the last tick but one, and not at the last
-under-24 : reach false 0 (machine A (command (pos 24))) (clear 1 A 1) 4 (box (pos 0) (pos 0)) 4 0 ≡ got (record { end = box (pos 16) (pos 20); swept = box (pos 0) (pos 20) }) 2
-unfolding everything zeros box A
+under-24 : four (command (pos 24)) (box (pos 0) (pos 0)) 0 ≡ got (record { end = box (pos 16) (pos 20); swept = box (pos 0) (pos 20) }) 2
+unfolding everything box four
 under-24 = refl
 
--- a step from 131 ends clear of the no-go box, and its swept box is not clear
-swept-unsafe : leg false 0 (machine A baseline) (clear 1 A 1) 1 (box (pos 131) (pos 131)) 4 0 ≡ failed (unsafe 4 (box (pos 126) (pos 131))) 1
-unfolding everything zeros box A
-swept-unsafe = refl
+-- a step from 131 ends clear of the no-go box from 130, and its swept box is not clear
+from-131 : one baseline (box (pos 131) (pos 131)) ≡ failed (unsafe 4 (box (pos 126) (pos 131))) 1
+unfolding everything box one
+from-131 = refl
+
+-- the public reach: no ticks, and the order of the refusals
+answers : Law → ℕ → List ℤ → Answer
+answers l w S = reachFile fileA 0 w l S
+
+no-ticks : answers baseline 1 (box (pos 5) (pos 7)) ≡ record { refusal = 0; end = box (pos 5) (pos 7); swept = box (pos 5) (pos 7); rounds = 0 }
+unfolding everything box answers
+no-ticks = refl
+
+refusals : (answers (command (pos 26)) 0 (box (pos 1) (pos 0)) ≡ refused 16) × (answers (command (pos 26)) 1 (box (pos 1) (pos 0)) ≡ refused 14) × (answers baseline 1 (box (pos 1) (pos 0)) ≡ refused 15)
+unfolding everything box answers
+refusals = (refl, refl, refl)

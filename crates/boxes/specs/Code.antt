@@ -41,12 +41,13 @@ walked E W = said (λ t. record { end = E; swept = W }) W
 abbrev pub answered : ReachAnswer → Answer
 answered r = record { refusal = r .refusal; end = r .end; swept = r .swept; rounds = r .rounds }
 
--- how far the sides of a walk's first box and of a step's start box go, and how far a count
+-- how far the sides of a walk's first box and of a step's start box go
 abbrev pub walkLimit : ℕ
 walkLimit = 3000000
 
 abbrev pub stepLimit : ℕ
 stepLimit = 4000000
 
+-- a count fits 32 bits: a walk adds at most 73 rounds a tick, and a step at most 8 times its width
 abbrev pub countLimit : ℕ
 countLimit = 4294967295

@@ -14,11 +14,16 @@ pub mod walk;
 
 use crate::refusals::reach_refusal;
 use crate::step::Budget;
-use crate::walk::{walk, Walked};
-use rates::shape::trim;
+use crate::walk::Walked;
+use crate::walk::walk;
 use rates::Plant;
+use rates::shape::trim;
 use sheet::read_into;
-use sheet::slots::{BANDS, BAND_VAR, BOX_SIZE, SLOTS, VARS};
+use sheet::slots::BAND_VAR;
+use sheet::slots::BANDS;
+use sheet::slots::BOX_SIZE;
+use sheet::slots::SLOTS;
+use sheet::slots::VARS;
 
 // The machine of an accepted sheet's value under a law: the baseline, or else one command.
 pub fn plant(sheet: &[i32; SLOTS], baseline: bool, command: i32) -> Plant
@@ -57,7 +62,14 @@ fn refused(refusal: u8) -> ReachAnswer
 }
 
 // A reach of an accepted sheet's value.
-pub fn reach_of(sheet: &[i32; SLOTS], ticks: u32, width: u32, baseline: bool, command: i32, start: &[i64; BOX_SIZE]) -> ReachAnswer
+pub fn reach_of(
+    sheet: &[i32; SLOTS],
+    ticks: u32,
+    width: u32,
+    baseline: bool,
+    command: i32,
+    start: &[i64; BOX_SIZE],
+) -> ReachAnswer
     requires { ⌜ Valid (now sheet) ⌝ }
     ensures { λ r. ⌜ answered r ≡ spec.reachOf (now (sheet .entry)) ticks width (lawOf baseline command) (now (start .entry)) ⌝ }
 {
@@ -72,7 +84,17 @@ pub fn reach_of(sheet: &[i32; SLOTS], ticks: u32, width: u32, baseline: bool, co
         limited: false,
         allowance: 0,
     };
-    let r = walk(free, p, sheet, 0, width as usize, ticks as usize, 0, &mut end, &mut swept);
+    let r = walk(
+        free,
+        p,
+        sheet,
+        0,
+        width as usize,
+        ticks as usize,
+        0,
+        &mut end,
+        &mut swept,
+    );
     let Walked::Ended { ticks: _, count } = r else {
         return refused(0);
     };
@@ -85,7 +107,14 @@ pub fn reach_of(sheet: &[i32; SLOTS], ticks: u32, width: u32, baseline: bool, co
 }
 
 // A reach of a sheet's file.
-pub fn reach(f: &[u8], ticks: u32, width: u32, baseline: bool, command: i32, start: &[i64; BOX_SIZE]) -> ReachAnswer
+pub fn reach(
+    f: &[u8],
+    ticks: u32,
+    width: u32,
+    baseline: bool,
+    command: i32,
+    start: &[i64; BOX_SIZE],
+) -> ReachAnswer
     ensures { λ r. ⌜ answered r ≡ spec.reachFile (now (f .entry)) ticks width (lawOf baseline command) (now (start .entry)) ⌝ }
 {
     let mut value: [i32; SLOTS] = [0; SLOTS];

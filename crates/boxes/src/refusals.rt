@@ -6,13 +6,18 @@ ghost use lib.IntN.{pos, negℤ};
 ghost use lib.Signed.{leZ};
 ghost use Rattle.sheet.specs.Slots as slots;
 ghost use Rattle.rates.specs.Plant.{lawOf};
-ghost use Rattle.boxes.specs.Reach.{lawRefusal, orNext, reachRefusal, sidesRefusal, ticksRefusal};
-
-use sheet::slots::{BOX_SIZE, GREATEST, LEAST, N, SLOTS};
+ghost use Rattle.boxes.specs.Reach.{lawRefusal, reachRefusal, sidesRefusal, ticksRefusal};
+use sheet::slots::BOX_SIZE;
+use sheet::slots::GREATEST;
+use sheet::slots::LEAST;
+use sheet::slots::N;
+use sheet::slots::SLOTS;
 
 // The numbers, as sheet's own refusals have theirs.
 pub const COMMAND: u8 = 14;
+
 pub const SIDES: u8 = 15;
+
 pub const TICKS: u8 = 16;
 
 fn ticks_refusal(ticks: u32, width: u32) -> u8
@@ -73,7 +78,15 @@ pub fn sides_refusal(n: usize, b: &[i64; BOX_SIZE]) -> u8
 }
 
 // The first of them, for a sheet of n variables.
-pub fn reach_refusal(n: usize, sheet: &[i32; SLOTS], ticks: u32, width: u32, baseline: bool, command: i32, start: &[i64; BOX_SIZE]) -> u8
+pub fn reach_refusal(
+    n: usize,
+    sheet: &[i32; SLOTS],
+    ticks: u32,
+    width: u32,
+    baseline: bool,
+    command: i32,
+    start: &[i64; BOX_SIZE],
+) -> u8
     requires { ⌜ (n ≡ slots.vars (now sheet)) × (n ≤ slots.N) ⌝ }
     ensures { λ r. ⌜ r ≡ reachRefusal (now (sheet .entry)) ticks width (lawOf baseline command) (now (start .entry)) ⌝ }
 {

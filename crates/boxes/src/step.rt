@@ -4,11 +4,13 @@ ghost use Prim.Native.Nat.{_+_, _*_, _≤_, _<_};
 ghost use Rattle.rates.specs.Plant.{Sides, Usable, limit, machineOf};
 ghost use Rattle.boxes.specs.Step.{isOut, rounds, settles, step};
 ghost use Rattle.boxes.specs.Code.{countLimit, roundBox, stepLimit, stepped};
-
-use rates::rate::rates;
-use rates::shape::{hull, moved, within};
 use rates::Plant;
-use sheet::slots::{BOX_SIZE, SLOTS};
+use rates::rate::rates;
+use rates::shape::hull;
+use rates::shape::moved;
+use rates::shape::within;
+use sheet::slots::BOX_SIZE;
+use sheet::slots::SLOTS;
 
 // A round is due only while the count is not the allowance, if there is one.
 pub struct Budget {
@@ -26,7 +28,13 @@ pub enum Stepped {
 }
 
 // One round of length k with the working box e, which becomes the end box where it settles, or else the next working box.
-fn round(p: Plant, sheet: &[i32; SLOTS], start: &[i64; BOX_SIZE], k: usize, e: &mut [i64; BOX_SIZE]) -> bool
+fn round(
+    p: Plant,
+    sheet: &[i32; SLOTS],
+    start: &[i64; BOX_SIZE],
+    k: usize,
+    e: &mut [i64; BOX_SIZE],
+) -> bool
     requires { ⌜ Usable (machineOf p (now sheet)) ⌝ }
     requires { ⌜ ((0 < k) × (k ≤ 1000)) × (Sides limit (now start) × Sides limit (now e)) ⌝ }
     ensures { λ r. ⌜ r ≡ settles (machineOf p (now (sheet .entry))) (now (start .entry)) k (now (e .entry)) ⌝ }
@@ -47,11 +55,23 @@ fn round(p: Plant, sheet: &[i32; SLOTS], start: &[i64; BOX_SIZE], k: usize, e: &
 fn is_out(b: Budget, count: u32) -> bool
     ensures { λ r. ⌜ r ≡ isOut (b .limited) (b .allowance) count ⌝ }
 {
-    if b.limited { count == b.allowance } else { false }
+    if b.limited {
+        count == b.allowance
+    } else {
+        false
+    }
 }
 
 // Up to eight rounds of length k.
-fn rounds(b: Budget, p: Plant, sheet: &[i32; SLOTS], start: &[i64; BOX_SIZE], k: usize, count: u32, end: &mut [i64; BOX_SIZE]) -> Stepped
+fn rounds(
+    b: Budget,
+    p: Plant,
+    sheet: &[i32; SLOTS],
+    start: &[i64; BOX_SIZE],
+    k: usize,
+    count: u32,
+    end: &mut [i64; BOX_SIZE],
+) -> Stepped
     requires { ⌜ Usable (machineOf p (now sheet)) ⌝ }
     requires { ⌜ ((0 < k) × (k ≤ 1000)) × (Sides stepLimit (now start) × (count + 8 ≤ countLimit)) ⌝ }
     ensures { λ r. ⌜ stepped (now (end .exit)) r ≡ rounds (b .limited) (b .allowance) (machineOf p (now (sheet .entry))) (now (start .entry)) k 8 (now (start .entry)) count ⌝ }
@@ -74,7 +94,15 @@ fn rounds(b: Budget, p: Plant, sheet: &[i32; SLOTS], start: &[i64; BOX_SIZE], k:
 }
 
 // A step of at most `width` ticks from `start`, after `count` rounds. Where it settles, `end` becomes its end box.
-pub fn step(b: Budget, p: Plant, sheet: &[i32; SLOTS], start: &[i64; BOX_SIZE], width: usize, count: u32, end: &mut [i64; BOX_SIZE]) -> Stepped
+pub fn step(
+    b: Budget,
+    p: Plant,
+    sheet: &[i32; SLOTS],
+    start: &[i64; BOX_SIZE],
+    width: usize,
+    count: u32,
+    end: &mut [i64; BOX_SIZE],
+) -> Stepped
     requires { ⌜ Usable (machineOf p (now sheet)) ⌝ }
     requires { ⌜ ((0 < width) × (width ≤ 1000)) × (Sides stepLimit (now start) × (count + 8 * width ≤ countLimit)) ⌝ }
     ensures { λ r. ⌜ stepped (now (end .exit)) r ≡ step (b .limited) (b .allowance) (machineOf p (now (sheet .entry))) (now (start .entry)) width count ⌝ }

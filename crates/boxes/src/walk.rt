@@ -6,11 +6,14 @@ ghost use Rattle.rates.specs.Box as spec;
 ghost use Rattle.rates.specs.Plant.{Sides, Usable, machineOf};
 ghost use Rattle.boxes.specs.Reach.{clear, leg, reach};
 ghost use Rattle.boxes.specs.Code.{countLimit, legged, stepLimit, walkLimit, walked};
-
-use crate::step::{step, Budget, Stepped};
-use rates::shape::{hull, meets_unsafe};
+use crate::step::Budget;
+use crate::step::Stepped;
+use crate::step::step;
 use rates::Plant;
-use sheet::slots::{BOX_SIZE, SLOTS};
+use rates::shape::hull;
+use rates::shape::meets_unsafe;
+use sheet::slots::BOX_SIZE;
+use sheet::slots::SLOTS;
 
 // What a leg or a walk came to, with the count of rounds after it. The boxes are lent beside it.
 pub enum Walked {
@@ -32,12 +35,21 @@ fn smaller(a: usize, b: usize) -> usize
 
 // A step from `start` with `left` ticks left, and the test of its swept box against the first `boxes` no-go boxes. `end` and
 // `swept` become the step's.
-fn leg(b: Budget, p: Plant, sheet: &[i32; SLOTS], boxes: usize, width: usize, start: &[i64; BOX_SIZE], left: usize, count: u32, end: &mut [i64; BOX_SIZE], swept: &mut [i64; BOX_SIZE]) -> Walked
+fn leg(
+    b: Budget,
+    p: Plant,
+    sheet: &[i32; SLOTS],
+    boxes: usize,
+    width: usize,
+    start: &[i64; BOX_SIZE],
+    left: usize,
+    count: u32,
+    end: &mut [i64; BOX_SIZE],
+    swept: &mut [i64; BOX_SIZE],
+) -> Walked
     requires { ⌜ Usable (machineOf p (now sheet)) × (boxes ≤ slots.maxBoxes) ⌝ }
     requires { ⌜ ((0 < width) × (width ≤ 1000)) × ((0 < left) × (Sides stepLimit (now start) × (count + 8 * width ≤ countLimit))) ⌝ }
-    ensures {
-        λ r. ⌜ legged (now (end .exit)) (now (swept .exit)) r ≡ leg (b .limited) (b .allowance) (machineOf p (now (sheet .entry))) (clear (p .n) (now (sheet .entry)) boxes) width (now (start .entry)) left count ⌝
-    }
+    ensures { λ r. ⌜ legged (now (end .exit)) (now (swept .exit)) r ≡ leg (b .limited) (b .allowance) (machineOf p (now (sheet .entry))) (clear (p .n) (now (sheet .entry)) boxes) width (now (start .entry)) left count ⌝ }
     ensures { λ r. ⌜ now (swept .exit) ≡ spec.hull (p .n) (now (start .entry)) (now (end .exit)) ⌝ }
 {
     let r = step(b, p, sheet, start, smaller(width, left), count, end);
@@ -45,9 +57,15 @@ fn leg(b: Budget, p: Plant, sheet: &[i32; SLOTS], boxes: usize, width: usize, st
     match r {
         Stepped::Settled { ticks, count: c } => {
             if meets_unsafe(p.n, swept, sheet, boxes) {
-                return Walked::Unsafe { left: left, count: c };
+                return Walked::Unsafe {
+                    left: left,
+                    count: c,
+                };
             }
-            Walked::Ended { ticks: ticks, count: c }
+            Walked::Ended {
+                ticks: ticks,
+                count: c,
+            }
         }
         Stepped::Unsettled { count: c } => Walked::Unsettled { count: c },
         Stepped::Out { count: c } => Walked::Out { count: c },
@@ -56,12 +74,20 @@ fn leg(b: Budget, p: Plant, sheet: &[i32; SLOTS], boxes: usize, width: usize, st
 
 // Steps of at most `width` ticks from `end`, after `count` rounds, until `ticks` ticks are covered. `end` becomes the last end
 // box and `swept` the hull of the swept boxes, or that of the step that failed.
-pub fn walk(b: Budget, p: Plant, sheet: &[i32; SLOTS], boxes: usize, width: usize, ticks: usize, count: u32, end: &mut [i64; BOX_SIZE], swept: &mut [i64; BOX_SIZE]) -> Walked
+pub fn walk(
+    b: Budget,
+    p: Plant,
+    sheet: &[i32; SLOTS],
+    boxes: usize,
+    width: usize,
+    ticks: usize,
+    count: u32,
+    end: &mut [i64; BOX_SIZE],
+    swept: &mut [i64; BOX_SIZE],
+) -> Walked
     requires { ⌜ Usable (machineOf p (now sheet)) × (boxes ≤ slots.maxBoxes) ⌝ }
     requires { ⌜ ((0 < width) × (width ≤ 1000)) × ((ticks ≤ 1000) × (Sides walkLimit (now end) × (count + 73 * ticks + 8 * width ≤ countLimit))) ⌝ }
-    ensures {
-        λ r. ⌜ walked (now (end .exit)) (now (swept .exit)) r ≡ reach (b .limited) (b .allowance) (machineOf p (now (sheet .entry))) (clear (p .n) (now (sheet .entry)) boxes) width (now (end .entry)) ticks count ⌝
-    }
+    ensures { λ r. ⌜ walked (now (end .exit)) (now (swept .exit)) r ≡ reach (b .limited) (b .allowance) (machineOf p (now (sheet .entry))) (clear (p .n) (now (sheet .entry)) boxes) width (now (end .entry)) ticks count ⌝ }
 {
     *swept = *end;
     let mut left = ticks;
@@ -78,5 +104,8 @@ pub fn walk(b: Budget, p: Plant, sheet: &[i32; SLOTS], boxes: usize, width: usiz
         left -= t;
         c = d;
     }
-    Walked::Ended { ticks: ticks, count: c }
+    Walked::Ended {
+        ticks: ticks,
+        count: c,
+    }
 }

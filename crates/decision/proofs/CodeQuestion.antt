@@ -30,12 +30,12 @@ form-length n g e =
 module _ (v : List ℤ) (g : List ℕ) {a : ℕ} (p : a ≡ formRefusal (vars v) g) where
   pub stop-form : (a ≡ 0 → ⊥) → a ≡ questionRefusal v g
   unfolding questionRefusal
-  stop-form n = or-stop (formRefusal (vars v) g) _ p n
+  stop-form n = or-stop _ p n
 
   module _ (e : a ≡ 0) where
     pub stop-allowance : 1000000 < allowanceOf g → 13 ≡ questionRefusal v g
     unfolding questionRefusal allowanceRefusal
-    stop-allowance h = or-stop (allowanceRefusal g) _ {a = 13} (rw (lt-leb (allowanceOf g) 1000000 h) refl) (λ z. omega arith) ∙ or-go (formRefusal (vars v) g) _ p e
+    stop-allowance h = or-stop {a = 13} {r = allowanceRefusal g} _ (rw (lt-leb (allowanceOf g) 1000000 h) refl) (λ z. omega arith) ∙ or-go _ p e
 
     module _ (few : allowanceOf g ≤ 1000000) {b : ℕ} (q : b ≡ lawRefusal v (command (commandOf g))) where
       abbrev behind : ℕ
@@ -43,13 +43,13 @@ module _ (v : List ℤ) (g : List ℕ) {a : ℕ} (p : a ≡ formRefusal (vars v)
 
       go-law : behind ≡ questionRefusal v g
       unfolding questionRefusal allowanceRefusal
-      go-law = or-go (allowanceRefusal g) behind {a = 0} (rw (le-leb (allowanceOf g) 1000000 few) refl) refl ∙ or-go (formRefusal (vars v) g) _ p e
+      go-law = or-go {a = 0} {r = allowanceRefusal g} behind (rw (le-leb (allowanceOf g) 1000000 few) refl) refl ∙ or-go _ p e
 
       pub stop-law : (b ≡ 0 → ⊥) → b ≡ questionRefusal v g
-      stop-law n = or-stop (lawRefusal v (command (commandOf g))) _ q n ∙ go-law
+      stop-law n = or-stop _ q n ∙ go-law
 
       pub stop-sides : b ≡ 0 → sidesRefusal (vars v) (measured (vars v) g) ≡ questionRefusal v g
-      stop-sides f = or-go (lawRefusal v (command (commandOf g))) _ q f ∙ go-law
+      stop-sides f = or-go _ q f ∙ go-law
 
 -- ---- a question that is not refused
 

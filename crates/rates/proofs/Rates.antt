@@ -63,8 +63,8 @@ module _ (v : List ℤ) (bands k : ℕ) (l h : ℤ) where
 -- an accepted sheet's machine is usable
 pub usable : {v : List ℤ} (l : Law) → Valid v → Usable (machine v l)
 usable l h = record {
-  vars = h .vars-high;
-  bands = h .bands-high;
+  vars = omega (arith, h .vars-high);
+  bands = omega (arith, h .bands-high);
   var = h .var;
   caps = h .caps;
   divisors = λ k i b n. h .rows k i b n .q .low;

@@ -231,8 +231,8 @@ fn face_rate(
     ensures { λ r. ⌜ r ≡ faceRate up (machineOf p (now (sheet .entry))) (now (s .entry)) k (now (e .entry)) i ⌝ }
 {
     let ic = FIRST_CAP + i;
-    let next = k + 1;
-    let reach = (next as i64) * (sheet[ic] as i64);
+    let ticks = k + 1;
+    let reach = (ticks as i64) * (sheet[ic] as i64);
     let b = neighborhood(up, s, reach, e, i);
     rate(up, p, sheet, &b, i)
 }

@@ -1,5 +1,5 @@
 -- Where in a file the code's loops come to a record's fields. Assumes nothing.
-use mathlib.Core.Path.{_≡_, refl, ap}
+use mathlib.Core.Path.{_≡_, ap}
 use mathlib.Core.List.{List}
 use Prim.Native.Nat.{ℕ, zero, suc, _+_, _*_, _≤_, _<_}
 use native.Mathlib.Omega.{arith}
@@ -26,11 +26,6 @@ pub band-filled : (n k : ℕ) (f : List ℕ) (at : ℕ) (v : List ℤ)
 unfolding bandFields edgeField _▸_ filled offset
 band-filled n zero f at v = rw (add-zero at)
 band-filled n (suc k) f at v = rw (add-zero at)
-
-pub edge-width : (k : ℕ) → width i32 ≡ width (edgeField k .kind)
-unfolding edgeField
-edge-width zero = refl
-edge-width (suc k) = refl
 
 -- row i lies within the rows
 pub row-room : (n i : ℕ) → i < n → i * (2 * n + 12) + (2 * n + 12) ≤ n * (2 * n + 12)

@@ -8,13 +8,15 @@ ghost use mir.Val.{ofZ};
 ghost use Rattle.integers.specs.Bytes.{be};
 ghost use Rattle.sheet.specs.Slots.{_!_, slots};
 ghost use Rattle.sheet.specs.Fields.{u8, u16, i16, i32, decoded, encoded};
-
 use crate::slots::SLOTS;
 
 // So many bytes a number has.
 pub const U8: usize = 1;
+
 pub const U16: usize = 2;
+
 pub const I16: usize = 2;
+
 pub const I32: usize = 4;
 
 fn wide(b: u8) -> u32

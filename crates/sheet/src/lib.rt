@@ -15,16 +15,20 @@ ghost use Rattle.sheet.specs.File.{marked};
 ghost use Rattle.sheet.specs.Sheet.{zeros, headOf, contents, refusal, values};
 ghost use Rattle.sheet.specs.Written.{Wrote};
 
-pub mod slots;
-pub mod refusals;
 pub mod bytes;
-mod tests;
 mod marks;
 mod reader;
+pub mod refusals;
+pub mod slots;
+mod tests;
 mod writer;
 
-use slots::{SLOTS, VARS, BANDS, BOXES};
-use refusals::{BEGINNING, SIZE};
+use refusals::BEGINNING;
+use refusals::SIZE;
+use slots::BANDS;
+use slots::BOXES;
+use slots::SLOTS;
+use slots::VARS;
 
 // A refusal, or 0 and a sheet's numbers.
 pub struct Parsed {
@@ -105,7 +109,10 @@ pub fn read(f: &[u8]) -> Parsed
 {
     let mut value = [0i32; SLOTS];
     let refusal = read_into(f, &mut value);
-    Parsed { refusal: refusal, value: value }
+    Parsed {
+        refusal: refusal,
+        value: value,
+    }
 }
 
 // Writes a sheet to the buffer from a place on; a refusal leaves the buffer as it was.
@@ -114,7 +121,10 @@ pub fn write(v: &[i32; SLOTS], buffer: &mut [u8], place: usize) -> Written
 {
     let x = writer::bad_sheet(v);
     if x != 0 {
-        return Written { refusal: x, length: 0 };
+        return Written {
+            refusal: x,
+            length: 0,
+        };
     }
     writer::write_valid(v, buffer, place)
 }

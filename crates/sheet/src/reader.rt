@@ -8,12 +8,12 @@ ghost use Rattle.sheet.specs.Steps.{sized};
 ghost use Rattle.sheet.specs.Fields.{offset, filled};
 ghost use Rattle.sheet.specs.Layout.{headFields, rowFields, bandFields, boxFields};
 ghost use Rattle.sheet.specs.File.{records, fieldsAt, countAt, start, filledAll, markedAt, badAll};
-
 use crate::bytes::*;
 use crate::marks::*;
 use crate::refusals::MARK;
 use crate::slots::*;
-use crate::tests::{first, bad_record};
+use crate::tests::bad_record;
+use crate::tests::first;
 
 // The head's numbers but for the caps.
 pub fn read_head(f: &[u8], v: &mut [i32; SLOTS])
@@ -69,7 +69,13 @@ fn read_band(f: &[u8], at: usize, n: usize, k: usize, v: &mut [i32; SLOTS])
     v[slot + SAFETY_GREATEST] = get_i32(f, at + SAFETY_GREATEST_AT);
     let mut i: usize = 0;
     while i < n {
-        read_row(f, at + ROWS_AT + i * (I16 * n + REST), n, slot + FIRST_ROW + i * ROW_SIZE, v);
+        read_row(
+            f,
+            at + ROWS_AT + i * (I16 * n + REST),
+            n,
+            slot + FIRST_ROW + i * ROW_SIZE,
+            v,
+        );
         i = i + 1;
     }
 }
@@ -87,7 +93,15 @@ fn read_box(f: &[u8], at: usize, n: usize, slot: usize, v: &mut [i32; SLOTS])
 }
 
 // The numbers of the r-th record, which starts at a place.
-fn read_record(f: &[u8], at: usize, n: usize, bands: usize, boxes: usize, r: usize, v: &mut [i32; SLOTS])
+fn read_record(
+    f: &[u8],
+    at: usize,
+    n: usize,
+    bands: usize,
+    boxes: usize,
+    r: usize,
+    v: &mut [i32; SLOTS],
+)
     requires { ⌜ (n ≤ N) × ((bands ≤ maxBands) × ((boxes ≤ maxBoxes) × (r < bands + boxes + 2))) ⌝ }
     requires { ⌜ (at ≡ start (sized n bands boxes) r) × (at + (2 + offset (fieldsAt (sized n bands boxes) r) (countAt (sized n bands boxes) r)) ≤ length (now f)) ⌝ }
     ensures { λ _. ⌜ now (v .exit) ≡ filled (fieldsAt (sized n bands boxes) r) (now (f .entry)) (at + 2) (countAt (sized n bands boxes) r) (now (v .entry)) ⌝ }

@@ -9,23 +9,42 @@ ghost use Rattle.sheet.specs.Steps.{orElse, sized};
 ghost use Rattle.sheet.specs.Fields.{Field, test, bad};
 ghost use Rattle.sheet.specs.Layout.{headFields, edgeField, rowFields, bandFields, boxFields};
 ghost use Rattle.sheet.specs.File.{fieldsAt, countAt, badAll};
-
-use crate::refusals::{SHAPE, TIMES, COMMANDS, CAP, EDGE, SAFETY, ROW, SIDE};
+use crate::refusals::CAP;
+use crate::refusals::COMMANDS;
+use crate::refusals::EDGE;
+use crate::refusals::ROW;
+use crate::refusals::SAFETY;
+use crate::refusals::SHAPE;
+use crate::refusals::SIDE;
+use crate::refusals::TIMES;
 use crate::slots::*;
 
 const MAX_VARS: i64 = 4;
+
 const MAX_TICKS: i64 = 1000;
+
 const MAX_COMMAND: i64 = 10000;
+
 const MIN_COMMAND: i64 = -MAX_COMMAND;
+
 const MAX_CAP: i64 = 1000;
+
 const MAX_EDGE: i64 = 2000000;
+
 const MIN_EDGE: i64 = -MAX_EDGE;
+
 const MAX_COEFFICIENT: i64 = 1000;
+
 const MIN_COEFFICIENT: i64 = -MAX_COEFFICIENT;
+
 const MAX_OFFSET: i64 = 100000000;
+
 const MIN_OFFSET: i64 = -MAX_OFFSET;
+
 const MAX_DIVISOR: i64 = 4096;
+
 const MAX_UNSAFE: u32 = 2000000;
+
 const MAX_RECOVERY: u32 = 1000000;
 
 // The number at a slot, where one more and one less fit too.
@@ -119,7 +138,14 @@ pub fn bad_band(v: &[i32; SLOTS], n: usize, k: usize) -> u8
     let greatest = value(v, GREATEST);
     let mut x = bad_edge(v, k);
     x = after(x, v, slot + SAFETY_LEAST, value(v, LEAST), greatest, SAFETY);
-    x = after(x, v, slot + SAFETY_GREATEST, value(v, slot + SAFETY_LEAST), greatest, SAFETY);
+    x = after(
+        x,
+        v,
+        slot + SAFETY_GREATEST,
+        value(v, slot + SAFETY_LEAST),
+        greatest,
+        SAFETY,
+    );
     let mut i: usize = 0;
     while i < n {
         x = first(x, bad_row(v, n, slot + FIRST_ROW + i * ROW_SIZE));

@@ -7,16 +7,17 @@ ghost use Rattle.sheet.specs.Slots.{N, maxBands, maxBoxes, headSize, row
 ghost use Rattle.sheet.specs.Steps.{sized};
 ghost use Rattle.sheet.specs.Fields.{offset, coded};
 ghost use Rattle.sheet.specs.Layout.{headFields, rowFields, bandFields, boxFields};
+ghost use Rattle.sheet.specs.File.{recordAt, fieldsAt, countAt, start, recordBytes, codedAll};
 ghost use Rattle.sheet.specs.Sheet.{valueRefusal};
 ghost use Rattle.sheet.specs.Written.{Wrote};
-ghost use Rattle.sheet.specs.File.{recordAt, fieldsAt, countAt, start, recordBytes, codedAll};
-
+use crate::Written;
 use crate::bytes::*;
+use crate::count;
 use crate::marks::*;
 use crate::refusals::ROOM;
 use crate::slots::*;
-use crate::tests::{bad_head, bad_values};
-use crate::{Written, count};
+use crate::tests::bad_head;
+use crate::tests::bad_values;
 
 // The head's numbers but for the caps.
 fn write_head(s: &mut [u8], v: &[i32; SLOTS])
@@ -72,7 +73,13 @@ fn write_band(s: &mut [u8], n: usize, v: &[i32; SLOTS], k: usize)
     put_i32(s, LETTERS + SAFETY_GREATEST_AT, v, slot + SAFETY_GREATEST);
     let mut i: usize = 0;
     while i < n {
-        write_row(s, LETTERS + ROWS_AT + i * (I16 * n + REST), n, v, slot + FIRST_ROW + i * ROW_SIZE);
+        write_row(
+            s,
+            LETTERS + ROWS_AT + i * (I16 * n + REST),
+            n,
+            v,
+            slot + FIRST_ROW + i * ROW_SIZE,
+        );
         i = i + 1;
     }
 }
@@ -154,11 +161,20 @@ pub fn write_valid(v: &[i32; SLOTS], buffer: &mut [u8], place: usize) -> Written
     let boxes = count(v, BOXES);
     let length = file_length(n, bands, boxes);
     if buffer.len() < place {
-        return Written { refusal: ROOM, length: 0 };
+        return Written {
+            refusal: ROOM,
+            length: 0,
+        };
     }
     if buffer.len() - place < length {
-        return Written { refusal: ROOM, length: 0 };
+        return Written {
+            refusal: ROOM,
+            length: 0,
+        };
     }
     write_records(&mut buffer[place..], n, bands, boxes, v);
-    Written { refusal: 0, length: length }
+    Written {
+        refusal: 0,
+        length: length,
+    }
 }

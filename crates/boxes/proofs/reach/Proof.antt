@@ -1,10 +1,8 @@
 -- `reach` answers what the definition does of any file. Assumes nothing.
 use mathlib.Core.Path.{sym, ap, _∙_, subst}
 use mathlib.Core.List.{List}
-use Prim.Native.Nat.{ℕ}
 use lib.IntN.{ℤ}
 use mir.Facts.{toZ-ofZ}
-use Rattle.sheet.specs.Sheet.{refusal}
 use Rattle.sheet.specs.Valid.{Valid}
 use Rattle.sheet.proofs.Valid.{valid}
 use Rattle.rates.specs.Plant.{lawOf}
@@ -13,20 +11,16 @@ use Rattle.boxes.proofs.CodeRefusals.{if-refused, if-accepted}
 use Rattle.boxes.proofs.reach.Statement.{statement}
 use Rattle.boxes.proofs.reach.Tie as tie
 
--- the file that was read
-abbrev file : tie.After-read-into → List ℕ
-file r = r .before .before .before .args .f .now
-
 returns : tie.Need-returns
 unfolding reachFile
 returns c =
     let r = c .before .before in
-    c .refused .ensures ∙ if-refused (refusal (file r)) _ (r .read-into .ensures .0) (c .before .if1 .taken)
+    c .refused .ensures ∙ if-refused _ (r .read-into .ensures .0) (c .before .if1 .taken)
 
 reach-of-requires : tie.Need-reach-of-requires
 reach-of-requires c κs =
     let r = c .before .before in
-    subst Valid (sym (r .read-into .ensures .1)) (valid (file r) (sym (r .read-into .ensures .0) ∙ c .before .if1 .left))
+    subst Valid (sym (r .read-into .ensures .1)) (valid _ (sym (r .read-into .ensures .0) ∙ c .before .if1 .left))
 
 returns-2 : tie.Need-returns-2
 unfolding reachFile
@@ -37,7 +31,7 @@ returns-2 c =
     c .reach-of .ensures
     ∙ ap (λ (u : ℤ). reachOf (r .read-into .last .1 .0) (s .args .ticks) (s .args .width) (lawOf (s .args .baseline) u) (s .args .start .now)) (toZ-ofZ (s .fits .command))
     ∙ ap (λ (v : List ℤ). reachOf v (s .args .ticks) (s .args .width) (lawOf (s .args .baseline) (s .args .command)) (s .args .start .now)) (r .read-into .ensures .1)
-    ∙ if-accepted (refusal (file r)) _ (r .read-into .ensures .0) (e .if1 .left)
+    ∙ if-accepted _ (r .read-into .ensures .0) (e .if1 .left)
 
 pub reach-spec : {M : Type 1} → statement M
 reach-spec = tie.close (tie.spec (λ c κs. tt) (λ c κs. tt) returns reach-of-requires returns-2)

@@ -6,13 +6,11 @@ use lib.IntN.{ℤ}
 use mir.Facts.{toZ-ofZ}
 use borrow.Author.Needs.{needs}
 use denote.Enum.Declared.{tagOf}
-use Rattle.sheet.specs.Slots.{vars}
 use Rattle.rates.specs.Machine.{Law, Machine, machine}
 use Rattle.rates.specs.Plant.{Usable, lawOf, machineOf}
 use Rattle.rates.proofs.Rates.{usable}
 use Rattle.rates.proofs.Sides.{wider}
-use Rattle.boxes.specs.Reach.{reachRefusal}
-use Rattle.boxes.proofs.CodeRefusals.{reach-refused, walkable, reach-ended, reach-failed}
+use Rattle.boxes.proofs.CodeRefusals.{Refusal, reach-refused, walkable, reach-ended, reach-failed}
 use Rattle.boxes.proofs.walk.Walked.{the-type}
 use Rattle.boxes.proofs.reach_of.Statement.{statement}
 use Rattle.boxes.proofs.reach_of.Tie as tie
@@ -27,30 +25,24 @@ module _ (c : tie.After-plant) where
   works : Usable (machineOf (c .plant .result) (c .before .args .sheet .now))
   works = subst Usable (sym plant-is) (usable (law (c .before)) (c .before .pre))
 
-  vars-is : c .plant .result .n ≡ vars (c .before .args .sheet .now)
-  vars-is = ap (λ (m : Machine). m .n) plant-is
-
-module _ (c : tie.After-reach-refusal) where
-  abbrev s : tie.Start
-  s = c .before .before
-
-  refusal-is : c .reach-refusal .result ≡ reachRefusal (s .args .sheet .now) (s .args .ticks) (s .args .width) (law s) (s .args .start .now)
-  refusal-is = c .reach-refusal .ensures ∙ ap (λ (u : ℤ). reachRefusal (s .args .sheet .now) (s .args .ticks) (s .args .width) (lawOf (s .args .baseline) u) (s .args .start .now)) (toZ-ofZ (s .fits .command))
+refusal-is : (c : tie.After-reach-refusal)
+    → let s = c .before .before in Refusal (s .args .sheet .now) (s .args .ticks) (s .args .width) (law s) (s .args .start .now) (c .reach-refusal .result)
+refusal-is c =
+    let s = c .before .before in
+    subst (λ (u : ℤ). Refusal (s .args .sheet .now) (s .args .ticks) (s .args .width) (lawOf (s .args .baseline) u) (s .args .start .now) (c .reach-refusal .result)) (toZ-ofZ (s .fits .command)) (record { is = c .reach-refusal .ensures })
 
 reach-refusal-requires : tie.Need-reach-refusal-requires
-reach-refusal-requires c κs = (vars-is c, works c .vars)
+reach-refusal-requires c κs = (ap (λ (m : Machine). m .n) (plant-is c), works c .vars)
 
 returns : tie.Need-returns
-returns c =
-    let r = c .before .before in
-    c .refused .ensures ∙ reach-refused (s r .args .sheet .now) (s r .args .ticks) (s r .args .width) (law (s r)) (s r .args .start .now) (refusal-is r) (c .before .if1 .taken)
+returns c = c .refused .ensures ∙ reach-refused (refusal-is (c .before .before)) (c .before .if1 .taken)
 
 walk-requires : tie.Need-walk-requires
 walk-requires c κs =
     let t = c .before .before in
     let r = t .before .before in
-    let w = walkable (s r .args .sheet .now) (s r .args .ticks) (s r .args .width) (law (s r)) (s r .args .start .now) (refusal-is r) (t .before .if1 .left) (plant-is (r .before)) (t .trim .ensures) in
-    ((works (r .before), omega arith), (w .0, (w .1 .0, (wider (omega arith) (w .1 .1), omega arith))))
+    let w = walkable (refusal-is r) (t .before .if1 .left) (plant-is (r .before)) (t .trim .ensures) in
+    ((works (r .before), omega arith), (w .0, (w .1 .0, (wider (omega arith) (w .1 .1), omega (arith, w .0, w .1 .0)))))
 
 returns-2 : tie.Need-returns-2
 returns-2 c =
@@ -58,7 +50,7 @@ returns-2 c =
     let t = w .before .before .before in
     let r = t .before .before in
     c .refused2 .ensures
-    ∙ reach-failed (s r .args .sheet .now) (s r .args .ticks) (s r .args .width) (law (s r)) (s r .args .start .now) (refusal-is r) (t .before .if1 .left) (plant-is (r .before)) (t .trim .ensures) (w .walk .result) _ _ (w .walk .ensures)
+    ∙ reach-failed (refusal-is r) (t .before .if1 .left) (plant-is (r .before)) (t .trim .ensures) (w .walk .result) _ _ (w .walk .ensures)
     (λ i j q. let z : tagOf the-type (w .walk .result) ≡ 0 = ap (tagOf the-type) q in ⊎-elim (λ o. omega arith) (⊎-elim (λ o. omega arith) (λ o. omega arith)) (c .before .match .keys2))
 
 returns-3 : tie.Need-returns-3
@@ -67,7 +59,7 @@ returns-3 c =
     let w = k .before .before in
     let t = w .before .before .before in
     let r = t .before .before in
-    reach-ended (s r .args .sheet .now) (s r .args .ticks) (s r .args .width) (law (s r)) (s r .args .start .now) (refusal-is r) (t .before .if1 .left) (plant-is (r .before)) (t .trim .ensures) (w .walk .result) _ _ (w .walk .ensures) (k .r .given .0 .0) (k .r .given .0 .1 .0) (k .r .given .1)
+    reach-ended (refusal-is r) (t .before .if1 .left) (plant-is (r .before)) (t .trim .ensures) (w .walk .result) _ _ (w .walk .ensures) (k .r .given .0 .0) (k .r .given .0 .1 .0) (k .r .given .1)
 
 pub reach-of-spec : {M : Type 1} → statement M
 reach-of-spec =

@@ -17,7 +17,7 @@ element-copy-out-x : tie.Need-element-copy-out-x
 element-copy-out-x c = search needs
 
 cast-result : tie.Need-cast-result
-cast-result c =     let z = c .before .args .v .now ! c .before .args .slot in
+cast-result c = let z = c .before .args .v .now ! c .before .args .slot in
     let f : SFits w32 z = search needs in
     let h = high w32 z (c .before .pre .1) f in
     simp (toZ-ofZ, f) (h .sign, record { fits = omega (arith, h .size .fits) })

@@ -51,11 +51,11 @@ bad-head-requires : tie.Need-bad-head-requires
 bad-head-requires c κs = search needs
 
 returns-3 : tie.Need-returns-3
-returns-3 c =     let h = c .before .before .before in
+returns-3 c = let h = c .before .before .before in
     (refused-head _ (begun (h .before .before)) _ (c .before .bad-head .ensures ∙ ap (λ (v : List ℤ). bad headFields v headSize) (head-read h)) (c .if3 .taken), λ e. absurd (c .if3 .taken e))
 
 read-rest-requires : tie.Need-read-rest-requires
-read-rest-requires c κs =     let h = c .before .before .before .before in
+read-rest-requires c κs = let h = c .before .before .before .before in
     (begun (h .before .before), (head-read h, sym (c .before .if3 .left) ∙ c .before .before .bad-head .ensures))
 
 returns-4 : tie.Need-returns-4

@@ -16,12 +16,12 @@ clear-requires-2 : tie.Need-clear-requires-2
 clear-requires-2 c κs = search needs
 
 returns : tie.Need-returns
-returns c =     let d = c .before .before in
+returns c = let d = c .before .before in
     let e = d .before .read-cleared .ensures in
     (e .0, c .clear2 .ensures ∙ sym (values-zero _ (λ z. d .if1 .taken (e .0 ∙ z))))
 
 returns-2 : tie.Need-returns-2
-returns-2 c =     let e = c .before .read-cleared .ensures in
+returns-2 c = let e = c .before .read-cleared .ensures in
     (e .0, e .1 (c .if1 .left) ∙ sym (accepted _ (sym (e .0) ∙ c .if1 .left) .values))
 
 pub read-into-spec : {M : Type 1} → statement M

@@ -46,7 +46,7 @@ file-length-requires : tie.Need-file-length-requires
 file-length-requires c κs = small-counts c
 
 returns : tie.Need-returns
-returns c =     let d = c .before .before in
+returns c = let d = c .before .before in
     let p = began d .pre in
     (rest-short _ _ _ _ _ (p .0) (p .1 .0) (p .1 .1) (n-is d) (b-is d) (g-is d) (c .before .file-length .ensures) (c .if1 .taken), λ e. (let z : ⊥ = omega arith in absurd z))
 
@@ -57,7 +57,7 @@ bad-file-requires : tie.Need-bad-file-requires
 bad-file-requires c κs = (small-counts (c .before .before .before .before .before), omega (arith, c .before .before .before .before .file-length .ensures, c .before .before .before .if1 .left))
 
 returns-2 : tie.Need-returns-2
-returns-2 c =     let e = c .before .before .before .before in
+returns-2 c = let e = c .before .before .before .before in
     let d = e .before .before in
     let p = began d .pre in
     rest-read _ _ _ _ _ (p .0) (p .1 .0) (p .1 .1) (n-is d) (b-is d) (g-is d) (e .before .file-length .ensures) (e .if1 .left) (c .before .before .read-records .ensures) (c .bad-file .ensures)

@@ -1,6 +1,6 @@
 -- `leg` does what the definition's leg does, and leaves the step's swept box. Assumes nothing.
-use mathlib.Core.Path.{_≡_, sym, ap, _∙_}
-use mathlib.Core.Bool.{Bool, not}
+use mathlib.Core.Path.{refl, ap, _∙_}
+use mathlib.Core.Bool.{Bool}
 use mathlib.Core.List.{List}
 use Prim.Native.Nat.{ℕ}
 use native.Mathlib.Omega.{arith}
@@ -46,7 +46,7 @@ returns c =
     let u = c .before in
     let k = u .before .before .before in
     let h = k .before .before in
-    (leg-unsafe (stepping h) (free h) (k .r .given .0 .0) (k .r .given .0 .1 .0) (k .r .given .1) _ (ap not (sym (u .meets-unsafe .ensures))) (c .if1 .taken), h .hull .ensures)
+    (leg-unsafe (stepping h) (free h) (k .r .given .0 .0) (k .r .given .0 .1 .0) (k .r .given .1) (u .meets-unsafe .ensures) refl (c .if1 .taken), h .hull .ensures)
 
 returns-2 : tie.Need-returns-2
 unfolding clear
@@ -54,7 +54,7 @@ returns-2 c =
     let u = c .before in
     let k = u .before .before .before in
     let h = k .before .before in
-    (leg-clear (stepping h) (free h) (k .r .given .0 .0) (k .r .given .0 .1 .0) (k .r .given .1) _ (ap not (sym (u .meets-unsafe .ensures))) (c .if1 .left), h .hull .ensures)
+    (leg-clear (stepping h) (free h) (k .r .given .0 .0) (k .r .given .0 .1 .0) (k .r .given .1) (u .meets-unsafe .ensures) refl (c .if1 .left), h .hull .ensures)
 
 returns-3 : tie.Need-returns-3
 returns-3 c = let k = c .before in let h = k .before .before in (leg-unsettled (stepping h) (free h) (k .r2 .given .0 .0) (k .r2 .given .1), h .hull .ensures)

@@ -2,7 +2,7 @@
 use mathlib.Core.Path.{_≡_, ap}
 use mathlib.Core.Logic.{⊎-elim}
 use mathlib.Core.List.{List}
-use Prim.Native.Nat.{ℕ, _≤_, _<_, _-_, _+_, _*_}
+use Prim.Native.Nat.{ℕ, _≤_, _-_, _+_, _*_}
 use native.Mathlib.Omega.{arith}
 use lib.IntN.{ℤ}
 use borrow.Author.Needs.{needs}
@@ -71,10 +71,13 @@ returns c =
 
 loop-again : tie.Need-loop-again Inv-loop μ-loop
 loop-again c =
-    let n = covers c in
-    ((omega (arith, d c .loop .inv .0), omega (arith, d c .loop .inv .0, n .1, n .0 .some, n .0 .most)),
-    (wider (omega (arith, n .0 .some, n .0 .most, d c .loop .inv .0)) (n .0 .sides),
-    walking-on (d c .loop .inv .1 .1) (g c .leg .result) _ _ (omega arith) (g c .leg .ensures .0) (t c) (i c) (k c .r .given .1) (n .0 .some) (n .0 .most) (g c .leg .ensures .1) _ (c .hull .ensures)))
+    let n = covers c in (
+      (omega (arith, d c .loop .inv .0), omega (arith, d c .loop .inv .0, n .1, n .0 .some, n .0 .most)),
+      (
+        wider (omega (arith, n .0 .some, n .0 .most, d c .loop .inv .0)) (n .0 .sides),
+        walking-on (d c .loop .inv .1 .1) (g c .leg .result) _ _ (omega arith) (g c .leg .ensures .0) (t c) (i c) (k c .r .given .1) (n .0 .some) (n .0 .most) (g c .leg .ensures .1) _ (c .hull .ensures),
+      ),
+    )
 
 returns-2 : tie.Need-returns-2 Inv-loop μ-loop
 returns-2 c = walking-ends (c .before .loop .inv .1 .1) (omega arith)

@@ -27,15 +27,15 @@ module _ (c : tie.Start) where
   reach-low : pos 0 ≤ℤ reach
   reach-low = times-low (c .args .k + 1) (cap (c .args .sheet .now) (c .args .i)) (omega (ints, c .pre .0 .0 .caps (c .args .i) (c .pre .1 .0) .low))
 
-  next-is : toZ w64 (c .args .k + 1) ≡ pos (c .args .k + 1)
-  next-is = toZ-pos w64 (omega (arith, c .pre .1 .1))
+  ticks-is : toZ w64 (c .args .k + 1) ≡ pos (c .args .k + 1)
+  ticks-is = toZ-pos w64 (omega (arith, c .pre .1 .1))
 
 -- the reach, as the code has it
 reach-is : (c : tie.After-reach) → let s = c .before in toZ w64 (ofZ w64 (toZ w64 (s .args .k + 1) *ℤ cap (s .args .sheet .now) (s .args .i))) ≡ reach s
-reach-is c = rw (next-is (c .before)) (toZ-ofZ (fits64 (reach-bound (c .before)) tt))
+reach-is c = rw (ticks-is (c .before)) (toZ-ofZ (fits64 (reach-bound (c .before)) tt))
 
 mul-reach-2 : tie.Need-mul-reach-2
-mul-reach-2 c = simp (wide, c .reach .given) (rw (next-is (c .before)) (fits64 (reach-bound (c .before)) tt))
+mul-reach-2 c = simp (wide, c .reach .given, ticks-is (c .before)) (fits64 (reach-bound (c .before)) tt)
 
 neighborhood-requires : tie.Need-neighborhood-requires
 neighborhood-requires c κs =

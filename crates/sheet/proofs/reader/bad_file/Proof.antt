@@ -23,9 +23,9 @@ abbrev μ-loop : tie.MeasureT-loop
 -- the r-th record lies within the file
 within-file : (c : tie.In-loop Inv-loop μ-loop)
     → (let a = c .before .before .before .args in
-      let s = sized (a .n) (a .bands) (a .boxes) in
-      let r = c .before .loop .r in
-      c .before .loop .at + (2 + offset (fieldsAt s r) (countAt s r)) ≤ length (a .f .now))
+    let s = sized (a .n) (a .bands) (a .boxes) in
+    let r = c .before .loop .r in
+    c .before .loop .at + (2 + offset (fieldsAt s r) (countAt s r)) ≤ length (a .f .now))
 within-file c =
     let a = c .before .before .before .args in
     omega (arith, c .before .loop .inv .1 .0, record-room (sized (a .n) (a .bands) (a .boxes)) (c .before .loop .r) (a .bands + a .boxes + 2) (length (a .f .now)) (omega arith) (c .before .before .before .pre .1))
@@ -68,7 +68,7 @@ loop-less : tie.Need-loop-less Inv-loop μ-loop
 loop-less c = omega arith
 
 loop-again : tie.Need-loop-again Inv-loop μ-loop
-loop-again c =     let w = c .before .before in
+loop-again c = let w = c .before .before in
     let m = w .before .before in
     let d = m .before .before .before in
     let a = d .before .before .args in
@@ -76,14 +76,18 @@ loop-again c =     let w = c .before .before in
     let r = d .loop .r in
     let i = d .loop .inv .1 in
     let letters = m .before .mark-of .ensures (a .n) in
-    let marks = markedAt s (a .f .now) in
-    (omega arith, (omega (arith, i .0, c .record-length .ensures, start-more s r),
-    c .before .first .ensures
-    ∙ ap₂ orElse (i .1) (bad-is s r marks (a .v .now) (mark-is s r (a .f .now) (i .0) (letters .0) (letters .1) (m .marked .ensures)) (w .before .bad-record .ensures) (w .wrong .ensures))
-    ∙ sym (bad-more s r marks (a .v .now))))
+    let marks = markedAt s (a .f .now) in (
+      omega arith,
+      (
+        omega (arith, i .0, c .record-length .ensures, start-more s r),
+        c .before .first .ensures
+            ∙ ap₂ orElse (i .1) (bad-is s r marks (a .v .now) (mark-is s r (a .f .now) (i .0) (letters .0) (letters .1) (m .marked .ensures)) (w .before .bad-record .ensures) (w .wrong .ensures))
+            ∙ sym (bad-more s r marks (a .v .now)),
+      ),
+    )
 
 returns : tie.Need-returns Inv-loop μ-loop
-returns c =     let a = c .before .before .before .args in
+returns c = let a = c .before .before .before .args in
     let e : c .before .loop .r ≡ a .bands + a .boxes + 2 = omega arith in
     let s = sized (a .n) (a .bands) (a .boxes) in
     c .before .loop .inv .1 .1 ∙ ap (badAll (markedAt s (a .f .now)) s (a .v .now)) e

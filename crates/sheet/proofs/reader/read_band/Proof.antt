@@ -25,7 +25,7 @@ abbrev μ-loop : tie.MeasureT-loop
 
 within-rows : (c : tie.In-loop Inv-loop μ-loop)
     → c .before .loop .i * (2 * c .before .before .before .before .before .before .args .n + 12) + (2 * c .before .before .before .before .before .before .args .n + 12)
-      ≤ c .before .before .before .before .before .before .args .n * (2 * c .before .before .before .before .before .before .args .n + 12)
+    ≤ c .before .before .before .before .before .before .args .n * (2 * c .before .before .before .before .before .before .args .n + 12)
 within-rows c = row-room _ _ (c .loop-test .taken)
 
 mul-slot : tie.Need-mul-slot Inv-loop μ-loop
@@ -110,20 +110,22 @@ loop-less : tie.Need-loop-less Inv-loop μ-loop
 loop-less c = omega arith
 
 loop-again : tie.Need-loop-again Inv-loop μ-loop
-loop-again c =     let d = c .before .before .before in
+loop-again c = let d = c .before .before .before in
     let a = d .before .before .before .before .before .args in
     let n = a .n in
     let i = d .loop .i in
     let p = bandFields n (a .k) in
     let q = rowFields n (rowSlot (a .k) i) in
     let f = a .f .now in
-    let e : a .at + 12 + i * (2 * n + 12) ≡ a .at + offset p (3 + i * (n + 4)) = omega (arith, row-offset n (a .k) i) in
-    (omega arith, λ w h.
-    c .read-row .ensures ∙ ap₂ (λ (b : ℕ) (u : List ℤ). filled q f b (n + 4) u) e (d .loop .inv .1 w h)
-    ∙ sym (filled-part p q (3 + i * (n + 4)) (n + 4) (row-run n (a .k) i) f (a .at) w) ∙ ap (λ (j : ℕ). filled p f (a .at) j w) (row-next n i))
+    let e : a .at + 12 + i * (2 * n + 12) ≡ a .at + offset p (3 + i * (n + 4)) = omega (arith, row-offset n (a .k) i) in (
+      omega arith,
+      λ w h.
+          c .read-row .ensures ∙ ap₂ (λ (b : ℕ) (u : List ℤ). filled q f b (n + 4) u) e (d .loop .inv .1 w h)
+          ∙ sym (filled-part p q (3 + i * (n + 4)) (n + 4) (row-run n (a .k) i) f (a .at) w) ∙ ap (λ (j : ℕ). filled p f (a .at) j w) (row-next n i),
+    )
 
 returns : tie.Need-returns Inv-loop μ-loop
-returns c =     let d = c .before .before in
+returns c = let d = c .before .before in
     let a = d .before .before .before .before .args in
     let e : c .before .loop .i ≡ a .n = omega arith in
     let one = d .before .before .get-i32 in

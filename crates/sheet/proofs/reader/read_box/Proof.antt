@@ -72,22 +72,24 @@ loop-less c = omega arith
 
 loop-again : tie.Need-loop-again Inv-loop μ-loop
 unfolding sideFields _▸_
-loop-again c =     let d = c .before .before .before in
+loop-again c = let d = c .before .before .before in
     let a = d .before .before .args in
     let i = d .loop .i in
     let s = a .slot in
     let f = a .f .now in
     let v = a .v .now in
-    let z : i * 2 + 0 ≡ i * 2 = omega arith in
-    (omega arith, λ h.
-    filled-next (boxFields h s) (i * 2 + 1) ((i + 1) * 2) (omega arith) _ (side-run h s i .at 1 (omega arith)) f (a .at) v (a .at + 8 * i + 4)
-    refl (stored (c .get-i322 .ensures) (c .get-i322 .ok)) (omega (arith, upper-offset h s i))
-    (filled-next (boxFields h s) (i * 2 + 0) (i * 2 + 1) (omega arith) _ (side-run h s i .at 0 (omega arith)) f (a .at) v (a .at + 8 * i)
-    refl (stored (c .before .get-i32 .ensures) (c .before .get-i32 .ok)) (omega (arith, side-offset h s i, ap (offset (boxFields h s)) z))
-    (d .loop .inv .1 h ∙ ap (λ (j : ℕ). filled (boxFields h s) f (a .at) j v) (omega arith))))
+    let z : i * 2 + 0 ≡ i * 2 = omega arith in (
+      omega arith,
+      λ h.
+          filled-next (boxFields h s) (i * 2 + 1) ((i + 1) * 2) (omega arith) _ (side-run h s i .at 1 (omega arith)) f (a .at) v (a .at + 8 * i + 4)
+          refl (stored (c .get-i322 .ensures) (c .get-i322 .ok)) (omega (arith, upper-offset h s i))
+          (filled-next (boxFields h s) (i * 2 + 0) (i * 2 + 1) (omega arith) _ (side-run h s i .at 0 (omega arith)) f (a .at) v (a .at + 8 * i)
+          refl (stored (c .before .get-i32 .ensures) (c .before .get-i32 .ok)) (omega (arith, side-offset h s i, ap (offset (boxFields h s)) z))
+          (d .loop .inv .1 h ∙ ap (λ (j : ℕ). filled (boxFields h s) f (a .at) j v) (omega arith))),
+    )
 
 returns : tie.Need-returns Inv-loop μ-loop
-returns c =     let a = c .before .before .before .args in
+returns c = let a = c .before .before .before .args in
     let e : c .before .loop .i ≡ a .n = omega arith in
     λ h. c .before .loop .inv .1 h ∙ ap (λ (i : ℕ). filled (boxFields h (a .slot)) (a .f .now) (a .at) (i * 2) (a .v .now)) e
 

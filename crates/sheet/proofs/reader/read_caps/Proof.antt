@@ -49,15 +49,16 @@ loop-less : tie.Need-loop-less Inv-loop μ-loop
 loop-less c = omega arith
 
 loop-again : tie.Need-loop-again Inv-loop μ-loop
-loop-again c =     let d = c .before .before in
-    let i = d .loop .i in
-    (omega arith,
-    filled-next capField i (i + 1) refl _ refl (d .before .before .before .before .args .f .now) 20 (d .before .read-head .last .1 .0) (20 + 2 * i)
-    refl (stored (c .get-u16 .ensures) (c .get-u16 .ok)) (omega (arith, cap-place i)) (d .loop .inv .1))
+loop-again c = let d = c .before .before in
+    let i = d .loop .i in (
+      omega arith,
+      filled-next capField i (i + 1) refl _ refl (d .before .before .before .before .args .f .now) 20 (d .before .read-head .last .1 .0) (20 + 2 * i)
+          refl (stored (c .get-u16 .ensures) (c .get-u16 .ok)) (omega (arith, cap-place i)) (d .loop .inv .1),
+    )
 
 returns : tie.Need-returns Inv-loop μ-loop
 unfolding headFields _▸_ offset
-returns c =     let d = c .before .before in
+returns c = let d = c .before .before in
     let a = d .before .before .before .args in
     let e : c .before .loop .i ≡ a .n = omega arith in
     c .before .loop .inv .1 ∙ ap₂ (filled capField (a .f .now) 20) e (d .read-head .ensures)

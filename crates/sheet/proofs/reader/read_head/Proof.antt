@@ -62,7 +62,7 @@ element-set-from-v-9 c = search needs
 
 returns : tie.Need-returns
 unfolding headFields _▸_ filled offset
-returns c =     let c7 = c .before in
+returns c = let c7 = c .before in
     let c6 = c7 .before in
     let c5 = c6 .before in
     let c4 = c5 .before in

@@ -80,7 +80,7 @@ read-box-requires-2 c κs = (c .before .before .before .before .before .pre .0 .
 
 returns : tie.Need-returns
 unfolding fields
-returns c =     let a = c .before .before .before .before .args in
+returns c = let a = c .before .before .before .before .args in
     those (c .before .before .before .before) (is-head (c .before .before))
     (c .read-caps .ensures ∙ ap (λ (b : ℕ). filled headFields (a .f .now) b (headSize + a .n) (a .v .now)) (at-head (c .before .before)))
 

@@ -22,9 +22,9 @@ abbrev μ-loop : tie.MeasureT-loop
 -- the r-th record lies within the file
 within-file : (c : tie.In-loop Inv-loop μ-loop)
     → (let a = c .before .before .before .args in
-      let s = sized (a .n) (a .bands) (a .boxes) in
-      let r = c .before .loop .r in
-      c .before .loop .at + (2 + offset (fieldsAt s r) (countAt s r)) ≤ length (a .f .now))
+    let s = sized (a .n) (a .bands) (a .boxes) in
+    let r = c .before .loop .r in
+    c .before .loop .at + (2 + offset (fieldsAt s r) (countAt s r)) ≤ length (a .f .now))
 within-file c =
     let a = c .before .before .before .args in
     omega (arith, c .before .loop .inv .1 .0, record-room (sized (a .n) (a .bands) (a .boxes)) (c .before .loop .r) (a .bands + a .boxes + 2) (length (a .f .now)) (omega arith) (c .before .before .before .pre .1))
@@ -55,16 +55,20 @@ loop-less : tie.Need-loop-less Inv-loop μ-loop
 loop-less c = omega arith
 
 loop-again : tie.Need-loop-again Inv-loop μ-loop
-loop-again c =     let d = c .before .before .before .before in
+loop-again c = let d = c .before .before .before .before in
     let a = d .before .before .args in
     let s = sized (a .n) (a .bands) (a .boxes) in
     let r = d .loop .r in
-    let i = d .loop .inv .1 in
-    (omega arith, (omega (arith, i .0, c .record-length .ensures, start-more s r),
-    c .before .read-record .ensures ∙ ap₂ (λ (b : ℕ) (u : List ℤ). filled (fieldsAt s r) (a .f .now) (b + 2) (countAt s r) u) (i .0) (i .1) ∙ sym (filled-more s r (a .f .now) (a .v .now))))
+    let i = d .loop .inv .1 in (
+      omega arith,
+      (
+        omega (arith, i .0, c .record-length .ensures, start-more s r),
+        c .before .read-record .ensures ∙ ap₂ (λ (b : ℕ) (u : List ℤ). filled (fieldsAt s r) (a .f .now) (b + 2) (countAt s r) u) (i .0) (i .1) ∙ sym (filled-more s r (a .f .now) (a .v .now)),
+      ),
+    )
 
 returns : tie.Need-returns Inv-loop μ-loop
-returns c =     let a = c .before .before .before .args in
+returns c = let a = c .before .before .before .args in
     let e : c .before .loop .r ≡ a .bands + a .boxes + 2 = omega arith in
     c .before .loop .inv .1 .1 ∙ ap (λ (r : ℕ). filledAll (sized (a .n) (a .bands) (a .boxes)) (a .f .now) r (a .v .now)) e
 

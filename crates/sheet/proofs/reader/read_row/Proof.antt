@@ -47,12 +47,13 @@ loop-less : tie.Need-loop-less Inv-loop μ-loop
 loop-less c = omega arith
 
 loop-again : tie.Need-loop-again Inv-loop μ-loop
-loop-again c =     let d = c .before .before in
+loop-again c = let d = c .before .before in
     let a = d .before .before .args in
-    let j = d .loop .j in
-    (omega arith,
-    filled-next (rowFields (a .n) (a .slot)) j (j + 1) refl _ (coefficient-at (a .n) (a .slot) j (omega arith)) (a .f .now) (a .at) (a .v .now) (a .at + 2 * j)
-    refl (stored (c .get-i16 .ensures) (c .get-i16 .ok)) (omega (arith, coefficient-offset (a .n) (a .slot) j (omega arith))) (d .loop .inv .1))
+    let j = d .loop .j in (
+      omega arith,
+      filled-next (rowFields (a .n) (a .slot)) j (j + 1) refl _ (coefficient-at (a .n) (a .slot) j (omega arith)) (a .f .now) (a .at) (a .v .now) (a .at + 2 * j)
+          refl (stored (c .get-i16 .ensures) (c .get-i16 .ok)) (omega (arith, coefficient-offset (a .n) (a .slot) j (omega arith))) (d .loop .inv .1),
+    )
 
 mul-rest : tie.Need-mul-rest Inv-loop μ-loop
 mul-rest c = omega arith
@@ -119,7 +120,7 @@ element-set-from-v-5 c = omega arith
 
 returns : tie.Need-returns Inv-loop μ-loop
 unfolding rowRest _▸_ offset
-returns c =     let c2 = c .before in
+returns c = let c2 = c .before in
     let c1 = c2 .before in
     let c0 = c1 .before in
     let d = c0 .before .before in

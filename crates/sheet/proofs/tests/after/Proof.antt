@@ -36,7 +36,7 @@ value-requires : tie.Need-value-requires
 value-requires c κs = search needs
 
 returns : tie.Need-returns
-returns c =     let d = c .before .before in
+returns c = let d = c .before .before in
     let f : SFits w64 (d .value .result) = search needs in
     let e = d .value .ensures .0 in
     λ p s l g k. orElse-none (d .before .args .x) ∙ ap (orElse (d .before .args .x)) (inside (d .before) p s l g (omega ints) (omega ints))
@@ -45,7 +45,7 @@ first-requires : tie.Need-first-requires
 first-requires c κs = search needs
 
 returns-2 : tie.Need-returns-2
-returns-2 c =     let d = c .before .before in
+returns-2 c = let d = c .before .before in
     let f : SFits w64 (d .value .result) = search needs in
     let e = d .value .ensures .0 in
     λ p s l g k. c .first .ensures ∙ ap (orElse (d .before .args .x))

@@ -56,15 +56,16 @@ after-requires-2 c κs = omega arith
 
 loop-holds : tie.Need-loop-holds Inv-loop μ-loop
 unfolding bandFields _▸_ bad firstRefusal
-loop-holds c =     let d = c .before .before .before .before in
+loop-holds c = let d = c .before .before .before .before in
     let a = d .before .before .args in
     let p = bandFields (a .n) (a .k) in
     let v = a .v .now in
-    let greatest = d .before .value .ensures in
-    (omega arith,
-    bad-next p 2 (3 + 0 * (a .n + 4)) (omega arith) _ refl v (c .after2 .ensures (p 2) (omega arith) (held (c .before .value3 .ensures .0) (c .before .value3 .ensures .1)) (held (greatest .0) (greatest .1)) refl)
-    (bad-next p 1 2 refl _ refl v (c .before .before .after .ensures (p 1) (omega arith) (held (c .before .before .before .value2 .ensures .0) (c .before .before .before .value2 .ensures .1)) (held (greatest .0) (greatest .1)) refl)
-    (d .bad-edge .ensures)))
+    let greatest = d .before .value .ensures in (
+      omega arith,
+      bad-next p 2 (3 + 0 * (a .n + 4)) (omega arith) _ refl v (c .after2 .ensures (p 2) (omega arith) (held (c .before .value3 .ensures .0) (c .before .value3 .ensures .1)) (held (greatest .0) (greatest .1)) refl)
+          (bad-next p 1 2 refl _ refl v (c .before .before .after .ensures (p 1) (omega arith) (held (c .before .before .before .value2 .ensures .0) (c .before .before .before .value2 .ensures .1)) (held (greatest .0) (greatest .1)) refl)
+          (d .bad-edge .ensures)),
+    )
 
 add-bad-row : tie.Need-add-bad-row Inv-loop μ-loop
 add-bad-row c = omega arith
@@ -88,18 +89,19 @@ loop-less : tie.Need-loop-less Inv-loop μ-loop
 loop-less c = omega arith
 
 loop-again : tie.Need-loop-again Inv-loop μ-loop
-loop-again c =     let d = c .before .before .before in
+loop-again c = let d = c .before .before .before in
     let a = d .before .before .before .before .before .before .before .args in
     let i = d .loop .i in
     let n = a .n in
     let p = bandFields n (a .k) in
-    let v = a .v .now in
-    (omega arith,
-    c .first .ensures ∙ ap₂ orElse (d .loop .inv .1) (c .before .bad-row .ensures)
-    ∙ sym (bad-part p (rowFields n (rowSlot (a .k) i)) (3 + i * (n + 4)) (n + 4) (row-run n (a .k) i) v) ∙ ap (bad p v) (row-next n i))
+    let v = a .v .now in (
+      omega arith,
+      c .first .ensures ∙ ap₂ orElse (d .loop .inv .1) (c .before .bad-row .ensures)
+          ∙ sym (bad-part p (rowFields n (rowSlot (a .k) i)) (3 + i * (n + 4)) (n + 4) (row-run n (a .k) i) v) ∙ ap (bad p v) (row-next n i),
+    )
 
 returns : tie.Need-returns Inv-loop μ-loop
-returns c =     let a = c .before .before .before .before .before .before .before .before .args in
+returns c = let a = c .before .before .before .before .before .before .before .before .args in
     let e : c .before .loop .i ≡ a .n = omega arith in
     c .before .loop .inv .1 ∙ ap (λ (i : ℕ). bad (bandFields (a .n) (a .k)) (a .v .now) (3 + i * (a .n + 4))) e
 

@@ -58,18 +58,19 @@ loop-less c = omega arith
 
 loop-again : tie.Need-loop-again Inv-loop μ-loop
 unfolding sideFields _▸_
-loop-again c =     let b = c .before .before .before in
+loop-again c = let b = c .before .before .before in
     let a = b .before .before .args in
     let i = b .before .loop .i in
     let s = a .slot in
     let p = boxFields (a .most) s in
     let v = a .v .now in
     let z = c .before .value .ensures in
-    let f = b .before .before .fits .most in
-    (omega arith,
-    bad-next p (i * 2 + 1) ((i + 1) * 2) (omega arith) _ (side-run (a .most) s i .at 1 (omega arith)) v (c .after2 .ensures (sideFields (a .most) (s + i) 1) refl (held (z .0) (z .1)) (most (a .most) f) refl)
-    (bad-next p (i * 2 + 0) (i * 2 + 1) (omega arith) _ (side-run (a .most) s i .at 0 (omega arith)) v (c .before .before .after .ensures (sideFields (a .most) (s + i) 0) refl (minus (a .most) f) (most (a .most) f) refl)
-    (b .before .loop .inv .1 ∙ ap (bad p v) (omega arith))))
+    let f = b .before .before .fits .most in (
+      omega arith,
+      bad-next p (i * 2 + 1) ((i + 1) * 2) (omega arith) _ (side-run (a .most) s i .at 1 (omega arith)) v (c .after2 .ensures (sideFields (a .most) (s + i) 1) refl (held (z .0) (z .1)) (most (a .most) f) refl)
+          (bad-next p (i * 2 + 0) (i * 2 + 1) (omega arith) _ (side-run (a .most) s i .at 0 (omega arith)) v (c .before .before .after .ensures (sideFields (a .most) (s + i) 0) refl (minus (a .most) f) (most (a .most) f) refl)
+          (b .before .loop .inv .1 ∙ ap (bad p v) (omega arith))),
+    )
 
 returns : tie.Need-returns Inv-loop μ-loop
 returns c = let e : c .before .loop .i ≡ c .before .before .args .n = omega arith in c .before .loop .inv .1 ∙ ap (λ (i : ℕ). bad (boxFields (c .before .before .args .most) (c .before .before .args .slot)) (c .before .before .args .v .now) (i * 2)) e

@@ -36,7 +36,7 @@ loop-less : tie.Need-loop-less Inv-loop μ-loop
 loop-less c = omega arith
 
 loop-again : tie.Need-loop-again Inv-loop μ-loop
-loop-again c =     let i = c .before .before .loop .i in
+loop-again c = let i = c .before .before .loop .i in
     (omega arith, bad-next headFields (headSize + i) (headSize + (i + 1)) (omega arith) _ (cap-at i) (c .before .before .before .before .args .v .now) (c .after .ensures (capField i) refl refl refl refl) (c .before .before .loop .inv .1))
 
 returns : tie.Need-returns Inv-loop μ-loop

@@ -25,7 +25,7 @@ after-requires c κs = search needs
 
 returns : tie.Need-returns
 unfolding edgeField
-returns c =     let e : 0 ≡ c .before .before .args .k = omega arith in
+returns c = let e : 0 ≡ c .before .before .args .k = omega arith in
     c .after .ensures (edgeField 0) (omega arith) refl refl refl ∙ ap (λ (k : ℕ). test (c .before .before .args .v .now) (edgeField k)) e
 
 sub-value : tie.Need-sub-value
@@ -42,7 +42,7 @@ after-requires-2 c κs = search needs
 
 returns-2 : tie.Need-returns-2
 unfolding edgeField
-returns-2 c =     let a = c .before .before .before .args in
+returns-2 c = let a = c .before .before .before .args in
     let v = a .v .now in
     let j = a .k - 1 in
     let e : suc j ≡ a .k = omega (arith, c .before .before .if1 .left) in

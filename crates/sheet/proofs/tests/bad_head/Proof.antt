@@ -63,7 +63,7 @@ after-requires-9 c κs = search needs
 
 returns : tie.Need-returns
 unfolding headFields _▸_ bad firstRefusal
-returns c =     let v = c .before .before .before .before .before .before .before .before .before .before .before .before .args .v .now in
+returns c = let v = c .before .before .before .before .before .before .before .before .before .before .before .before .args .v .now in
     bad-next headFields 8 9 refl _ refl v (c .after9 .ensures (headFields 8) refl (held (c .before .value3 .ensures .0) (c .before .value3 .ensures .1)) refl refl)
     (bad-next headFields 7 8 refl _ refl v (c .before .before .after8 .ensures (headFields 7) refl refl refl refl)
     (bad-next headFields 6 7 refl _ refl v (c .before .before .before .after7 .ensures (headFields 6) refl refl refl refl)

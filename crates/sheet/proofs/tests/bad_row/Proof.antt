@@ -35,7 +35,7 @@ loop-less : tie.Need-loop-less Inv-loop μ-loop
 loop-less c = omega arith
 
 loop-again : tie.Need-loop-again Inv-loop μ-loop
-loop-again c =     let a = c .before .before .before .args in
+loop-again c = let a = c .before .before .before .args in
     let j = c .before .before .loop .j in
     (omega arith, bad-next (rowFields (a .n) (a .slot)) j (j + 1) refl _ (coefficient-at (a .n) (a .slot) j (omega arith)) (a .v .now) (c .after .ensures (coefficient (a .slot) j) refl refl refl refl) (c .before .before .loop .inv .1))
 
@@ -65,7 +65,7 @@ after-requires-5 c κs = omega arith
 
 returns : tie.Need-returns Inv-loop μ-loop
 unfolding rowRest _▸_
-returns c =     let d = c .before .before .before in
+returns c = let d = c .before .before .before in
     let a = d .before .before .before .args in
     let n = a .n in
     let s = a .slot in

@@ -41,12 +41,12 @@ loop-less : tie.Need-loop-less Inv-loop μ-loop
 loop-less c = omega arith
 
 loop-again : tie.Need-loop-again Inv-loop μ-loop
-loop-again c =     let d = c .before .before .before in
+loop-again c = let d = c .before .before .before in
     let a = d .before .args in
     (omega arith, c .first .ensures ∙ ap₂ orElse (d .loop .inv .1) (c .before .bad-record .ensures) ∙ sym (bad-more (sized (a .n) (a .bands) (a .boxes)) (d .loop .r) (λ r. true) (a .v .now)))
 
 returns : tie.Need-returns Inv-loop μ-loop
-returns c =     let a = c .before .before .args in
+returns c = let a = c .before .before .args in
     let e : c .before .loop .r ≡ a .bands + a .boxes + 2 = omega arith in
     c .before .loop .inv .1 ∙ ap (badAll (λ r. true) (sized (a .n) (a .bands) (a .boxes)) (a .v .now)) e
 

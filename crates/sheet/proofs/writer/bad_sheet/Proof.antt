@@ -1,5 +1,5 @@
 -- `bad_sheet`: the head's tests, and then those of every record. Assumes nothing.
-use mathlib.Core.Path.{_≡_, _∙_, sym}
+use mathlib.Core.Path.{_∙_, sym}
 use native.Mathlib.Omega.{arith}
 use Rattle.sheet.proofs.Answers.{value-head}
 use Rattle.sheet.proofs.CodeRead.{Counts, counts}
@@ -27,7 +27,7 @@ count-requires-3 : tie.Need-count-requires-3
 count-requires-3 c κs = (omega arith, head-counts (c .before .before) .boxes-low)
 
 bad-values-requires : tie.Need-bad-values-requires
-bad-values-requires c κs = 
+bad-values-requires c κs =
     let k = head-counts (c .before .before .before) in
     (rw (c .before .before .count .ensures) (k .vars-high), (rw (c .before .count2 .ensures) (k .bands-high), rw (c .count3 .ensures) (k .boxes-high)))
 

@@ -24,7 +24,7 @@ abbrev μ-loop : tie.MeasureT-loop
 
 within-rows : (c : tie.In-loop Inv-loop μ-loop)
     → (let n = c .before .before .before .before .before .before .before .before .before .before .before .before .before .before .before .args .n in
-      c .before .loop .i * (2 * n + 12) + (2 * n + 12) ≤ n * (2 * n + 12))
+    c .before .loop .i * (2 * n + 12) + (2 * n + 12) ≤ n * (2 * n + 12))
 within-rows c = row-room _ _ (c .loop-test .taken)
 
 mul-slot : tie.Need-mul-slot Inv-loop μ-loop
@@ -55,7 +55,7 @@ put-i32-requires-3 : tie.Need-put-i32-requires-3 Inv-loop μ-loop
 put-i32-requires-3 c κs = omega arith
 
 loop-holds : tie.Need-loop-holds Inv-loop μ-loop
-loop-holds c = 
+loop-holds c =
     let a = c .before .before .before .before .before .before .before .before .before .before .before .before .before .args in
     let z : 3 ≡ 3 + 0 * (a .n + 4) = omega arith in
     (omega arith, (refl, λ w e. e ∙ ap (λ (j : ℕ). sets w 2 (coded (bandFields (a .n) (a .k)) (a .v .now) j)) z))
@@ -94,24 +94,29 @@ loop-less : tie.Need-loop-less Inv-loop μ-loop
 loop-less c = omega arith
 
 loop-again : tie.Need-loop-again Inv-loop μ-loop
-loop-again c = 
+loop-again c =
     let h = c .before .before in
     let d = h .before .before .before in
     let a = d .before .before .before .before .before .before .before .before .before .before .before .before .before .before .args in
     let n = a .n in
     let i = d .loop .i in
     let p = bandFields n (a .k) in
-    let v = a .v .now in
-    (omega arith, (omega arith, λ w e.
-    coded-run p v w 2 (3 + i * (n + 4)) (rowFields n (rowSlot (a .k) i)) (n + 4) (row-run n (a .k) i) (14 + i * (2 * n + 12)) (h .write-row .ensures) (omega (arith, row-offset n (a .k) i)) (d .loop .inv .1 .1 w e)
-    ∙ ap (λ (j : ℕ). sets w 2 (coded p v j)) (row-next n i)))
+    let v = a .v .now in (
+      omega arith,
+      (
+        omega arith,
+        λ w e.
+            coded-run p v w 2 (3 + i * (n + 4)) (rowFields n (rowSlot (a .k) i)) (n + 4) (row-run n (a .k) i) (14 + i * (2 * n + 12)) (h .write-row .ensures) (omega (arith, row-offset n (a .k) i)) (d .loop .inv .1 .1 w e)
+            ∙ ap (λ (j : ℕ). sets w 2 (coded p v j)) (row-next n i),
+      ),
+    )
 
 same-length : tie.Need-same-length Inv-loop μ-loop
 same-length c = omega arith
 
 returns : tie.Need-returns Inv-loop μ-loop
 unfolding bandFields _▸_ coded offset
-returns c = 
+returns c =
     let c2 = c .before .before .before .before in
     let c1 = c2 .before .before .before .before in
     let c0 = c1 .before .before .before .before in

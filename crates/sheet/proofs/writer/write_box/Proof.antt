@@ -62,7 +62,7 @@ loop-less c = omega arith
 
 loop-again : tie.Need-loop-again Inv-loop μ-loop
 unfolding sideFields _▸_
-loop-again c = 
+loop-again c =
     let c1 = c .before .before in
     let c0 = c1 .before .before .before .before in
     let d = c0 .before .before .before in
@@ -71,17 +71,22 @@ loop-again c =
     let k = a .slot in
     let s = a .s .now in
     let v = a .v .now in
-    let z : i * 2 + 0 ≡ i * 2 = omega arith in
-    (omega arith, (omega arith, λ h.
-    coded-next (boxFields h k) v s 2 (i * 2 + 1) ((i + 1) * 2) (omega arith) _ (side-run h k i .at 1 (omega arith)) i32 (k + i + N) (2 + 8 * i + 4) (c1 .put-i322 .ensures) refl refl (omega (arith, upper-offset h k i))
-    (coded-next (boxFields h k) v s 2 (i * 2 + 0) (i * 2 + 1) (omega arith) _ (side-run h k i .at 0 (omega arith)) i32 (k + i) (2 + 8 * i) (c0 .put-i32 .ensures) refl refl (omega (arith, side-offset h k i, ap (offset (boxFields h k)) z))
-    (d .loop .inv .1 .1 h ∙ ap (λ (j : ℕ). sets s 2 (coded (boxFields h k) v j)) (omega arith)))))
+    let z : i * 2 + 0 ≡ i * 2 = omega arith in (
+      omega arith,
+      (
+        omega arith,
+        λ h.
+            coded-next (boxFields h k) v s 2 (i * 2 + 1) ((i + 1) * 2) (omega arith) _ (side-run h k i .at 1 (omega arith)) i32 (k + i + N) (2 + 8 * i + 4) (c1 .put-i322 .ensures) refl refl (omega (arith, upper-offset h k i))
+            (coded-next (boxFields h k) v s 2 (i * 2 + 0) (i * 2 + 1) (omega arith) _ (side-run h k i .at 0 (omega arith)) i32 (k + i) (2 + 8 * i) (c0 .put-i32 .ensures) refl refl (omega (arith, side-offset h k i, ap (offset (boxFields h k)) z))
+            (d .loop .inv .1 .1 h ∙ ap (λ (j : ℕ). sets s 2 (coded (boxFields h k) v j)) (omega arith))),
+      ),
+    )
 
 same-length : tie.Need-same-length Inv-loop μ-loop
 same-length c = omega arith
 
 returns : tie.Need-returns Inv-loop μ-loop
-returns c = 
+returns c =
     let a = c .before .before .before .args in
     let e : c .before .loop .i ≡ a .n = omega arith in
     λ h. c .before .loop .inv .1 .1 h ∙ ap (λ (i : ℕ). sets (a .s .now) 2 (coded (boxFields h (a .slot)) (a .v .now) (i * 2))) e

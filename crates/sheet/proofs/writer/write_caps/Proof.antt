@@ -45,18 +45,23 @@ loop-less : tie.Need-loop-less Inv-loop μ-loop
 loop-less c = omega arith
 
 loop-again : tie.Need-loop-again Inv-loop μ-loop
-loop-again c = 
+loop-again c =
     let h = c .before .before in
     let d = h .before .before .before in
-    let i = d .loop .i in
-    (omega arith, (omega arith, λ w e.
-    coded-next headFields _ w 2 (headSize + i) (headSize + (i + 1)) (omega arith) _ (cap-at i) u16 (capSlot i) (20 + 2 * i) (h .put-u16 .ensures) refl refl (omega (arith, cap-offset i)) (d .loop .inv .1 .1 w e)))
+    let i = d .loop .i in (
+      omega arith,
+      (
+        omega arith,
+        λ w e.
+            coded-next headFields _ w 2 (headSize + i) (headSize + (i + 1)) (omega arith) _ (cap-at i) u16 (capSlot i) (20 + 2 * i) (h .put-u16 .ensures) refl refl (omega (arith, cap-offset i)) (d .loop .inv .1 .1 w e),
+      ),
+    )
 
 same-length : tie.Need-same-length Inv-loop μ-loop
 same-length c = omega arith
 
 returns : tie.Need-returns Inv-loop μ-loop
-returns c = 
+returns c =
     let d = c .before .before .before .before in
     let a = d .before .before .before .args in
     let e : c .before .loop .i ≡ a .n = omega arith in

@@ -1,11 +1,11 @@
 -- `write_head`: the head's numbers, each from its slot. Assumes nothing.
-use mathlib.Core.Path.{_≡_, _∙_, ap, refl}
+use mathlib.Core.Path.{_∙_, ap, refl}
 use native.Mathlib.Omega.{arith}
 use lib.ListN.{length}
 use lib.Seq.{length-sets}
 use Rattle.sheet.proofs.CodeWrite.{coded-next}
 use Rattle.sheet.specs.Fields.{u8, u16, i32, coded, offset}
-use Rattle.sheet.specs.Layout.{_▸_, headFields}
+use Rattle.sheet.specs.Layout.{_▸_, varsSlot, bandsSlot, boxesSlot, bandVarSlot, δSlot, αSlot, ρSlot, leastSlot, greatestSlot, headFields}
 use borrow.Author.Needs.{needs}
 use Rattle.sheet.proofs.writer.write_head.Statement.{statement}
 use Rattle.sheet.proofs.writer.write_head.Tie as tie
@@ -35,7 +35,7 @@ put-i32-requires : tie.Need-put-i32-requires
 put-i32-requires c κs = search needs
 
 put-i32-requires-2 : tie.Need-put-i32-requires-2
-put-i32-requires-2 c κs = 
+put-i32-requires-2 c κs =
     let c7 = c .before .before .before in
     let c6 = c7 .before .before .before .before in
     let c5 = c6 .before .before .before .before in
@@ -48,7 +48,7 @@ put-i32-requires-2 c κs =
 
 returns : tie.Need-returns
 unfolding headFields _▸_ coded offset
-returns c = 
+returns c =
     let c8 = c .before .before in
     let c7 = c8 .before .before .before .before in
     let c6 = c7 .before .before .before .before in
@@ -61,16 +61,15 @@ returns c =
     let a = c0 .before .before .before .args in
     let s = a .s .now in
     let v = a .v .now in
-    coded-next headFields v s 2 8 9 refl _ refl i32 8 16 (c8 .put-i322 .ensures) refl refl refl
-    (coded-next headFields v s 2 7 8 refl _ refl i32 7 12 (c7 .put-i32 .ensures) refl refl refl
-    (coded-next headFields v s 2 6 7 refl _ refl u16 6 10 (c6 .put-u163 .ensures) refl refl refl
-    (coded-next headFields v s 2 5 6 refl _ refl u16 5 8 (c5 .put-u162 .ensures) refl refl refl
-    (coded-next headFields v s 2 4 5 refl _ refl u16 4 6 (c4 .put-u16 .ensures) refl refl refl
-    (coded-next headFields v s 2 3 4 refl _ refl u8 3 5 (c3 .put-u84 .ensures) refl refl refl
-    (coded-next headFields v s 2 2 3 refl _ refl u8 2 4 (c2 .put-u83 .ensures) refl refl refl
-    (coded-next headFields v s 2 1 2 refl _ refl u8 1 3 (c1 .put-u82 .ensures) refl refl refl
-    (coded-next headFields v s 2 0 1 refl _ refl u8 0 2 (c0 .put-u8 .ensures) refl refl refl
-    refl))))))))
+    coded-next headFields v s 2 8 9 refl _ refl i32 greatestSlot 16 (c8 .put-i322 .ensures) refl refl refl
+    (coded-next headFields v s 2 7 8 refl _ refl i32 leastSlot 12 (c7 .put-i32 .ensures) refl refl refl
+    (coded-next headFields v s 2 6 7 refl _ refl u16 ρSlot 10 (c6 .put-u163 .ensures) refl refl refl
+    (coded-next headFields v s 2 5 6 refl _ refl u16 αSlot 8 (c5 .put-u162 .ensures) refl refl refl
+    (coded-next headFields v s 2 4 5 refl _ refl u16 δSlot 6 (c4 .put-u16 .ensures) refl refl refl
+    (coded-next headFields v s 2 3 4 refl _ refl u8 bandVarSlot 5 (c3 .put-u84 .ensures) refl refl refl
+    (coded-next headFields v s 2 2 3 refl _ refl u8 boxesSlot 4 (c2 .put-u83 .ensures) refl refl refl
+    (coded-next headFields v s 2 1 2 refl _ refl u8 bandsSlot 3 (c1 .put-u82 .ensures) refl refl refl
+    (coded-next headFields v s 2 0 1 refl _ refl u8 varsSlot 2 (c0 .put-u8 .ensures) refl refl refl refl))))))))
 
 same-length : tie.Need-same-length
 same-length c = ap length (returns c) ∙ simp length-sets

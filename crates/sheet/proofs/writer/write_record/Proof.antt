@@ -1,5 +1,5 @@
 -- `write_record`: the mark, and then the numbers. Assumes nothing.
-use mathlib.Core.Path.{_≡_, _∙_, ap, ap₂}
+use mathlib.Core.Path.{_∙_, ap, ap₂}
 use Prim.Native.Nat.{ℕ}
 use native.Mathlib.Omega.{arith}
 use lib.ListN.{length, set, length-set}
@@ -24,7 +24,7 @@ write-numbers-requires : tie.Need-write-numbers-requires
 write-numbers-requires c κs = simp length-set (omega arith)
 
 returns : tie.Need-returns
-returns c = 
+returns c =
     let w = c .before .before in
     let m = w .before .before in
     let a = m .before .before .args in

@@ -24,9 +24,9 @@ kept c = ap length (c .loop .inv .1 .1) ∙ simp length-sets
 -- the r-th record has room
 room : (c : tie.In-loop Inv-loop μ-loop)
     → (let a = c .before .before .before .args in
-      let s = sized (a .n) (a .bands) (a .boxes) in
-      let r = c .before .loop .r in
-      c .before .loop .at + (2 + offset (fieldsAt s r) (countAt s r)) ≤ length (a .s .now))
+    let s = sized (a .n) (a .bands) (a .boxes) in
+    let r = c .before .loop .r in
+    c .before .loop .at + (2 + offset (fieldsAt s r) (countAt s r)) ≤ length (a .s .now))
 room c =
     let a = c .before .before .before .args in
     omega (arith, c .before .loop .inv .1 .0, record-room (sized (a .n) (a .bands) (a .boxes)) (c .before .loop .r) (a .bands + a .boxes + 2) (length (a .s .now)) (omega arith) (c .before .before .before .pre .1))
@@ -66,23 +66,27 @@ loop-less : tie.Need-loop-less Inv-loop μ-loop
 loop-less c = omega arith
 
 loop-again : tie.Need-loop-again Inv-loop μ-loop
-loop-again c = 
+loop-again c =
     let w = c .before .before .before in
     let d = w .before .before .before in
     let a = d .before .before .args in
     let s = sized (a .n) (a .bands) (a .boxes) in
     let r = d .loop .r in
     let i = d .loop .inv .1 in
-    let x = recordAt s r in
-    (omega arith, (omega (arith, i .0, c .record-length .ensures, start-more s r),
-    record-next s (a .v .now) (a .s .now) r
-    (part-back (d .loop .s) (d .loop .at) (recordBytes (a .n) x (a .v .now)) (w .write-record .ensures) (omega (arith, room (w .before .before), kept d, length-record (a .n) x (a .v .now)))) (i .0) (i .1)))
+    let x = recordAt s r in (
+      omega arith,
+      (
+        omega (arith, i .0, c .record-length .ensures, start-more s r),
+        record-next s (a .v .now) (a .s .now) r
+            (part-back (d .loop .s) (d .loop .at) (recordBytes (a .n) x (a .v .now)) (w .write-record .ensures) (omega (arith, room (w .before .before), kept d, length-record (a .n) x (a .v .now)))) (i .0) (i .1),
+      ),
+    )
 
 same-length : tie.Need-same-length Inv-loop μ-loop
 same-length c = kept (c .before)
 
 returns : tie.Need-returns Inv-loop μ-loop
-returns c = 
+returns c =
     let a = c .before .before .before .args in
     let e : c .before .loop .r ≡ a .bands + a .boxes + 2 = omega arith in
     c .before .loop .inv .1 .1 ∙ ap (λ (r : ℕ). sets (a .s .now) 0 (codedAll (sized (a .n) (a .bands) (a .boxes)) (a .v .now) r)) e

@@ -42,14 +42,18 @@ loop-less : tie.Need-loop-less Inv-loop μ-loop
 loop-less c = omega arith
 
 loop-again : tie.Need-loop-again Inv-loop μ-loop
-loop-again c = 
+loop-again c =
     let w = c .before .before in
     let d = w .before .before .before in
     let a = d .before .before .args in
-    let j = d .loop .j in
-    (omega arith, (omega arith,
-    coded-next (rowFields (a .n) (a .slot)) (a .v .now) (a .s .now) (a .at) j (j + 1) refl _ (coefficient-at (a .n) (a .slot) j (omega arith)) u16 (a .slot + j) (a .at + 2 * j) (w .put-u16 .ensures)
-    refl refl (omega (arith, coefficient-offset (a .n) (a .slot) j (omega arith))) (d .loop .inv .1 .1)))
+    let j = d .loop .j in (
+      omega arith,
+      (
+        omega arith,
+        coded-next (rowFields (a .n) (a .slot)) (a .v .now) (a .s .now) (a .at) j (j + 1) refl _ (coefficient-at (a .n) (a .slot) j (omega arith)) u16 (a .slot + j) (a .at + 2 * j) (w .put-u16 .ensures)
+            refl refl (omega (arith, coefficient-offset (a .n) (a .slot) j (omega arith))) (d .loop .inv .1 .1),
+      ),
+    )
 
 mul-rest : tie.Need-mul-rest Inv-loop μ-loop
 mul-rest c = omega arith
@@ -95,7 +99,7 @@ same-length c = omega arith
 
 returns : tie.Need-returns Inv-loop μ-loop
 unfolding rowRest _▸_ offset
-returns c = 
+returns c =
     let c3 = c .before .before in
     let c2 = c3 .before .before .before .before in
     let c1 = c2 .before .before .before .before in

@@ -1,6 +1,6 @@
 -- `write_valid`: the room, and then the records. Assumes nothing.
 use mathlib.Core.Path.{_≡_}
-use Prim.Native.Nat.{_+_, _≤_, ℕ}
+use Prim.Native.Nat.{_≤_, ℕ}
 use native.Mathlib.Omega.{arith}
 use Rattle.sheet.proofs.CodeWrite.{part-length, value-counts, wrote, wrote-short}
 use Rattle.sheet.specs.Slots.{N, bands, boxes, maxBands, maxBoxes, vars}
@@ -46,7 +46,7 @@ file-length-requires : tie.Need-file-length-requires
 file-length-requires c κs = small-counts c
 
 returns : tie.Need-returns
-returns c = 
+returns c =
     let l = c .before in
     let d = l .before in
     wrote-short _ _ _ _ (n-is d) (b-is d) (g-is d) _ _ (began d .pre) (l .file-length .ensures) (omega arith)
@@ -55,7 +55,7 @@ sub-if2 : tie.Need-sub-if2
 sub-if2 c = search needs
 
 returns-2 : tie.Need-returns-2
-returns-2 c = 
+returns-2 c =
     let l = c .before .before in
     let d = l .before in
     wrote-short _ _ _ _ (n-is d) (b-is d) (g-is d) _ _ (began d .pre) (l .file-length .ensures) (omega arith)
@@ -70,7 +70,7 @@ part-write-records-end : tie.Need-part-write-records-end
 part-write-records-end c = search needs
 
 write-records-requires : tie.Need-write-records-requires
-write-records-requires c κs = 
+write-records-requires c κs =
     let l = c .before .before .before in
     let a = began (l .before) .args in
     (small-counts (l .before), omega (arith, l .file-length .ensures, part-length (a .buffer .now) (a .place)))
@@ -79,7 +79,7 @@ same-length : tie.Need-same-length
 same-length c = search needs
 
 returns-3 : tie.Need-returns-3
-returns-3 c = 
+returns-3 c =
     let w = c .before .before in
     let l = w .before .before .before .before in
     let d = l .before in
