@@ -35,7 +35,7 @@ value-requires : tie.Need-value-requires
 value-requires c κs = search needs
 
 add-after : tie.Need-add-after
-add-after c = let f : SFits w64 (c .value .result) = search needs in fits64 (bound-sum (bound-read f (c .value .ensures .1)) (bound-lit (pos 1))) tt
+add-after c = let f : SFits w64 (c .value .result) = search needs in fits64 (bound-sum (bound-read f (c .value .ensures .1)) (bound-lit _)) tt
 
 after-requires-2 : tie.Need-after-requires-2
 after-requires-2 c κs = search needs

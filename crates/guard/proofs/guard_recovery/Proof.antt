@@ -1,0 +1,26 @@
+-- `guard_recovery` answers the recovery check's number. Assumes nothing.
+use mathlib.Core.Path.{_≡_, sym, ap, _∙_, subst}
+use Prim.Native.Nat.{_≤_}
+use borrow.Author.Needs.{needs}
+use Rattle.decision.specs.Decision.{Reply, widthOf, packed, checkRecovery}
+use Rattle.decision.specs.Code.{decided}
+use Rattle.decision.proofs.Allowance.{check-answer}
+use Rattle.guard.specs.Calls.{recoveryCall}
+use Rattle.guard.proofs.guard_recovery.Statement.{statement}
+use Rattle.guard.proofs.guard_recovery.Tie as tie
+
+checks : (c : tie.After-as-decision) → decided (c .as-decision .result) ≡ checkRecovery (c .before .before .before .args .sheet .now)
+checks c = c .as-decision .ensures ∙ c .before .check-recovery .ensures
+
+returns : tie.Need-returns
+unfolding recoveryCall
+returns c = c .pack-decision .ensures ∙ ap packed (checks (c .before))
+
+pub guard-recovery-spec : {M : Type 1} → statement M
+guard-recovery-spec =
+    tie.close
+    (tie.spec
+    (λ c κs. search needs)
+    (λ c κs. search needs)
+    (λ c κs. subst (λ (r : Reply). widthOf r ≤ 1000) (sym (checks c)) (check-answer _ .wide))
+    returns)
