@@ -1,0 +1,331 @@
+/* The calls of include/guard.h from C, linked with the archive alone: sheet A's answers, every refusal
+ * with the lent buffers compared byte for byte, empty, missing, overlong and overlapping slices. The last
+ * line is `N passed, M failed`. */
+#include "guard.h"
+
+#include <stdio.h>
+#include <string.h>
+
+enum {
+    SHEET = 70,               /* the bytes of sheet A */
+    QUESTION = 18,            /* of a question of one variable */
+    ROOM = GUARD_NUMBERS_BYTES,
+    BEHIND = 16,              /* bytes behind a buffer's end, which have to remain */
+    FILL = 0xa5
+};
+
+static const uint8_t sheet_a[SHEET] = {
+    'S', 'H', 1, 1, 1, 0, 0, 4, 0, 4, 0, 4, 255, 255, 255, 231, 0, 0, 0, 25, 0, 5,
+    'B', 'D', 255, 225, 123, 128, 0, 0, 0, 0, 0, 0, 0, 0, 255, 255, 0, 4, 0, 0, 0, 0, 0, 0, 0, 0, 0, 20,
+    'N', 'G', 0, 0, 0, 130, 0, 30, 132, 128,
+    'R', 'C', 255, 255, 255, 156, 0, 0, 0, 100};
+
+static int passed, failed;
+
+static void expect(const char *what, int number, uint64_t got, uint64_t want)
+{
+    if (got == want) {
+        passed++;
+        return;
+    }
+    failed++;
+    printf("%s %d: code %u, width %u, rounds %u\n", what, number, guard_code(got), guard_width(got),
+           guard_rounds(got));
+}
+
+static uint64_t answer(uint64_t code, uint64_t width, uint64_t rounds)
+{
+    return code << 48 | width << 32 | rounds;
+}
+
+static uint64_t refusal(uint64_t number)
+{
+    return answer(GUARD_REFUSED, number, 0);
+}
+
+/* ---- a lent buffer, with bytes behind its end */
+
+static uint8_t lent[ROOM + BEHIND];
+
+static void fill(void)
+{
+    memset(lent, FILL, sizeof lent);
+}
+
+/* The buffer has the bytes that are expected from a place on, and is as it was elsewhere. */
+static void expect_lent(const char *what, int number, size_t place, const uint8_t *bytes, size_t length)
+{
+    uint64_t same = length == 0 || memcmp(lent + place, bytes, length) == 0;
+    for (size_t i = 0; i < sizeof lent; i++)
+        if (i < place || place + length <= i)
+            same &= lent[i] == FILL;
+    expect(what, number, same, 1);
+}
+
+static void expect_refused(const char *what, int number, uint64_t got)
+{
+    expect(what, number, got, refusal((uint64_t)number));
+    expect_lent(what, number, 0, NULL, 0);
+}
+
+/* ---- sheet A's lines */
+
+static size_t ask(uint8_t *question, int32_t low, int32_t high, int32_t command, uint32_t allowance)
+{
+    const int32_t sides[] = {low, high};
+    return guard_question(question, allowance, command, sides, 1);
+}
+
+static uint64_t decide_a(int32_t low, int32_t high, int32_t command, uint32_t allowance)
+{
+    uint8_t question[GUARD_LONGEST_QUESTION];
+    size_t length = ask(question, low, high, command, allowance);
+    return guard_decide(sheet_a, SHEET, question, length);
+}
+
+static void lines(void)
+{
+    expect("sheet", 0, guard_sheet(sheet_a, SHEET), 0);
+    expect("recovery", 0, guard_recovery(sheet_a, SHEET), answer(GUARD_PASS, 4, 1));
+    expect("question", 1, decide_a(0, 0, 25, 100), answer(GUARD_KEEP, 4, 4));
+    expect("question", 2, decide_a(95, 100, 25, 100), answer(GUARD_KEEP, 4, 5));
+    expect("question", 3, decide_a(95, 100, 25, 4), answer(GUARD_SPENT, 4, 4));
+    expect("question", 4, decide_a(131, 131, 0, 100), answer(GUARD_FINEST, 1, 5));
+    expect("question", 5, decide_a(0, 0, 26, 100), refusal(14));
+    expect("allowance", 0, decide_a(0, 0, 25, 0), answer(GUARD_SPENT, 4, 0));
+    expect("allowance", 1000000, decide_a(0, 0, 25, 1000000), answer(GUARD_KEEP, 4, 4));
+    expect("allowance", 1000001, decide_a(0, 0, 25, 1000001), refusal(13));
+    expect("side", 1000000, decide_a(1000000, 1000000, 25, 1), answer(GUARD_SPENT, 4, 1));
+    expect("side", 1000001, decide_a(0, 1000001, 25, 100), refusal(15));
+    expect("reversed", 0, decide_a(1, 0, 25, 100), refusal(15));
+}
+
+/* ---- slices: missing, empty, too long, overlapping */
+
+static void slices(void)
+{
+    uint8_t question[QUESTION + 1] = {0};
+    uint8_t longer[SHEET + 1] = {0};
+    ask(question, 0, 0, 25, 100);
+    memcpy(longer, sheet_a, SHEET);
+    expect("no sheet", 0, guard_sheet(NULL, 0), refusal(1));
+    expect("no sheet", 1, guard_recovery(NULL, 0), refusal(1));
+    expect("no sheet", 2, guard_decide(NULL, 0, NULL, 0), refusal(1));
+    expect("no question", 0, guard_decide(sheet_a, SHEET, NULL, 0), refusal(12));
+    expect("empty", 0, guard_sheet(sheet_a, 0), refusal(1));
+    expect("empty", 1, guard_decide(sheet_a, SHEET, question, 0), refusal(12));
+    expect("short", 19, guard_sheet(sheet_a, 19), refusal(1));
+    expect("short", 69, guard_sheet(sheet_a, SHEET - 1), refusal(5));
+    expect("long", 71, guard_sheet(longer, SHEET + 1), refusal(5));
+    for (size_t length = 0; length <= QUESTION + 1; length++)
+        expect("question's length", (int)length, guard_decide(sheet_a, SHEET, question, length),
+               length == QUESTION ? answer(GUARD_KEEP, 4, 4) : refusal(12));
+    question[1] = 'R';
+    expect("question's mark", 0, guard_decide(sheet_a, SHEET, question, QUESTION), refusal(12));
+}
+
+/* The answer is that on copies. */
+static void overlaps(void)
+{
+    uint8_t both[SHEET + QUESTION], copy[QUESTION];
+    memcpy(both, sheet_a, SHEET);
+    ask(both + SHEET, 95, 100, 25, 100);
+    for (size_t at = 0; at <= SHEET; at++) {
+        memcpy(copy, both + at, QUESTION);
+        expect("overlap", (int)at, guard_decide(both, SHEET, both + at, QUESTION),
+               guard_decide(sheet_a, SHEET, copy, QUESTION));
+    }
+    expect("overlap", SHEET, guard_decide(both, SHEET, both + SHEET, QUESTION), answer(GUARD_KEEP, 4, 5));
+}
+
+/* ---- refused sheets: a byte or a number of sheet A is changed */
+
+static const struct {
+    int number;
+    size_t place, size;
+    uint32_t value;
+} faults[] = {
+    {1, 0, 1, 'T'}, {1, 1, 1, 0}, {2, 2, 1, 0}, {2, 2, 1, 5}, {2, 3, 1, 0}, {2, 3, 1, 9}, {2, 4, 1, 0},
+    {2, 4, 1, 9}, {2, 5, 1, 1}, {3, 6, 2, 0}, {3, 6, 2, 997}, {3, 8, 2, 0}, {3, 8, 2, 997}, {3, 10, 2, 0},
+    {3, 10, 2, 1001}, {4, 12, 4, 26}, {4, 12, 4, (uint32_t)-10001}, {4, 16, 4, 10001}, {5, 2, 1, 2},
+    {5, 3, 1, 2}, {5, 4, 1, 2}, {6, 20, 2, 0}, {6, 20, 2, 1001}, {7, 22, 1, 'b'}, {7, 51, 1, 'g'},
+    {7, 60, 1, 'r'}, {8, 24, 4, (uint32_t)-1999999}, {9, 28, 4, (uint32_t)-26}, {9, 28, 4, 1}, {9, 32, 4, 26},
+    {10, 36, 2, 1001}, {10, 38, 2, 1001}, {10, 40, 4, 100000001}, {10, 44, 4, (uint32_t)-1}, {10, 48, 2, 0},
+    {10, 48, 2, 4097}, {11, 52, 4, 2000001}, {11, 56, 4, 129}, {11, 62, 4, (uint32_t)-1000001},
+    {11, 66, 4, 1000001}, {11, 66, 4, (uint32_t)-101}};
+
+static void refused_sheets(void)
+{
+    uint8_t sheet[SHEET], question[QUESTION], start[8] = {0};
+    ask(question, 0, 0, 25, 100);
+    for (size_t i = 0; i < sizeof faults / sizeof *faults; i++) {
+        int number = faults[i].number;
+        memcpy(sheet, sheet_a, SHEET);
+        for (size_t j = 0; j < faults[i].size; j++)
+            sheet[faults[i].place + j] = (uint8_t)(faults[i].value >> 8 * (faults[i].size - 1 - j));
+        fill();
+        expect("fault", number, guard_sheet(sheet, SHEET), refusal((uint64_t)number));
+        expect("fault", number, guard_recovery(sheet, SHEET), refusal((uint64_t)number));
+        expect("fault", number, guard_decide(sheet, SHEET, question, QUESTION), refusal((uint64_t)number));
+        expect_refused("read", number, guard_sheet_read(sheet, SHEET, lent, ROOM));
+        expect_refused("read", number, guard_sheet_read(sheet, SHEET, NULL, 0));
+        expect_refused("reach", number, guard_reach(sheet, SHEET, 1001, 0, 1, 26, NULL, 0, lent, 0));
+        expect_refused("reach", number, guard_reach(sheet, SHEET, 4, 4, 0, 0, start, 8, lent, ROOM));
+    }
+}
+
+/* ---- a sheet's numbers */
+
+static uint8_t numbers[GUARD_NUMBERS_BYTES];
+
+static void numbers_of_a(void)
+{
+    memset(numbers, 0, sizeof numbers);
+    for (size_t slot = 0; slot < 3; slot++)
+        guard_put(numbers, slot, 1);
+    for (size_t slot = GUARD_SLOT_DELTA; slot <= GUARD_SLOT_RHO; slot++)
+        guard_put(numbers, slot, 4);
+    guard_put(numbers, GUARD_SLOT_LEAST_COMMAND, -25);
+    guard_put(numbers, GUARD_SLOT_GREATEST_COMMAND, 25);
+    guard_put(numbers, GUARD_SLOT_CAPS, 5);
+    guard_put(numbers, guard_slot_band(0), -2000000);
+    guard_put(numbers, guard_slot_row(0, 0), -1);
+    guard_put(numbers, guard_slot_row(0, 0) + GUARD_VARIABLES, 4);
+    guard_put(numbers, guard_slot_row(0, 0) + GUARD_VARIABLES + 3, 20);
+    guard_put(numbers, GUARD_SLOT_RECOVERY, -100);
+    guard_put(numbers, GUARD_SLOT_RECOVERY + GUARD_VARIABLES, 100);
+    guard_put(numbers, guard_slot_unsafe(0), 130);
+    guard_put(numbers, guard_slot_unsafe(0) + GUARD_VARIABLES, 2000000);
+}
+
+static void reads(void)
+{
+    fill();
+    expect_refused("room", 17, guard_sheet_read(sheet_a, SHEET, lent, ROOM - 1));
+    expect_refused("room", 17, guard_sheet_read(sheet_a, SHEET, NULL, 0));
+    expect("read", 0, guard_sheet_read(sheet_a, SHEET, lent, ROOM), SHEET);
+    expect_lent("read", 0, 0, numbers, sizeof numbers);
+    fill();
+    expect("read", 1, guard_sheet_read(sheet_a, SHEET, lent, sizeof lent), SHEET);
+    expect_lent("read", 1, 0, numbers, sizeof numbers);
+}
+
+static void writes(void)
+{
+    uint8_t sheet[SHEET];
+    size_t last = 4 * (guard_slot_unsafe(0) + GUARD_VARIABLES + 1);
+    for (size_t place = 0; place <= ROOM - SHEET; place += (ROOM - SHEET) / 5) {
+        fill();
+        expect("write", (int)place, guard_sheet_write(numbers, sizeof numbers, lent, ROOM, place), SHEET);
+        expect_lent("write", (int)place, place, sheet_a, SHEET);
+    }
+    fill();
+    expect_refused("place", 17, guard_sheet_write(numbers, sizeof numbers, lent, ROOM, ROOM - SHEET + 1));
+    expect_refused("place", 17, guard_sheet_write(numbers, sizeof numbers, lent, ROOM, ROOM));
+    expect_refused("place", 17, guard_sheet_write(numbers, sizeof numbers, lent, ROOM, UINT64_MAX));
+    expect_refused("place", 17, guard_sheet_write(numbers, sizeof numbers, lent, SHEET - 1, 0));
+    expect_refused("place", 17, guard_sheet_write(numbers, sizeof numbers, NULL, 0, 0));
+    expect_refused("no numbers", 2, guard_sheet_write(NULL, 0, lent, ROOM, 0));
+    expect("all there are", 0, guard_sheet_write(numbers, last, lent, ROOM, 1), SHEET);
+    expect_lent("all there are", 0, 1, sheet_a, SHEET);
+    /* 2,000,000 is 0x001e8480: without its last byte it is 0x001e8400 */
+    memcpy(sheet, sheet_a, SHEET);
+    sheet[59] = 0;
+    fill();
+    expect("a missing byte", 0, guard_sheet_write(numbers, last - 1, lent, ROOM, 0), SHEET);
+    expect_lent("a missing byte", 0, 0, sheet, SHEET);
+}
+
+/* A number of sheet A is changed; a number beyond the counts is not looked at. */
+static void refused_writes(void)
+{
+    const struct {
+        int number;
+        size_t slot;
+        int32_t value;
+    } changes[] = {{2, GUARD_SLOT_N, 0}, {2, GUARD_SLOT_N, -1}, {2, GUARD_SLOT_N, 5}, {2, GUARD_SLOT_BANDS, 9},
+                   {2, GUARD_SLOT_UNSAFE_BOXES, INT32_MIN}, {2, GUARD_SLOT_BAND_VARIABLE, 1}, {3, GUARD_SLOT_ALPHA, 997},
+                   {3, GUARD_SLOT_RHO, 0}, {4, GUARD_SLOT_LEAST_COMMAND, 26}, {6, GUARD_SLOT_CAPS, 0},
+                   {8, guard_slot_band(0), 0}, {9, guard_slot_band(0) + 1, 1}, {10, guard_slot_row(0, 0), INT32_MAX},
+                   {10, guard_slot_row(0, 0) + GUARD_VARIABLES + 3, 0}, {11, guard_slot_unsafe(0), 2000001},
+                   {11, GUARD_SLOT_RECOVERY + GUARD_VARIABLES, -101}};
+    fill();
+    for (size_t i = 0; i < sizeof changes / sizeof *changes; i++) {
+        int32_t old = guard_get(numbers, changes[i].slot);
+        guard_put(numbers, changes[i].slot, changes[i].value);
+        expect_refused("write", changes[i].number, guard_sheet_write(numbers, sizeof numbers, lent, ROOM, 0));
+        expect_refused("write", changes[i].number, guard_sheet_write(numbers, sizeof numbers, NULL, 0, 0));
+        guard_put(numbers, changes[i].slot, old);
+    }
+    guard_put(numbers, guard_slot_row(0, 1), 7);
+    expect("beyond", 0, guard_sheet_write(numbers, sizeof numbers, lent, ROOM, 0), SHEET);
+    expect_lent("beyond", 0, 0, sheet_a, SHEET);
+    guard_put(numbers, guard_slot_row(0, 1), 0);
+}
+
+/* ---- reaches */
+
+static uint64_t reach_a(uint32_t ticks, uint32_t width, uint32_t law, int32_t command, int32_t low, int32_t high,
+                        size_t out_length)
+{
+    uint8_t start[8];
+    guard_put(start, 0, low);
+    guard_put(start, 1, high);
+    return guard_reach(sheet_a, SHEET, ticks, width, law, command, start, 8, lent, out_length);
+}
+
+static void expect_boxes(const char *what, int number, int32_t low, int32_t high, int32_t least, int32_t most)
+{
+    uint8_t sides[16];
+    guard_put(sides, 0, low);
+    guard_put(sides, 1, high);
+    guard_put(sides, 2, least);
+    guard_put(sides, 3, most);
+    expect_lent(what, number, 0, sides, sizeof sides);
+}
+
+static void reaches(void)
+{
+    uint8_t start[9] = {0};
+    fill();
+    expect("reach", 0, reach_a(4, 4, 1, 25, 0, 0, 16), 2);
+    expect_boxes("reach", 0, 16, 20, 0, 20);
+    fill();
+    expect("reach", 1, reach_a(4, 4, 0, 26, 16, 20, ROOM), 2);
+    expect_boxes("reach", 1, 12, 20, 12, 20);
+    fill();
+    expect("reach", 2, reach_a(0, 1000, UINT32_MAX, -25, -1000000, 1000000, 16), 0);
+    expect_boxes("reach", 2, -1000000, 1000000, -1000000, 1000000);
+    fill();
+    expect_refused("reach", 16, reach_a(1001, 4, 1, 26, 1, 0, 16));
+    expect_refused("reach", 16, reach_a(4, 0, 1, 26, 1, 0, 16));
+    expect_refused("reach", 16, reach_a(4, 1001, 0, 0, 0, 0, 16));
+    expect_refused("reach", 14, reach_a(0, 4, 1, 26, 1, 0, 15));
+    expect_refused("reach", 14, reach_a(4, 4, 2, -26, 0, 0, 16));
+    expect_refused("reach", 15, reach_a(4, 4, 1, 25, 1, 0, 15));
+    expect_refused("reach", 15, reach_a(4, 4, 0, 26, 0, 1000001, 16));
+    expect_refused("reach", 15, reach_a(4, 4, 0, 0, -1000001, 0, 16));
+    for (size_t length = 0; length <= 9; length++)
+        if (length != 8)
+            expect_refused("start's length", 15, guard_reach(sheet_a, SHEET, 4, 4, 0, 0, start, length, lent, ROOM));
+    expect_refused("no start", 15, guard_reach(sheet_a, SHEET, 4, 4, 0, 0, NULL, 0, lent, ROOM));
+    expect_refused("no start", 14, guard_reach(sheet_a, SHEET, 4, 4, 1, 26, NULL, 0, lent, ROOM));
+    expect_refused("no start", 16, guard_reach(sheet_a, SHEET, 4, 0, 1, 26, NULL, 0, lent, ROOM));
+    expect_refused("room", 17, reach_a(4, 4, 1, 25, 0, 0, 15));
+    expect_refused("room", 17, guard_reach(sheet_a, SHEET, 4, 4, 0, 0, start, 8, NULL, 0));
+}
+
+int main(void)
+{
+    numbers_of_a();
+    lines();
+    slices();
+    overlaps();
+    refused_sheets();
+    reads();
+    writes();
+    refused_writes();
+    reaches();
+    printf("%d passed, %d failed\n", passed, failed);
+    return failed != 0;
+}
