@@ -1,0 +1,175 @@
+/* Measures the stack and the time of each call, on a sheet and its questions.
+ *
+ *     measure sheet.bin asks.bin
+ *
+ * The stack is measured by running a call in a thread whose stack was filled with a pattern, less
+ * what a thread that calls nothing uses. The figures of one machine say little about another. */
+
+#define _POSIX_C_SOURCE 200809L
+
+#include "guard.h"
+
+#include <pthread.h>
+#include <stdio.h>
+#include <stdlib.h>
+#include <string.h>
+#include <time.h>
+
+enum { STACK = 1 << 20, PATTERN = 0xa5, REPEATS = 200, ASKS = 1 << 16 };
+
+static uint8_t sheet[GUARD_LONGEST_SHEET + 1];
+static size_t sheet_length;
+static uint8_t asks[ASKS];
+static size_t asks_length;
+static uint8_t numbers[GUARD_NUMBERS_BYTES];
+static uint8_t buffer[GUARD_LONGEST_SHEET];
+static uint8_t boxes[16 * GUARD_VARIABLES];
+static const uint8_t *question; /* the one that call_decide asks */
+
+static size_t variables(void)
+{
+    return (size_t)guard_get(numbers, GUARD_SLOT_N);
+}
+
+static uint64_t call_nothing(void)
+{
+    return 0;
+}
+
+static uint64_t call_sheet(void)
+{
+    return guard_sheet(sheet, sheet_length);
+}
+
+static uint64_t call_recovery(void)
+{
+    return guard_recovery(sheet, sheet_length);
+}
+
+static uint64_t call_decide(void)
+{
+    return guard_decide(sheet, sheet_length, question, 10 + 8 * variables());
+}
+
+static uint64_t call_read(void)
+{
+    return guard_sheet_read(sheet, sheet_length, numbers, sizeof numbers);
+}
+
+static uint64_t call_write(void)
+{
+    return guard_sheet_write(numbers, sizeof numbers, buffer, sizeof buffer, 0);
+}
+
+/* rho ticks of the plain law at width 1, from the question's box. */
+static uint64_t call_reach(void)
+{
+    uint32_t ticks = (uint32_t)guard_get(numbers, GUARD_SLOT_RHO);
+    return guard_reach(sheet, sheet_length, ticks, 1, 0, 0, question + 10, 8 * variables(), boxes,
+                       sizeof boxes);
+}
+
+typedef uint64_t (*call)(void);
+
+static void *in_thread(void *one)
+{
+    (*(call *)one)();
+    return NULL;
+}
+
+/* The bytes of stack that a thread uses for a call. */
+static size_t stack_of(call one)
+{
+    uint8_t *stack;
+    pthread_attr_t attributes;
+    pthread_t thread;
+    if (posix_memalign((void **)&stack, 4096, STACK) != 0)
+        exit(EXIT_FAILURE);
+    memset(stack, PATTERN, STACK);
+    pthread_attr_init(&attributes);
+    if (pthread_attr_setstack(&attributes, stack, STACK) != 0
+        || pthread_create(&thread, &attributes, in_thread, &one) != 0)
+        exit(EXIT_FAILURE);
+    pthread_join(thread, NULL);
+    size_t untouched = 0;
+    while (untouched < STACK && stack[untouched] == PATTERN)
+        untouched++;
+    free(stack);
+    return STACK - untouched;
+}
+
+static double seconds(void)
+{
+    struct timespec now;
+    clock_gettime(CLOCK_MONOTONIC, &now);
+    return (double)now.tv_sec + 1e-9 * (double)now.tv_nsec;
+}
+
+/* The shortest of several runs, in microseconds. */
+static double time_of(call one)
+{
+    double best = 1e9;
+    for (int i = 0; i < REPEATS; i++) {
+        double start = seconds();
+        one();
+        double taken = 1e6 * (seconds() - start);
+        best = taken < best ? taken : best;
+    }
+    return best;
+}
+
+static void row(const char *name, call one)
+{
+    size_t stack = stack_of(one) - stack_of(call_nothing);
+    printf("| `%s` | %zu | %.2f | |\n", name, stack, time_of(one));
+}
+
+/* The decision over all questions: the most stack, the longest time, and the time of a round. */
+static void decide_row(void)
+{
+    size_t length = 10 + 8 * variables();
+    size_t most_stack = 0;
+    double longest = 0, total = 0, rounds = 0;
+    for (size_t at = 0; at + length <= asks_length; at += length) {
+        question = asks + at;
+        size_t stack = stack_of(call_decide);
+        double taken = time_of(call_decide);
+        most_stack = stack > most_stack ? stack : most_stack;
+        longest = taken > longest ? taken : longest;
+        total += taken;
+        rounds += guard_rounds(call_decide());
+    }
+    printf("| `guard_decide`, longest | %zu | %.2f | %.0f ns a round |\n",
+           most_stack - stack_of(call_nothing), longest, 1e3 * total / rounds);
+}
+
+static size_t load(uint8_t *out, size_t room, const char *path)
+{
+    FILE *file = fopen(path, "rb");
+    if (file == NULL)
+        return 0;
+    size_t length = fread(out, 1, room, file);
+    fclose(file);
+    return length;
+}
+
+int main(int count, char **words)
+{
+    if (count == 3) {
+        sheet_length = load(sheet, sizeof sheet, words[1]);
+        asks_length = load(asks, sizeof asks, words[2]);
+    }
+    if (guard_is_refused(call_read()) || asks_length < 10 + 8 * variables()) {
+        fprintf(stderr, "usage: measure sheet.bin asks.bin\n");
+        return EXIT_FAILURE;
+    }
+    printf("| call | stack, bytes | time, microseconds | |\n|---|---|---|---|\n");
+    row("guard_sheet", call_sheet);
+    row("guard_recovery", call_recovery);
+    decide_row();
+    row("guard_sheet_read", call_read);
+    row("guard_sheet_write", call_write);
+    question = asks;
+    row("guard_reach", call_reach);
+    return EXIT_SUCCESS;
+}

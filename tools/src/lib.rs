@@ -1,0 +1,14 @@
+//! Sheets and questions as text that a person writes, reads and compares line by line.
+//! Bytes go through the guard's archive; the boxes of each step come from the second guard,
+//! and whatever both can say is compared.
+
+pub mod archive;
+pub mod asks_text;
+pub mod attempts;
+pub mod listing;
+pub mod picture;
+pub mod refusal;
+pub mod sheet_text;
+pub mod show;
+pub mod svg;
+pub mod tokens;

@@ -1,0 +1,494 @@
+//! The boxes of an attempt over time: one panel for each variable, one above the other.
+
+use crate::attempts::{Attempt, Attempts, Ending};
+use crate::sheet_text::{range, Named, Names};
+use crate::show::{ending, ticks_before, unit_sides};
+use crate::svg::{
+    decimal, edged, filled, multiples, nice_step, outlined, Anchor, Area, Scale, Svg,
+};
+use second_guard::machine::StateBox;
+use second_guard::reach::{Law, Step};
+use second_guard::sheet::{Sheet, FIRST_EDGE, SIDE_LIMIT};
+
+const WIDTH: f64 = 1000.0;
+const LEFT: f64 = 80.0;
+const RIGHT: f64 = 220.0;
+const TOP: f64 = 112.0;
+const PANEL: f64 = 190.0;
+const GAP: f64 = 34.0;
+const LINE: f64 = 16.0;
+
+const COMMAND: &str = "#2b6cb0";
+const BASELINE: &str = "#b7791f";
+const UNSAFE: &str = "#c53030";
+const RECOVERY: &str = "#2f855a";
+const EDGE: &str = "#4a5568";
+const FRAME: &str = "#a0aec0";
+const FAILED: &str = "#742a2a";
+const SWITCH: &str = "#1a202c";
+
+const SMALL: &str = r##"font-size="11" fill="#4a5568""##;
+const BOLD: &str = r##"font-weight="bold""##;
+const OVER_BOXES: &str =
+    r##"font-size="11" font-weight="bold" stroke="white" stroke-width="3" paint-order="stroke""##;
+
+/// What is drawn: an attempt, and the ticks of each of its phases.
+struct Drawing<'a> {
+    sheet: &'a Sheet,
+    names: &'a Names,
+    attempt: &'a Attempt,
+    /// The ticks under the command; 0 for a recovery check.
+    switch: u32,
+    /// All ticks.
+    ticks: u32,
+    time: Scale,
+}
+
+/// One variable's panel.
+struct Panel {
+    variable: usize,
+    values: Scale,
+}
+
+/// The picture of one attempt, with two lines above it and what became of every width below.
+pub fn picture(
+    heading: &str,
+    answer: &str,
+    found: &Attempts,
+    attempt: &Attempt,
+    sheet: &Sheet,
+    names: &Names,
+) -> String {
+    let drawing = Drawing::new(attempt, sheet, names);
+    let mut svg = Svg::default();
+    drawing.head(&mut svg, heading, answer);
+    let mut bottom = TOP;
+    for variable in 0..sheet.n() {
+        let panel = drawing.panel_at(variable, bottom);
+        drawing.panel(&mut svg, &panel);
+        bottom += PANEL + GAP;
+    }
+    drawing.phases(&mut svg);
+    drawing.time_axis(&mut svg, bottom - GAP);
+    let end = drawing.widths(&mut svg, found, bottom);
+    svg.finish(WIDTH, end + LINE)
+}
+
+impl<'a> Drawing<'a> {
+    fn new(attempt: &'a Attempt, sheet: &'a Sheet, names: &'a Names) -> Drawing<'a> {
+        let first = attempt.steps.first().map(|step| step.law);
+        let (switch, ticks) = match first {
+            Some(Law::Baseline) => (0, sheet.rho),
+            _ => (sheet.delta, sheet.delta + sheet.alpha),
+        };
+        Drawing {
+            sheet,
+            names,
+            attempt,
+            switch: switch as u32,
+            ticks: ticks as u32,
+            time: Scale {
+                from: 0.0,
+                to: f64::from(ticks),
+                at: LEFT,
+                length: WIDTH - LEFT - RIGHT,
+            },
+        }
+    }
+}
+
+impl Drawing<'_> {
+    fn head(&self, svg: &mut Svg, heading: &str, answer: &str) {
+        let style = r##"font-size="15" font-weight="bold""##;
+        svg.text((LEFT, 22.0), Anchor::Start, style, heading);
+        let width = self.attempt.width;
+        let line = format!("answer: {answer}. Drawn: the attempt at width {width}.");
+        svg.text((LEFT, 40.0), Anchor::Start, "", &line);
+        self.legend(svg, 58.0);
+    }
+
+    fn legend(&self, svg: &mut Svg, y: f64) {
+        let entries = [
+            (filled(COMMAND, 0.35), "command"),
+            (filled(BASELINE, 0.35), "plain law"),
+            (filled(RECOVERY, 0.18), "recovery box"),
+            (filled(UNSAFE, 0.45), "no-go"),
+            (filled(UNSAFE, 0.12), "no-go only with other variables"),
+            (outlined(EDGE, 1.0, "1 3"), "band"),
+            (outlined(FAILED, 2.5, ""), "first box that fails"),
+        ];
+        let mut x = LEFT;
+        for (paint, words) in entries {
+            let area = Area {
+                x: (x, x + 14.0),
+                y: (y - 9.0, y + 1.0),
+            };
+            svg.rect(area, paint);
+            svg.text((x + 18.0, y), Anchor::Start, SMALL, words);
+            x += 34.0 + 6.1 * words.len() as f64;
+        }
+    }
+
+    /// A panel whose values hold every box drawn, the recovery box and what is forbidden nearby.
+    fn panel_at(&self, variable: usize, top: f64) -> Panel {
+        let i = variable;
+        let recovery = &self.sheet.recovery;
+        let (mut lower, mut upper) = (recovery.lower[i], recovery.upper[i]);
+        for step in &self.attempt.steps {
+            lower = lower.min(step.swept.lower[i]);
+            upper = upper.max(step.swept.upper[i]);
+        }
+        let near = (upper - lower) / 2;
+        for unsafe_box in self.sheet.unsafe_boxes() {
+            for side in [unsafe_box.lower[i], unsafe_box.upper[i]] {
+                if side.abs() < SIDE_LIMIT && side < lower && lower - side < near {
+                    lower = side;
+                }
+                if side.abs() < SIDE_LIMIT && side > upper && side - upper < near {
+                    upper = side;
+                }
+            }
+        }
+        let margin = ((upper - lower) as f64 * 0.06).max(1.0);
+        let values = Scale {
+            from: lower as f64 - margin,
+            to: upper as f64 + margin,
+            at: top + PANEL,
+            length: -PANEL,
+        };
+        Panel { variable, values }
+    }
+
+    fn panel(&self, svg: &mut Svg, panel: &Panel) {
+        let top = panel.values.at - PANEL;
+        let named = &self.names.variables[panel.variable];
+        svg.text((LEFT, top - 7.0), Anchor::Start, BOLD, &axis_name(named));
+        let mut labels = Labels::default();
+        self.recovery(svg, panel, &mut labels);
+        self.unsafe_boxes(svg, panel, &mut labels);
+        self.band_edges(svg, panel, &mut labels);
+        self.boxes(svg, panel);
+        self.switch_line(svg, panel);
+        self.failure(svg, panel);
+        value_axis(svg, panel, named);
+        svg.rect(self.frame(panel), outlined(FRAME, 1.0, ""));
+        labels.draw(svg, top);
+    }
+
+    fn frame(&self, panel: &Panel) -> Area {
+        Area {
+            x: (self.time.at, self.time.at + self.time.length),
+            y: (panel.values.at - PANEL, panel.values.at),
+        }
+    }
+
+    fn recovery(&self, svg: &mut Svg, panel: &Panel, labels: &mut Labels) {
+        let i = panel.variable;
+        let recovery = &self.sheet.recovery;
+        let y = |side: i64| panel.values.place(side as f64);
+        let (lower, upper) = (y(recovery.lower[i]), y(recovery.upper[i]));
+        let frame = self.frame(panel);
+        let area = Area {
+            x: frame.x,
+            y: (lower, upper),
+        };
+        svg.rect(area, filled(RECOVERY, 0.10));
+        for y in [lower, upper] {
+            let dashes = outlined(RECOVERY, 1.0, "5 3");
+            svg.line((frame.x.0, y), (frame.x.1, y), dashes);
+        }
+        // Only at the last tick does the box have to be within the recovery box.
+        let end = frame.x.1 + 4.0;
+        let bar = outlined(RECOVERY, 4.0, "");
+        svg.line((end, lower), (end, upper), bar);
+        labels.add((lower + upper) / 2.0, RECOVERY, "recovery box".into());
+    }
+
+    /// Strong where every other variable's swept box meets the no-go box too, faint elsewhere.
+    fn unsafe_boxes(&self, svg: &mut Svg, panel: &Panel, labels: &mut Labels) {
+        let i = panel.variable;
+        for (j, unsafe_box) in self.sheet.unsafe_boxes().iter().enumerate() {
+            let (lower, upper) = (unsafe_box.lower[i], unsafe_box.upper[i]);
+            let values = &panel.values;
+            let seen = lower as f64 <= values.to && upper as f64 >= values.from;
+            if is_free(unsafe_box, i) || !seen {
+                continue;
+            }
+            let y = (values.place(lower as f64), values.place(upper as f64));
+            for (from, to, strong) in self.spans(unsafe_box, i) {
+                let x = (
+                    self.time.place(f64::from(from)),
+                    self.time.place(f64::from(to)),
+                );
+                let opacity = if strong { 0.45 } else { 0.12 };
+                svg.rect(Area { x, y }, filled(UNSAFE, opacity));
+            }
+            labels.add((y.0 + y.1) / 2.0, UNSAFE, self.names.unsafe_box(j));
+        }
+    }
+
+    /// Spans of ticks, and whether a no-go box is met there in every variable but one.
+    fn spans(&self, unsafe_box: &StateBox, but: usize) -> Vec<(u32, u32, bool)> {
+        let others = |swept: &StateBox| {
+            (0..self.sheet.n()).filter(|&i| i != but).all(|i| {
+                swept.lower[i] <= unsafe_box.upper[i] && unsafe_box.lower[i] <= swept.upper[i]
+            })
+        };
+        let alone = (0..self.sheet.n()).all(|i| i == but || is_free(unsafe_box, i));
+        let mut spans: Vec<(u32, u32, bool)> = Vec::new();
+        let mut tick = 0;
+        let steps = self.attempt.steps.iter();
+        let rest = (self.ticks - self.covered(), alone);
+        for (ticks, strong) in steps.map(|s| (s.ticks, others(&s.swept))).chain([rest]) {
+            match spans.last_mut() {
+                Some(last) if last.2 == strong => last.1 += ticks,
+                _ => spans.push((tick, tick + ticks, strong)),
+            }
+            tick += ticks;
+        }
+        spans
+    }
+
+    /// The ticks that the steps cover.
+    fn covered(&self) -> u32 {
+        ticks_before(self.attempt, self.attempt.steps.len())
+    }
+
+    fn band_edges(&self, svg: &mut Svg, panel: &Panel, labels: &mut Labels) {
+        if panel.variable != self.sheet.band_variable as usize {
+            return;
+        }
+        let bands = self.sheet.bands();
+        let frame = self.frame(panel);
+        for (k, band) in bands.iter().enumerate() {
+            let next = bands.get(k + 1).map_or(SIDE_LIMIT, |b| i64::from(b.edge));
+            let y = |side: i64| panel.values.place(side as f64);
+            let (lower, upper) = (y(i64::from(band.edge)), y(next));
+            if (lower - upper).abs() < 1.0 {
+                continue;
+            }
+            if band.edge != FIRST_EDGE && panel.values.holds(f64::from(band.edge)) {
+                let dots = outlined(EDGE, 1.0, "1 3");
+                svg.line((frame.x.0, lower), (frame.x.1, lower), dots);
+            }
+            let commands = range(band.safety.least, band.safety.greatest);
+            let words = format!("plain law: {}", with_unit(&commands, &self.names.command));
+            labels.add((lower + upper) / 2.0, EDGE, words);
+        }
+    }
+
+    /// Every step: its swept box, where its states lie tick by tick, and its end box.
+    fn boxes(&self, svg: &mut Svg, panel: &Panel) {
+        for (colour, baseline) in [(COMMAND, false), (BASELINE, true)] {
+            let mut swept = Vec::new();
+            let mut inside = Vec::new();
+            let mut ends = Vec::new();
+            for (index, step) in self.attempt.steps.iter().enumerate() {
+                if (step.law == Law::Baseline) != baseline {
+                    continue;
+                }
+                let (from, to) = self.step_x(index);
+                swept.push(self.quad(panel, (from, &step.swept), (to, &step.swept)));
+                inside.push(self.quad(panel, (from, &step.start), (to, &step.end)));
+                ends.push(self.quad(panel, (to, &step.end), (to, &step.end)));
+            }
+            svg.shapes(&swept, filled(colour, 0.22));
+            svg.shapes(&inside, edged(colour, 0.35, 0.8));
+            svg.shapes(&ends, outlined(colour, 1.2, ""));
+        }
+        if let Some(first) = self.attempt.steps.first() {
+            let start = self.quad(panel, (LEFT, &first.start), (LEFT, &first.start));
+            svg.shapes(&[start], outlined(SWITCH, 4.0, ""));
+        }
+    }
+
+    /// Where a step begins and ends.
+    fn step_x(&self, index: usize) -> (f64, f64) {
+        let from = ticks_before(self.attempt, index);
+        let to = from + self.attempt.steps[index].ticks;
+        let x = |tick: u32| self.time.place(f64::from(tick));
+        (x(from), x(to))
+    }
+
+    /// The four corners between two boxes at two places.
+    fn quad(&self, panel: &Panel, from: (f64, &StateBox), to: (f64, &StateBox)) -> Vec<(f64, f64)> {
+        let i = panel.variable;
+        let y = |side: i64| panel.values.place(side as f64);
+        vec![
+            (from.0, y(from.1.lower[i])),
+            (to.0, y(to.1.lower[i])),
+            (to.0, y(to.1.upper[i])),
+            (from.0, y(from.1.upper[i])),
+        ]
+    }
+
+    /// Marks the first box that fails, and says why in the panels of the variables at fault.
+    fn failure(&self, svg: &mut Svg, panel: &Panel) {
+        let Some(index) = self.attempt.steps.len().checked_sub(1) else {
+            return;
+        };
+        let step = &self.attempt.steps[index];
+        let (from, to) = self.step_x(index);
+        let i = panel.variable;
+        match self.attempt.ending {
+            Ending::Success | Ending::Spent => {}
+            Ending::Unsafe(j) => {
+                let shape = self.quad(panel, (from, &step.swept), (to, &step.swept));
+                let words = format!("meets no-go {}", j + 1);
+                let at_fault = !is_free(&self.sheet.unsafe_boxes()[j], i);
+                self.mark(svg, panel, shape, at_fault.then_some(&words));
+            }
+            Ending::Outside(_) => {
+                let shape = self.quad(panel, (to - 3.0, &step.end), (to + 3.0, &step.end));
+                let words = "not within the recovery box";
+                if !self.inside(step, i) {
+                    self.mark(svg, panel, shape, Some(words));
+                }
+            }
+        }
+    }
+
+    /// Outlines a shape, thick and with words if there are any.
+    fn mark(&self, svg: &mut Svg, panel: &Panel, shape: Vec<(f64, f64)>, words: Option<&str>) {
+        let ((from, _), (to, highest)) = (shape[0], shape[2]);
+        let width = if words.is_some() { 2.5 } else { 1.0 };
+        svg.shapes(&[shape], outlined(FAILED, width, ""));
+        let (x, anchor) = if to < self.time.at + self.time.length / 2.0 {
+            (to + 8.0, Anchor::Start)
+        } else {
+            (from - 8.0, Anchor::End)
+        };
+        let y = (highest + 12.0).clamp(panel.values.at - PANEL + 14.0, panel.values.at - 6.0);
+        if let Some(words) = words {
+            let style = format!("{OVER_BOXES} fill=\"{FAILED}\"");
+            svg.text((x, y), anchor, &style, words);
+        }
+    }
+
+    /// The end box is within the recovery box in this variable.
+    fn inside(&self, step: &Step, i: usize) -> bool {
+        let recovery = &self.sheet.recovery;
+        recovery.lower[i] <= step.end.lower[i] && step.end.upper[i] <= recovery.upper[i]
+    }
+
+    /// The line between the command's ticks and the plain law's.
+    fn switch_line(&self, svg: &mut Svg, panel: &Panel) {
+        if self.switch == 0 {
+            return;
+        }
+        let x = self.time.place(f64::from(self.switch));
+        let frame = self.frame(panel);
+        let dashes = outlined(SWITCH, 1.2, "6 3");
+        svg.line((x, frame.y.0), (x, frame.y.1), dashes);
+    }
+
+    /// The names of the phases, above the first panel.
+    fn phases(&self, svg: &mut Svg) {
+        let style = |colour: &str| format!(r##"font-weight="bold" fill="{colour}""##);
+        let y = TOP - GAP + 6.0;
+        let first = self.attempt.steps.first().map(|step| step.law);
+        let Some(Law::Command(command)) = first else {
+            svg.text((LEFT, y), Anchor::Start, &style(BASELINE), "plain law");
+            return;
+        };
+        let command = with_unit(&command.to_string(), &self.names.command);
+        let words = format!("{} {command}", self.names.command.name);
+        svg.text((LEFT, y), Anchor::Start, &style(COMMAND), &words);
+        let x = self.time.place(f64::from(self.switch));
+        let x = x.max(LEFT + 24.0 + 8.0 * words.len() as f64);
+        let words = format!("plain law from tick {}", self.switch);
+        svg.text((x, y), Anchor::Start, &style(BASELINE), &words);
+    }
+
+    fn time_axis(&self, svg: &mut Svg, bottom: f64) {
+        let step = nice_step(f64::from(self.ticks), 10.0).max(1.0);
+        for tick in multiples(0.0, f64::from(self.ticks), step) {
+            let x = self.time.place(tick);
+            svg.line((x, bottom), (x, bottom + 4.0), outlined(FRAME, 1.0, ""));
+            svg.text(
+                (x, bottom + 16.0),
+                Anchor::Middle,
+                SMALL,
+                &decimal(tick, step),
+            );
+        }
+        let words = match &self.names.tick {
+            Some(unit) => format!("ticks of {unit}"),
+            None => "ticks".into(),
+        };
+        let x = self.time.at + self.time.length + 14.0;
+        svg.text((x, bottom + 16.0), Anchor::Start, SMALL, &words);
+    }
+
+    /// One line for each width that was tried; gives where the lines end.
+    fn widths(&self, svg: &mut Svg, found: &Attempts, top: f64) -> f64 {
+        let mut y = top + LINE;
+        for attempt in &found.all {
+            let style = match attempt.width == self.attempt.width {
+                true => BOLD,
+                false => SMALL,
+            };
+            let words = ending(attempt, self.sheet, self.names, unit_sides);
+            let line = format!("width {}: {words}", attempt.width);
+            svg.text((LEFT, y), Anchor::Start, style, &line);
+            y += LINE;
+        }
+        y
+    }
+}
+
+/// A no-go box takes every value of this variable.
+fn is_free(unsafe_box: &StateBox, i: usize) -> bool {
+    unsafe_box.lower[i] == -SIDE_LIMIT && unsafe_box.upper[i] == SIDE_LIMIT
+}
+
+/// `position, mm`.
+fn axis_name(named: &Named) -> String {
+    match &named.unit {
+        Some(unit) => format!("{}, {}", named.name, unit.name),
+        None => named.name.clone(),
+    }
+}
+
+/// A command's numbers with its unit, where a step of it is 1.
+fn with_unit(numbers: &str, named: &Named) -> String {
+    match &named.unit {
+        Some(unit) if unit.factor() == 1.0 => format!("{numbers} {}", unit.name),
+        Some(unit) => format!("{numbers} × {unit}"),
+        None => numbers.into(),
+    }
+}
+
+fn value_axis(svg: &mut Svg, panel: &Panel, named: &Named) {
+    let factor = named.unit.as_ref().map_or(1.0, |unit| unit.factor());
+    let (from, to) = (panel.values.from * factor, panel.values.to * factor);
+    let step = nice_step(to - from, 6.0);
+    for value in multiples(from, to, step) {
+        let y = panel.values.place(value / factor);
+        svg.line((LEFT - 4.0, y), (LEFT, y), outlined(FRAME, 1.0, ""));
+        let at = (LEFT - 8.0, y + 4.0);
+        svg.text(at, Anchor::End, SMALL, &decimal(value, step));
+    }
+}
+
+/// Words at the right of a panel, kept apart.
+#[derive(Default)]
+struct Labels(Vec<(f64, &'static str, String)>);
+
+impl Labels {
+    fn add(&mut self, y: f64, colour: &'static str, words: String) {
+        self.0.push((y, colour, words));
+    }
+
+    fn draw(mut self, svg: &mut Svg, top: f64) {
+        self.0.sort_by(|one, other| one.0.total_cmp(&other.0));
+        let mut free = top + 4.0;
+        for (y, colour, words) in self.0 {
+            let y = (y + 4.0).max(free);
+            free = y + 13.0;
+            let style = format!(r##"font-size="11" fill="{colour}""##);
+            let at = (WIDTH - RIGHT + 14.0, y);
+            svg.text(at, Anchor::Start, &style, &words);
+        }
+    }
+}

@@ -1,0 +1,253 @@
+//! Document 01's refusals in words, and which number of a sheet or a question is at fault.
+//! Every test of a value is a range whose ends are constants or earlier values.
+
+use crate::sheet_text::{Item, Names};
+use second_guard::machine::StateBox;
+use second_guard::sheet::{
+    CommandRange, Row, Sheet, BANDS, FIRST_EDGE, LAST_EDGE, SIDE_LIMIT, START_LIMIT, TICKS_LIMIT,
+    UNSAFE_BOXES, VARIABLES,
+};
+
+const COMMAND_LIMIT: i32 = 10_000;
+const CAP_LIMIT: i32 = 1_000;
+const COEFFICIENT_LIMIT: i32 = 1_000;
+const OFFSET_LIMIT: i32 = 100_000_000;
+const DIVISOR_LIMIT: i32 = 4_096;
+const ALLOWANCE_LIMIT: i64 = 1_000_000;
+
+const CAUSES: [&str; 17] = [
+    "under 20 bytes, or mark not SH",
+    "n, a count or band variable out of range",
+    "delta, alpha, rho",
+    "head's commands",
+    "length",
+    "a cap",
+    "later record's mark",
+    "edge",
+    "safety range",
+    "row number",
+    "no-go or recovery side",
+    "question's length or mark",
+    "allowance",
+    "command",
+    "measured or start side",
+    "ticks or width of a reach",
+    "too little buffer from the named place",
+];
+
+/// Document 01's cause for a refusal's number.
+pub fn cause(number: u8) -> &'static str {
+    usize::from(number)
+        .checked_sub(1)
+        .and_then(|at| CAUSES.get(at))
+        .unwrap_or(&"no refusal of document 01")
+}
+
+/// A value that has to lie within two ends.
+pub struct Test<P> {
+    pub refusal: u8,
+    /// Where the value stands.
+    pub place: P,
+    pub what: String,
+    value: i64,
+    least: i64,
+    greatest: i64,
+}
+
+impl<P> Test<P> {
+    fn new(
+        refusal: u8,
+        place: P,
+        what: impl Into<String>,
+        value: impl Into<i64>,
+        ends: (impl Into<i64>, impl Into<i64>),
+    ) -> Test<P> {
+        Test {
+            refusal,
+            place,
+            what: what.into(),
+            value: value.into(),
+            least: ends.0.into(),
+            greatest: ends.1.into(),
+        }
+    }
+
+    fn fails(&self) -> bool {
+        self.value < self.least || self.value > self.greatest
+    }
+
+    /// What is wrong, in words.
+    pub fn words(&self) -> String {
+        let Test {
+            what,
+            value,
+            least,
+            greatest,
+            ..
+        } = self;
+        if least == greatest {
+            format!("{what} is {value}, it has to be {least}")
+        } else {
+            format!("{what} is {value}, it has to lie within {least}..{greatest}")
+        }
+    }
+}
+
+fn counts(sheet: &Sheet) -> Vec<Test<Item>> {
+    let test = |place, what, value, ends| Test::new(2, place, what, value, ends);
+    let up_to = |most: usize| (1, most as i32);
+    let (variables, bands, boxes) = (sheet.variables, sheet.band_count, sheet.unsafe_count);
+    let n = "the number of variables";
+    vec![
+        test(Item::Variable(VARIABLES), n, variables, up_to(VARIABLES)),
+        test(
+            Item::Band(BANDS),
+            "the number of bands",
+            bands,
+            up_to(BANDS),
+        ),
+        test(
+            Item::Unsafe(UNSAFE_BOXES),
+            "the number of no-go boxes",
+            boxes,
+            up_to(UNSAFE_BOXES),
+        ),
+        test(
+            Item::BandVariable,
+            "the band variable",
+            sheet.band_variable,
+            (0, variables - 1),
+        ),
+    ]
+}
+
+fn head(sheet: &Sheet, names: &Names) -> Vec<Test<Item>> {
+    let (delta, ticks) = (sheet.delta, (1, TICKS_LIMIT));
+    let alphas = (1, TICKS_LIMIT - delta.clamp(0, TICKS_LIMIT));
+    let alpha = format!("with delta {delta}, alpha");
+    let CommandRange { least, greatest } = sheet.commands;
+    let commands = (-COMMAND_LIMIT, COMMAND_LIMIT);
+    let mut tests = vec![
+        Test::new(3, Item::Times, "delta", delta, ticks),
+        Test::new(3, Item::Times, alpha, sheet.alpha, alphas),
+        Test::new(3, Item::Times, "rho", sheet.rho, ticks),
+        Test::new(4, Item::Command, "the least command", least, commands),
+        Test::new(
+            4,
+            Item::Command,
+            "the greatest command",
+            greatest,
+            (least, COMMAND_LIMIT),
+        ),
+    ];
+    for i in 0..sheet.n() {
+        let what = format!("the cap of {}", names.variable(i));
+        let place = Item::Variable(i);
+        tests.push(Test::new(6, place, what, sheet.caps[i], (1, CAP_LIMIT)));
+    }
+    tests
+}
+
+fn row(sheet: &Sheet, names: &Names, place: Item, row: &Row) -> Vec<Test<Item>> {
+    let coefficient = (-COEFFICIENT_LIMIT, COEFFICIENT_LIMIT);
+    let offset = (-OFFSET_LIMIT, OFFSET_LIMIT);
+    let test = |what: String, value, ends| Test::new(10, place, what, value, ends);
+    let mut tests = Vec::new();
+    for j in 0..sheet.n() {
+        let what = format!("the coefficient of {}", names.variable(j));
+        tests.push(test(what, row.a[j], coefficient));
+    }
+    let what = format!("the coefficient of {}", names.command.name);
+    tests.push(test(what, row.b, coefficient));
+    tests.push(test("the constant".into(), row.c, offset));
+    tests.push(test("the spread".into(), row.d, (0, OFFSET_LIMIT)));
+    tests.push(test("the divisor".into(), row.q, (1, DIVISOR_LIMIT)));
+    tests
+}
+
+fn band(sheet: &Sheet, names: &Names, k: usize) -> Vec<Test<Item>> {
+    let band = &sheet.bands[k];
+    let place = Item::Band(k);
+    let edges = match k {
+        0 => (FIRST_EDGE, FIRST_EDGE),
+        _ => (sheet.bands[k - 1].edge.saturating_add(1), LAST_EDGE),
+    };
+    let CommandRange { least, greatest } = band.safety;
+    let (first, last) = (sheet.commands.least, sheet.commands.greatest);
+    let mut tests = vec![
+        Test::new(8, place, "the edge", band.edge, edges),
+        Test::new(9, place, "the least safety command", least, (first, last)),
+        Test::new(
+            9,
+            place,
+            "the greatest safety command",
+            greatest,
+            (least, last),
+        ),
+    ];
+    for i in 0..sheet.n() {
+        tests.extend(row(sheet, names, Item::Row(k, i), &band.rows[i]));
+    }
+    tests
+}
+
+/// The tests of a box's sides, each upper one from its lower one on.
+fn sides<P: Copy>(
+    refusal: u8,
+    place: P,
+    sides: &StateBox,
+    n: usize,
+    limit: i64,
+    names: &Names,
+) -> Vec<Test<P>> {
+    let mut tests = Vec::new();
+    for i in 0..n {
+        let (lower, upper) = (sides.lower[i], sides.upper[i]);
+        let name = names.variable(i);
+        let what = format!("the lower side of {name}");
+        tests.push(Test::new(refusal, place, what, lower, (-limit, limit)));
+        let what = format!("the upper side of {name}");
+        tests.push(Test::new(refusal, place, what, upper, (lower, limit)));
+    }
+    tests
+}
+
+fn first_failing<P>(tests: Vec<Test<P>>) -> Option<Test<P>> {
+    tests.into_iter().find(Test::fails)
+}
+
+/// The first number of a sheet that is at fault, in the order of the file.
+pub fn sheet_fault(sheet: &Sheet, names: &Names) -> Option<Test<Item>> {
+    // Only with the counts in range are there places to look at.
+    if let Some(test) = first_failing(counts(sheet)) {
+        return Some(test);
+    }
+    let n = sheet.n();
+    let mut tests = head(sheet, names);
+    for k in 0..sheet.bands().len() {
+        tests.extend(band(sheet, names, k));
+    }
+    for (j, unsafe_box) in sheet.unsafe_boxes().iter().enumerate() {
+        tests.extend(sides(11, Item::Unsafe(j), unsafe_box, n, SIDE_LIMIT, names));
+    }
+    let recovery = &sheet.recovery;
+    tests.extend(sides(11, Item::Recovery, recovery, n, START_LIMIT, names));
+    first_failing(tests)
+}
+
+/// The first number of a question that is at fault.
+pub fn question_fault(
+    sheet: &Sheet,
+    names: &Names,
+    allowance: i64,
+    command: i32,
+    measured: &StateBox,
+) -> Option<Test<()>> {
+    let head = sheet.commands;
+    let mut tests = vec![
+        Test::new(13, (), "the allowance", allowance, (0, ALLOWANCE_LIMIT)),
+        Test::new(14, (), "the command", command, (head.least, head.greatest)),
+    ];
+    tests.extend(sides(15, (), measured, sheet.n(), START_LIMIT, names));
+    first_failing(tests)
+}

@@ -1,0 +1,330 @@
+//! A sheet as text: what its lines say, and the one form in which the tool writes each of them.
+
+use crate::archive;
+use crate::refusal::sheet_fault;
+use crate::tokens::{split_comment, Fault, Unit};
+use second_guard::machine::StateBox;
+use second_guard::sheet::{Band, Row, Sheet, FIRST_EDGE, SIDE_LIMIT};
+use std::fmt::Write;
+
+mod parse;
+
+pub use parse::parse;
+
+/// What a line says.
+#[derive(Clone, Copy, Debug, PartialEq, Eq)]
+pub enum Item {
+    Title,
+    Tick,
+    /// Variable i and its cap.
+    Variable(usize),
+    Command,
+    Times,
+    BandVariable,
+    /// Band k's edge and safety range.
+    Band(usize),
+    /// Band k's row for variable i.
+    Row(usize, usize),
+    Unsafe(usize),
+    Recovery,
+}
+
+#[derive(Clone, Debug, PartialEq)]
+pub struct Named {
+    pub name: String,
+    pub unit: Option<Unit>,
+}
+
+/// What a sheet's bytes do not hold.
+#[derive(Clone, Debug, PartialEq)]
+pub struct Names {
+    pub title: Option<String>,
+    pub tick: Option<Unit>,
+    pub variables: Vec<Named>,
+    pub command: Named,
+    pub unsafe_boxes: Vec<Option<String>>,
+}
+
+/// A line as it was written.
+#[derive(Clone, Debug)]
+pub struct SourceLine {
+    pub text: String,
+    pub item: Option<Item>,
+}
+
+/// A sheet with its names and lines.
+#[derive(Clone, Debug)]
+pub struct SheetText {
+    pub sheet: Sheet,
+    pub names: Names,
+    pub lines: Vec<SourceLine>,
+}
+
+impl Named {
+    fn plain(name: impl Into<String>) -> Named {
+        Named {
+            name: name.into(),
+            unit: None,
+        }
+    }
+
+    /// The name, and its unit in brackets.
+    pub fn with_unit(&self) -> String {
+        match &self.unit {
+            Some(unit) => format!("{} [{unit}]", self.name),
+            None => self.name.clone(),
+        }
+    }
+}
+
+impl Names {
+    /// Names for a sheet that comes without: x1, x2 and so on, and u for the command.
+    pub fn plain(sheet: &Sheet) -> Names {
+        Names {
+            title: None,
+            tick: None,
+            variables: (1..=sheet.n())
+                .map(|i| Named::plain(format!("x{i}")))
+                .collect(),
+            command: Named::plain("u"),
+            unsafe_boxes: vec![None; sheet.unsafe_boxes().len()],
+        }
+    }
+
+    pub fn variable(&self, i: usize) -> &str {
+        &self.variables[i].name
+    }
+
+    /// `no-go 1 "end stop"` for box 0.
+    pub fn unsafe_box(&self, j: usize) -> String {
+        match &self.unsafe_boxes[j] {
+            Some(name) => format!("no-go {} \"{name}\"", j + 1),
+            None => format!("no-go {}", j + 1),
+        }
+    }
+
+    /// The title, or a word for it.
+    pub fn title(&self) -> &str {
+        self.title.as_deref().unwrap_or("sheet")
+    }
+}
+
+/// A sheet's values with plain names, every line in the tool's own form.
+pub fn from_sheet(sheet: &Sheet) -> SheetText {
+    let names = Names::plain(sheet);
+    let lines = items(sheet)
+        .into_iter()
+        .map(|item| SourceLine {
+            text: line(sheet, &names, item),
+            item: Some(item),
+        })
+        .collect();
+    SheetText {
+        sheet: *sheet,
+        names,
+        lines,
+    }
+}
+
+/// The lines of a sheet that hold its values, in the order of the file.
+fn items(sheet: &Sheet) -> Vec<Item> {
+    let n = sheet.n();
+    let mut items: Vec<Item> = (0..n).map(Item::Variable).collect();
+    items.extend([Item::Command, Item::Times, Item::BandVariable]);
+    for k in 0..sheet.bands().len() {
+        items.push(Item::Band(k));
+        items.extend((0..n).map(|i| Item::Row(k, i)));
+    }
+    items.extend((0..sheet.unsafe_boxes().len()).map(Item::Unsafe));
+    items.push(Item::Recovery);
+    items
+}
+
+impl SheetText {
+    /// All lines.
+    pub fn text(&self) -> String {
+        self.lines
+            .iter()
+            .map(|line| format!("{}\n", line.text))
+            .collect()
+    }
+
+    /// The line that holds an item, counted from 1.
+    pub fn line_of(&self, item: Item) -> Option<usize> {
+        let at = self.lines.iter().position(|line| line.item == Some(item))?;
+        Some(at + 1)
+    }
+
+    /// The sheet's bytes, by the archive's writer. What it refuses is a fault with its line.
+    pub fn bytes(&self) -> Result<Vec<u8>, Fault> {
+        let found = sheet_fault(&self.sheet, &self.names);
+        match (archive::write(&self.sheet), found) {
+            (Ok(bytes), None) => Ok(bytes),
+            (Err(number), Some(test)) if number == test.refusal => Err(Fault {
+                line: self.line_of(test.place),
+                refusal: Some(number),
+                what: test.words(),
+            }),
+            (answer, found) => Err(Fault::general(format!(
+                "the archive's writer and this tool differ: {:?} and {:?}",
+                answer.map(|bytes| bytes.len()),
+                found.map(|test| test.refusal)
+            ))),
+        }
+    }
+
+    /// This text with another sheet's values: lines whose values are the same stay as they are.
+    pub fn with_values(&self, sheet: &Sheet) -> Result<SheetText, Fault> {
+        let counts = |s: &Sheet| (s.variables, s.band_count, s.unsafe_count);
+        if counts(sheet) != counts(&self.sheet) {
+            return Err(Fault::general(
+                "the sheets differ in their number of variables, bands or no-go boxes",
+            ));
+        }
+        let lines = self
+            .lines
+            .iter()
+            .map(|old| SourceLine {
+                text: self.line_with(old, sheet),
+                item: old.item,
+            })
+            .collect();
+        Ok(SheetText {
+            sheet: *sheet,
+            names: self.names.clone(),
+            lines,
+        })
+    }
+
+    fn line_with(&self, old: &SourceLine, sheet: &Sheet) -> String {
+        let Some(item) = old.item else {
+            return old.text.clone();
+        };
+        let new = line(sheet, &self.names, item);
+        if new == line(&self.sheet, &self.names, item) {
+            return old.text.clone();
+        }
+        rewritten(&old.text, &new)
+    }
+}
+
+/// A new line in the place of an old one: indent and comment stay.
+pub fn rewritten(old: &str, new: &str) -> String {
+    let (body, comment) = split_comment(old);
+    let indent = &body[..body.len() - body.trim_start().len()];
+    let gap = if comment.is_empty() { "" } else { "  " };
+    format!("{indent}{}{gap}{comment}", new.trim_start())
+}
+
+/// The line for an item in the tool's own form.
+fn line(sheet: &Sheet, names: &Names, item: Item) -> String {
+    match item {
+        Item::Title => format!("sheet \"{}\"", names.title()),
+        Item::Tick => names.tick.iter().map(|u| format!("tick {u}")).collect(),
+        Item::Variable(i) => {
+            let Named { name, unit } = &names.variables[i];
+            format!("variable {name}  cap {}{}", sheet.caps[i], unit_part(unit))
+        }
+        Item::Command => {
+            let Named { name, unit } = &names.command;
+            let range = range(sheet.commands.least, sheet.commands.greatest);
+            format!("command {name}  {range}{}", unit_part(unit))
+        }
+        Item::Times => format!(
+            "times  delta {}  alpha {}  rho {}",
+            sheet.delta, sheet.alpha, sheet.rho
+        ),
+        Item::BandVariable => {
+            format!("bands by {}", names.variable(sheet.band_variable as usize))
+        }
+        Item::Band(k) => band_line(&sheet.bands[k]),
+        Item::Row(k, i) => {
+            let row = &sheet.bands[k].rows[i];
+            let terms = terms(row, names);
+            format!("  change {} = ({terms}) / {}", names.variable(i), row.q)
+        }
+        Item::Unsafe(j) => {
+            let name = names.unsafe_boxes[j].iter();
+            let name: String = name.map(|name| format!(" \"{name}\"")).collect();
+            format!("no-go{name}{}", open_sides(&sheet.unsafe_boxes[j], names))
+        }
+        Item::Recovery => format!("recovery{}", closed_sides(&sheet.recovery, names)),
+    }
+}
+
+fn band_line(band: &Band) -> String {
+    let edge = match band.edge {
+        FIRST_EDGE => "lowest".into(),
+        edge => edge.to_string(),
+    };
+    let safety = range(band.safety.least, band.safety.greatest);
+    format!("band from {edge}  safety {safety}")
+}
+
+fn unit_part(unit: &Option<Unit>) -> String {
+    unit.iter().map(|unit| format!("  unit {unit}")).collect()
+}
+
+pub fn range(lower: impl std::fmt::Display, upper: impl std::fmt::Display) -> String {
+    format!("{lower}..{upper}")
+}
+
+/// Each variable's name and sides.
+pub fn closed_sides(sides: &StateBox, names: &Names) -> String {
+    named_sides(sides, names, range)
+}
+
+/// The same for a no-go box: sides at its limits are left out.
+fn open_sides(sides: &StateBox, names: &Names) -> String {
+    named_sides(sides, names, |lower, upper| {
+        match (lower == -SIDE_LIMIT, upper == SIDE_LIMIT) {
+            (true, true) => "any".into(),
+            (true, false) => format!("..{upper}"),
+            (false, true) => format!("{lower}.."),
+            (false, false) => range(lower, upper),
+        }
+    })
+}
+
+fn named_sides(sides: &StateBox, names: &Names, range: impl Fn(i64, i64) -> String) -> String {
+    let named = names.variables.iter().enumerate();
+    named
+        .map(|(i, v)| format!("  {} {}", v.name, range(sides.lower[i], sides.upper[i])))
+        .collect()
+}
+
+/// `2 s - p + 4 u + 7 +- 3`: terms with coefficient 0 are left out.
+fn terms(row: &Row, names: &Names) -> String {
+    let coefficients = names.variables.iter().zip(row.a);
+    let command = (&names.command, row.b);
+    let mut text = String::new();
+    for (named, coefficient) in coefficients.chain([command]) {
+        let name = match coefficient.unsigned_abs() {
+            1 => named.name.clone(),
+            size => format!("{size} {}", named.name),
+        };
+        push_term(&mut text, coefficient, &name);
+    }
+    push_term(&mut text, row.c, &row.c.unsigned_abs().to_string());
+    if text.is_empty() {
+        text.push('0');
+    }
+    if row.d != 0 {
+        // Writing to a string does not fail.
+        let _ = write!(text, " +- {}", row.d);
+    }
+    text
+}
+
+/// Adds a term with its sign, unless it is 0.
+fn push_term(text: &mut String, value: i32, size: &str) {
+    let sign = match (value.signum(), text.is_empty()) {
+        (0, _) => return,
+        (1, true) => "",
+        (1, false) => " + ",
+        (_, true) => "-",
+        (_, false) => " - ",
+    };
+    text.push_str(sign);
+    text.push_str(size);
+}

@@ -1,0 +1,93 @@
+//! What the tests share: the examples, the program, and a simple source of numbers.
+#![allow(dead_code)]
+
+use second_guard::sheet::Sheet;
+use sheet_tool::{asks_text, sheet_text};
+use std::path::PathBuf;
+use std::process::Command;
+
+/// The path of a file of examples/.
+pub fn example(name: &str) -> String {
+    let examples = concat!(env!("CARGO_MANIFEST_DIR"), "/../examples/");
+    format!("{examples}{name}")
+}
+
+pub fn example_text(name: &str) -> String {
+    std::fs::read_to_string(example(name)).expect("the example is there")
+}
+
+/// An example's values, its sheet's bytes and its questions' bytes.
+pub fn load(name: &str) -> (Sheet, Vec<u8>, Vec<u8>) {
+    let text = sheet_text::parse(&example_text(&format!("{name}.txt"))).expect("a sheet");
+    let bytes = text.bytes().expect("an accepted sheet");
+    let asks = example_text(&format!("{name}.asks.txt"));
+    let asks = asks_text::parse(&asks, &text.sheet, &text.names).expect("questions");
+    let asks_bytes = asks.bytes(&text.sheet);
+    (text.sheet, bytes, asks_bytes)
+}
+
+/// Runs the program: whether it succeeded, and what it printed.
+pub fn shell(words: &[&str]) -> (bool, String, String) {
+    let output = Command::new(env!("CARGO_BIN_EXE_sheet"))
+        .args(words)
+        .output()
+        .expect("the program runs");
+    let text = |bytes| String::from_utf8(bytes).expect("text");
+    (
+        output.status.success(),
+        text(output.stdout),
+        text(output.stderr),
+    )
+}
+
+/// Runs the program, which has to succeed.
+pub fn sheet(words: &[&str]) -> String {
+    let (success, out, message) = shell(words);
+    assert!(success, "sheet {words:?}: {message}");
+    out
+}
+
+/// A new folder that is removed again.
+pub struct Folder(pub PathBuf);
+
+impl Folder {
+    pub fn new(name: &str) -> Folder {
+        let folder = format!("sheet-tool-{name}-{}", std::process::id());
+        let path = std::env::temp_dir().join(folder);
+        std::fs::create_dir_all(&path).expect("the folder is made");
+        Folder(path)
+    }
+
+    pub fn file(&self, name: &str) -> String {
+        self.0.join(name).to_str().expect("a plain path").into()
+    }
+}
+
+impl Drop for Folder {
+    fn drop(&mut self) {
+        // What is left of the folder does no harm.
+        let _ = std::fs::remove_dir_all(&self.0);
+    }
+}
+
+/// Numbers that look random and are the same each time.
+pub struct Numbers(pub u64);
+
+impl Numbers {
+    fn next(&mut self) -> u64 {
+        self.0 = self.0.wrapping_mul(6_364_136_223_846_793_005);
+        self.0 = self.0.wrapping_add(1_442_695_040_888_963_407);
+        self.0 >> 33
+    }
+
+    /// From `least` to `greatest`, both counted.
+    pub fn whole(&mut self, least: i64, greatest: i64) -> i64 {
+        let span = (greatest - least) as u64 + 1;
+        least + (self.next() % span) as i64
+    }
+
+    pub fn real(&mut self, least: f64, greatest: f64) -> f64 {
+        let part = self.next() as f64 / (1u64 << 31) as f64;
+        least + part * (greatest - least)
+    }
+}

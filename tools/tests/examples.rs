@@ -1,0 +1,128 @@
+//! Rebuilds every example and compares it with what stands in examples/.
+//! With UPDATE_EXAMPLES=1 the listings and pictures there are written anew.
+
+mod common;
+
+use common::{example, load, sheet, shell};
+use second_guard::decision::{Decision, RecoveryCheck};
+use second_guard::{decision, listing};
+use std::collections::BTreeSet;
+
+/// Each example, and the question that its picture shows.
+const EXAMPLES: [(&str, &str); 4] = [
+    ("sheet_a", "2"),
+    ("leg_press", "6"),
+    ("motor", "4"),
+    ("pendulum", "6"),
+];
+
+/// Compares with a file of examples/, or writes it.
+fn compare(name: &str, made: &str) {
+    let path = example(name);
+    if std::env::var_os("UPDATE_EXAMPLES").is_some() {
+        std::fs::write(&path, made).expect("the file is written");
+    }
+    let stands = std::fs::read_to_string(&path).expect("the file is there");
+    assert!(stands == made, "{name} differs from what the tool makes");
+}
+
+#[test]
+fn listings() {
+    for (name, _) in EXAMPLES {
+        let made = sheet(&["list", &text(name), &asks(name)]);
+        compare(&format!("{name}.listing"), &made);
+    }
+}
+
+#[test]
+fn pictures() {
+    for (name, question) in EXAMPLES {
+        let made = sheet(&["picture", &text(name), &asks(name), question]);
+        compare(&format!("{name}.svg"), &made);
+    }
+}
+
+fn text(name: &str) -> String {
+    example(&format!("{name}.txt"))
+}
+
+fn asks(name: &str) -> String {
+    example(&format!("{name}.asks.txt"))
+}
+
+#[test]
+fn sheet_a_prints_what_document_01_has() {
+    let expected = "sheet pass 4 1\n1 keep 4 4\n2 keep 4 5\n3 over spent 4 4\n\
+                    4 over finest 1 5\n5 refused 14\n";
+    assert_eq!(
+        sheet(&["list", &text("sheet_a"), &asks("sheet_a")]),
+        expected
+    );
+}
+
+#[test]
+fn the_second_guard_prints_the_same_listing() {
+    for (name, _) in EXAMPLES {
+        let (_, bytes, asks) = load(name);
+        let made = sheet(&["list", &text(name), &self::asks(name)]);
+        assert_eq!(listing::listing(&bytes, &asks), made);
+    }
+}
+
+/// `show` compares every box and answer with the archive, for every question and the check.
+#[test]
+fn every_decision_can_be_shown() {
+    for (name, _) in EXAMPLES {
+        assert!(sheet(&["show", &text(name)]).contains("boxes at width"));
+        assert!(sheet(&["show", &text(name), &asks(name)]).contains("boxes at width"));
+    }
+}
+
+#[test]
+fn recovery_checks_and_other_widths_can_be_drawn() {
+    for (name, _) in EXAMPLES {
+        let drawn = sheet(&["picture", &text(name)]);
+        assert!(drawn.contains("recovery check") && drawn.ends_with("</svg>\n"));
+    }
+    let words = [
+        "picture",
+        &text("motor"),
+        &asks("motor"),
+        "4",
+        "--width",
+        "9",
+    ];
+    let drawn = sheet(&words);
+    assert!(drawn.contains("Drawn: the attempt at width 9."));
+    assert!(drawn.contains("not within the recovery box"));
+}
+
+/// The machines show keeps at three widths or more, and hand-overs of both kinds.
+#[test]
+fn machines_show_every_kind_of_answer() {
+    for (name, _) in &EXAMPLES[1..] {
+        let (sheet, bytes, asks) = load(name);
+        assert!(matches!(
+            decision::check_recovery(&bytes),
+            RecoveryCheck::Pass { .. }
+        ));
+        let mut widths = BTreeSet::new();
+        let (mut finest, mut spent, mut refused) = (0, 0, 0);
+        for question in asks.chunks(decision::question_length(sheet.n())) {
+            match decision::decide(&bytes, question) {
+                Decision::Keep { width, .. } => drop(widths.insert(width)),
+                Decision::Finest { .. } => finest += 1,
+                Decision::Spent { .. } => spent += 1,
+                Decision::Refused(_) => refused += 1,
+            }
+        }
+        assert!(widths.len() >= 3, "{name}: keeps at {widths:?}");
+        assert!(finest > 0 && spent > 0 && refused > 0, "{name}");
+    }
+}
+
+#[test]
+fn a_wrong_use_prints_how_to_use_it() {
+    let (success, _, message) = shell(&["pack"]);
+    assert!(!success && message.starts_with("sheet pack"));
+}

@@ -1,0 +1,75 @@
+//! Random questions and sheets: `attempts` compares every answer and every step's boxes of the second
+//! guard with the archive's, and a difference is an error.
+
+mod common;
+
+use common::{load, Numbers};
+use second_guard::decision::Question;
+use second_guard::machine::StateBox;
+use second_guard::sheet::Sheet;
+use sheet_tool::archive;
+use sheet_tool::attempts::{attempts, Ending, Subject};
+
+const NAMES: [&str; 4] = ["sheet_a", "leg_press", "motor", "pendulum"];
+
+/// A question about a small box in or close to the recovery box.
+fn random_question(sheet: &Sheet, numbers: &mut Numbers) -> Question {
+    let mut measured = StateBox::default();
+    for i in 0..sheet.n() {
+        let (lower, upper) = (sheet.recovery.lower[i], sheet.recovery.upper[i]);
+        let more = (upper - lower) / 8;
+        let centre = numbers.whole(lower - more, upper + more);
+        let half = numbers.whole(0, 1 + more / 10);
+        (measured.lower[i], measured.upper[i]) = (centre - half, centre + half);
+    }
+    let (least, greatest) = (sheet.commands.least, sheet.commands.greatest);
+    Question {
+        allowance: numbers.whole(0, 1_500) as u32,
+        command: numbers.whole(i64::from(least), i64::from(greatest)) as i32,
+        measured,
+    }
+}
+
+#[test]
+fn random_questions_to_the_examples() {
+    let mut numbers = Numbers(5);
+    let mut endings = Vec::new();
+    for name in NAMES {
+        let (sheet, bytes, _) = load(name);
+        for _ in 0..1_000 {
+            let question = random_question(&sheet, &mut numbers);
+            let found = attempts(&bytes, &sheet, Subject::Question(&question));
+            endings.push(found.expect("no difference").last().ending);
+        }
+    }
+    assert!(endings.contains(&Ending::Success) && endings.contains(&Ending::Spent));
+    assert!(endings
+        .iter()
+        .any(|ending| matches!(ending, Ending::Unsafe(_))));
+    assert!(endings
+        .iter()
+        .any(|ending| matches!(ending, Ending::Outside(_))));
+}
+
+/// The examples with one number moved, most of them no longer of use.
+#[test]
+fn recovery_checks_of_changed_sheets() {
+    let mut numbers = Numbers(6);
+    for name in NAMES {
+        let (sheet, _, _) = load(name);
+        for _ in 0..100 {
+            let mut sheet = sheet;
+            let i = numbers.whole(0, sheet.n() as i64 - 1) as usize;
+            let k = numbers.whole(0, sheet.band_count as i64 - 1) as usize;
+            match numbers.whole(0, 4) {
+                0 => sheet.caps[i] = numbers.whole(1, 200) as i32,
+                1 => sheet.rho = numbers.whole(1, 300) as i32,
+                2 => sheet.bands[k].rows[i].d = numbers.whole(0, 3_000) as i32,
+                3 => sheet.bands[k].rows[i].q = numbers.whole(1, 4_096) as i32,
+                _ => sheet.recovery.upper[i] = numbers.whole(sheet.recovery.lower[i], 60_000),
+            }
+            let bytes = archive::write(&sheet).expect("within the ranges");
+            attempts(&bytes, &sheet, Subject::Recovery).expect("no difference");
+        }
+    }
+}
