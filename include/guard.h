@@ -108,10 +108,9 @@ uint64_t guard_sheet_read(const uint8_t *sheet, size_t sheet_length,
                           uint8_t *out, size_t out_length);
 
 /* Writes the sheet whose numbers are given, in the form of guard_sheet_read, into buffer from place on,
- * and answers the sheet's length. numbers_length is a multiple of four; numbers that are missing are 0,
- * and those beyond the counts are not looked at. Bytes of buffer outside the sheet remain. Refused with
- * 2, 3, 4, 6, 8, 9, 10 or 11 in the order of the file, then with 17 where buffer has too little room
- * from place on. */
+ * and answers the sheet's length. Bytes of numbers that are missing are 0, and numbers beyond the counts
+ * are not looked at. Bytes of buffer outside the sheet remain. Refused with 2, 3, 4, 6, 8, 9, 10 or 11
+ * in the order of the file, then with 17 where buffer has too little room from place on. */
 uint64_t guard_sheet_write(const uint8_t *numbers, size_t numbers_length,
                            uint8_t *buffer, size_t buffer_length, uint64_t place);
 
