@@ -1,4 +1,4 @@
-/* The guard's calls for C. The rules behind them are those of papers/01-scope.md ("document 01").
+/* The guard's calls for C. The rules behind them are those of "document 01", the scope paper.
  *
  * A drive calls guard_recovery once for its sheet and guard_decide once for each period; guard_sheet
  * tests a sheet's format alone. The other three serve set-up tools, other products and tests.
