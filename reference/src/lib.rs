@@ -1,5 +1,5 @@
 //! The second guard: document 01 in plain Rust, without any dependency.
-//! It is an independent reference: nothing here is shared with the proved guard.
+//! No text or code is shared with the proved guard. Both follow the readings in `docs/DECISIONS.md`.
 
 pub mod decision;
 pub mod listing;
