@@ -12,6 +12,7 @@ use borrow.Author.Tests.{eq-eqb, ne-eqb, le-leb, lt-leb}
 use Rattle.sheet.specs.Slots.{headSize, vars}
 use Rattle.sheet.specs.Refusals.{Cause, number, unless, firstRefusal}
 use Rattle.sheet.specs.Fields.{bad, test}
+use Rattle.sheet.specs.Sizes.{capsAt}
 use Rattle.sheet.specs.Layout.{_▸_, head, headFields, fields}
 use Rattle.sheet.specs.File.{shape, records, recordAt, start, marked, markedAt, badRecord, badAll}
 use Rattle.sheet.specs.Sheet.{headOf, shapeOf, contents, stage, refusal, valueRefusal, length-of, bytesOf, writeRefusal, written}
@@ -25,11 +26,11 @@ module _ (f : List ℕ) where
   unfolding refusal
   at-stage i c l z e n = first-keep (stage f) (i + 1) 4 c (omega arith) n (first-next (stage f) i c z e)
 
-  pub refused-beginning : leb 20 (length f) && marked f 0 head ≡ false → number Cause.beginning ≡ refusal f
+  pub refused-beginning : leb capsAt (length f) && marked f 0 head ≡ false → number Cause.beginning ≡ refusal f
   unfolding stage firstRefusal
   refused-beginning e = at-stage 0 1 (omega arith) refl (ap (λ (b : Bool). unless b Cause.beginning) (sym e)) (number-is Cause.beginning)
 
-  module _ (begun : leb 20 (length f) && marked f 0 head ≡ true) where
+  module _ (begun : leb capsAt (length f) && marked f 0 head ≡ true) where
     one : firstRefusal (stage f) 1 ≡ 0
     unfolding stage firstRefusal
     one = first-next (stage f) 0 0 refl (ap (λ (b : Bool). unless b Cause.beginning) (sym begun))

@@ -10,6 +10,7 @@ use lib.Signed.{leZ}
 use Rattle.sheet.specs.Slots.{_!_, headSize}
 use Rattle.sheet.specs.Refusals.{Cause, number, unless, firstRefusal}
 use Rattle.sheet.specs.Fields.{Field, test, bad}
+use Rattle.sheet.specs.Sizes.{capsAt}
 use Rattle.sheet.specs.Layout.{head, headFields}
 use Rattle.sheet.specs.File.{Shape, records, fieldsAt, countAt, start, marked, markedAt, badRecord, badAll}
 use Rattle.sheet.specs.Sheet.{headOf, shapeOf, contents, stage, refusal}
@@ -46,7 +47,7 @@ all-most marks s v = first-most (badRecord marks s v) (λ r. go r (marks r))
 
 stage-most : (f : List ℕ) (i : ℕ) → stage f i ≤ 17
 unfolding stage
-stage-most f zero = unless-most (leb 20 (length f) && marked f 0 head) Cause.beginning
+stage-most f zero = unless-most (leb capsAt (length f) && marked f 0 head) Cause.beginning
 stage-most f (suc zero) = bad-most headFields (headOf f) headSize
 stage-most f (suc (suc zero)) = let s = shapeOf f in unless-most (eqb (length f) (start s (records s))) Cause.size
 stage-most f (suc (suc (suc i))) = let s = shapeOf f in all-most (markedAt s f) s (contents f) (records s)

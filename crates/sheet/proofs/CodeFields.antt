@@ -5,7 +5,7 @@ use Prim.Native.Nat.{ℕ, zero, suc, _+_, _-_, _≤_, _<_}
 use native.Mathlib.Omega.{arith}
 use native.Mathlib.Nat.{add-zero, add-suc}
 use lib.IntN.{ℤ}
-use lib.ListN.{set, drop, length, length-append, length-set}
+use lib.ListN.{set, drop}
 use Rattle.sheet.specs.Slots.{_!_}
 use Rattle.sheet.specs.Refusals.{firstRefusal}
 use Rattle.sheet.specs.Steps.{orElse}
@@ -90,3 +90,7 @@ module _ (p : ℕ → Field) (k m : ℕ) (l : m ≡ k + 1) (x : Field) (e : p k 
   unfolding bad firstRefusal
   bad-next v h i =
       rw (is-suc, firstRefusal) (h ∙ ap₂ (λ (z : ℕ) (y : Field). orElse z (test v y)) i (sym e))
+
+-- field k of p
+pub bad-field : (p : ℕ → Field) (v : List ℤ) (k : ℕ) {y z : ℕ} → y ≡ orElse z (test v (p k)) → z ≡ bad p v k → y ≡ bad p v (suc k)
+bad-field p v k h i = bad-next p k (suc k) (omega arith) (p k) refl v h i

@@ -1,5 +1,5 @@
 -- The records of a file as the code goes through them. Assumes nothing.
-use mathlib.Core.Path.{_≡_, refl, ap, ap₂, _∙_}
+use mathlib.Core.Path.{_≡_, ap, ap₂, _∙_}
 use mathlib.Core.Bool.{Bool, true, false, _&&_}
 use mathlib.Core.Logic.{⊎-elim}
 use mathlib.Core.List.{List}
@@ -11,18 +11,19 @@ use lib.Dec.{eqb}
 use lib.IntN.{ℤ}
 use lib.ListN.{getD}
 use Rattle.sheet.specs.Slots.{N}
-use Rattle.sheet.specs.Refusals.{firstRefusal}
+use Rattle.sheet.specs.Refusals.{Cause, number, firstRefusal}
 use Rattle.sheet.specs.Steps.{orElse}
 use Rattle.sheet.specs.Fields.{offset, filled, bad}
+use Rattle.sheet.specs.Sizes.{letters, rowBytes, boxBytes}
 use Rattle.sheet.specs.Layout.{Record, head, band, unsafe, recovery, mark}
-use Rattle.sheet.specs.File.{Shape, recordAt, fieldsAt, countAt, start, filledAll, marked, markedAt, badRecord, badAll}
+use Rattle.sheet.specs.File.{Shape, records, recordAt, fieldsAt, countAt, start, filledAll, marked, markedAt, badRecord, badAll}
 use Rattle.sheet.proofs.Streams.{lt-or-le}
-use Rattle.sheet.proofs.Length.{bodySize, body-size}
+use Rattle.sheet.proofs.Length.{recordSize, record-size}
 use Rattle.sheet.proofs.Records.{head-at, band-at, unsafe-at, recovery-at}
 
 -- the refusal of a record whose mark is right, or that of a wrong mark
 abbrev orMark : Bool → ℕ → ℕ
-orMark t x = elim t [ true ↦ x | false ↦ 7 ]
+orMark t x = elim t [ true ↦ x | false ↦ number Cause.mark ]
 
 -- which record the r-th is
 module _ (s : Shape) (r : ℕ) where
@@ -35,24 +36,24 @@ module _ (s : Shape) (r : ℕ) where
   pub unsafe-is : s .bands < r → r ≤ s .bands + s .boxes → recordAt s r ≡ unsafe (r - 1 - s .bands)
   unsafe-is n l = let e : r ≡ 1 + (s .bands + (r - 1 - s .bands)) = omega arith in ap (recordAt s) e ∙ unsafe-at s (r - 1 - s .bands) (omega arith)
 
-  pub recovery-is : s .bands + s .boxes < r → r < s .bands + s .boxes + 2 → recordAt s r ≡ recovery
+  pub recovery-is : s .bands + s .boxes < r → r < records s → recordAt s r ≡ recovery
   recovery-is n l = let e : r ≡ 1 + (s .bands + s .boxes) = omega arith in ap (recordAt s) e ∙ recovery-at s
 
-  -- so many bytes follow its mark
-  pub bytes-after : {x : Record} → recordAt s r ≡ x → offset (fieldsAt s r) (countAt s r) ≡ bodySize (s .vars) x
-  bytes-after e = body-size (s .vars) (recordAt s r) ∙ ap (bodySize (s .vars)) e
+  -- so many bytes it has
+  pub size-is : {x : Record} → recordAt s r ≡ x → letters + offset (fieldsAt s r) (countAt s r) ≡ recordSize (s .vars) x
+  size-is e = record-size (s .vars) (recordAt s r) ∙ ap (recordSize (s .vars)) e
 
-  pub box-bytes : s .bands < r → r < s .bands + s .boxes + 2 → offset (fieldsAt s r) (countAt s r) ≡ 8 * s .vars
-  box-bytes n l =
-      ⊎-elim (λ (q : s .bands + s .boxes < r). bytes-after (recovery-is q l)) (λ (q : r ≤ s .bands + s .boxes). bytes-after (unsafe-is n q))
+  pub box-size-is : s .bands < r → r < records s → letters + offset (fieldsAt s r) (countAt s r) ≡ letters + boxBytes (s .vars)
+  box-size-is n l =
+      ⊎-elim (λ (q : s .bands + s .boxes < r). size-is (recovery-is q l)) (λ (q : r ≤ s .bands + s .boxes). size-is (unsafe-is n q))
       (lt-or-le (s .bands + s .boxes) r)
 
   -- one record more
-  pub start-more : start s (r + 1) ≡ start s r + (2 + offset (fieldsAt s r) (countAt s r))
+  pub start-more : start s (r + 1) ≡ start s r + (letters + offset (fieldsAt s r) (countAt s r))
   unfolding start
   start-more = rw (add-one r, start) (omega arith)
 
-  pub filled-more : (f : List ℕ) (v : List ℤ) → filledAll s f (r + 1) v ≡ filled (fieldsAt s r) f (start s r + 2) (countAt s r) (filledAll s f r v)
+  pub filled-more : (f : List ℕ) (v : List ℤ) → filledAll s f (r + 1) v ≡ filled (fieldsAt s r) f (start s r + letters) (countAt s r) (filledAll s f r v)
   unfolding filledAll
   filled-more f v = rw (add-one r, filledAll)
 
@@ -67,7 +68,7 @@ module _ (s : Shape) (r : ℕ) where
   mark-is f {at} {a} {b} h i j e =
       e ∙ ap₂ (λ (x y : ℕ). eqb (getD f at 0) x && eqb (getD f (at + 1) 0) y) i j ∙ ap (λ (p : ℕ). marked f p (recordAt s r)) h
 
-  pub bad-is : (marks : ℕ → Bool) (v : List ℤ) {t : Bool} {x y : ℕ} → t ≡ marks r → x ≡ bad (fieldsAt s r) v (countAt s r) → y ≡ elim t [ true ↦ x | false ↦ 7 ] → y ≡ badRecord marks s v r
+  pub bad-is : (marks : ℕ → Bool) (v : List ℤ) {t : Bool} {x y : ℕ} → t ≡ marks r → x ≡ bad (fieldsAt s r) v (countAt s r) → y ≡ elim t [ true ↦ x | false ↦ number Cause.mark ] → y ≡ badRecord marks s v r
   bad-is marks v h i e = e ∙ ap₂ (λ (t : Bool) (x : ℕ). orMark t x) h i
 
 start-mono : (s : Shape) (r d : ℕ) → start s r ≤ start s (r + d)
@@ -75,12 +76,12 @@ start-mono s r zero = rw (add-zero r) (omega arith)
 start-mono s r (suc d) = let e : r + suc d ≡ r + d + 1 = omega arith in rw e (omega (arith, start-more s (r + d), start-mono s r d))
 
 -- where k records have room, each of them has
-pub record-room : (s : Shape) (r k l : ℕ) → r < k → start s k ≤ l → start s r + (2 + offset (fieldsAt s r) (countAt s r)) ≤ l
+pub record-room : (s : Shape) (r k l : ℕ) → r < k → start s k ≤ l → start s r + (letters + offset (fieldsAt s r) (countAt s r)) ≤ l
 record-room s r k l h m =
     let e : r + 1 + (k - (r + 1)) ≡ k = omega arith in
     let n : start s (r + 1) ≤ start s k = rw e at (start-mono s (r + 1) (k - (r + 1))) in
     omega (arith, start-more s r)
 
 -- so many bytes the rows of a band have at most
-pub rows-most : (n : ℕ) → n ≤ N → n * (2 * n + 12) ≤ N * (2 * N + 12)
-rows-most n h = let l : 2 * n + 12 ≤ 2 * N + 12 = omega arith in mul-le-mul h l
+pub rows-most : (n : ℕ) → n ≤ N → n * rowBytes n ≤ N * rowBytes N
+rows-most n h = let l : rowBytes n ≤ rowBytes N = omega arith in mul-le-mul h l

@@ -6,15 +6,16 @@ use Prim.Native.Nat.{ℕ, zero, suc, _+_, _≤_, _<_}
 use native.Mathlib.Omega.{arith}
 use lib.Dec.{leb}
 use lib.IntN.{ℤ, pos}
-use lib.ListN.{length, set, replicate}
+use lib.ListN.{length}
 use lib.Signed.{_≤ℤ_}
 use borrow.Author.Tests.{le-leb, lt-leb}
 use Rattle.integers.proofs.Z.{ints}
-use Rattle.sheet.specs.Slots.{_!_, N, maxBands, maxBoxes, headSize, vars, bands, boxes}
+use Rattle.sheet.specs.Slots.{_!_, N, maxBands, maxBoxes, headSize, vars, bands, boxes, varsSlot, bandsSlot, boxesSlot}
 use Rattle.sheet.specs.Refusals.{Cause, number}
 use Rattle.sheet.specs.Steps.{sized}
 use Rattle.sheet.specs.Fields.{offset, filled, bad}
-use Rattle.sheet.specs.Layout.{_▸_, varsSlot, bandsSlot, boxesSlot, capField, head, headFields, fields}
+use Rattle.sheet.specs.Sizes.{letters, capsAt}
+use Rattle.sheet.specs.Layout.{_▸_, capField, head, headFields, fields}
 use Rattle.sheet.specs.File.{Shape, shape, records, recordAt, fieldsAt, countAt, start, filledAll, marked, markedAt, badAll}
 use Rattle.sheet.specs.Sheet.{zeros, headOf, shapeOf, contents, refusal}
 use Rattle.sheet.proofs.Laws.{bad-ranges}
@@ -37,26 +38,26 @@ unfolding headFields _▸_
 counts v e =
     let r = bad-ranges headFields v headSize (sym e) in
     let s = small v r in
-    let n = r .at 0 (omega arith) .low in
-    let b = r .at 1 (omega arith) .low in
-    let g = r .at 2 (omega arith) .low in
+    let n = r .at varsSlot (omega arith) .low in
+    let b = r .at bandsSlot (omega arith) .low in
+    let g = r .at boxesSlot (omega arith) .low in
     record { vars-low = omega (ints, n); bands-low = omega (ints, b); boxes-low = omega (ints, g); vars-high = omega (arith, s .vars); bands-high = s .bands; boxes-high = s .boxes }
 
 -- reading the head again changes nothing
-head-again : (f : List ℕ) → filled headFields f 2 headSize (headOf f) ≡ headOf f
+head-again : (f : List ℕ) → filled headFields f letters headSize (headOf f) ≡ headOf f
 unfolding headOf zeros headFields _▸_ filled
 head-again f = refl
 
 all-again : (s : Shape) (f : List ℕ) (r : ℕ) → filledAll s f (suc r) (headOf f) ≡ filledAll s f (suc r) zeros
 unfolding filledAll start fields recordAt _▸_ headOf
 all-again s f zero =
-    filled-part headFields capField headSize (s .vars) (cap-run (s .vars)) f 2 (headOf f)
-    ∙ ap (filled capField f (2 + offset headFields headSize) (s .vars)) (head-again f)
-    ∙ sym (filled-part headFields capField headSize (s .vars) (cap-run (s .vars)) f 2 zeros)
-all-again s f (suc r) = ap (filled (fieldsAt s (suc r)) f (start s (suc r) + 2) (countAt s (suc r))) (all-again s f r)
+    filled-part headFields capField headSize (s .vars) (cap-run (s .vars)) f letters (headOf f)
+    ∙ ap (filled capField f (letters + offset headFields headSize) (s .vars)) (head-again f)
+    ∙ sym (filled-part headFields capField headSize (s .vars) (cap-run (s .vars)) f letters zeros)
+all-again s f (suc r) = ap (filled (fieldsAt s (suc r)) f (start s (suc r) + letters) (countAt s (suc r))) (all-again s f r)
 
 -- where h is the head as read, its numbers are in range, and n, b and g are its counts
-module _ (f : List ℕ) (h : List ℤ) (n b g : ℕ) (begun : leb 20 (length f) && marked f 0 head ≡ true) (hh : h ≡ headOf f)
+module _ (f : List ℕ) (h : List ℤ) (n b g : ℕ) (begun : leb capsAt (length f) && marked f 0 head ≡ true) (hh : h ≡ headOf f)
     (in-range : 0 ≡ bad headFields h headSize) (hn : n ≡ vars h) (hb : b ≡ bands h) (hg : g ≡ boxes h) where
   headed : 0 ≡ bad headFields (headOf f) headSize
   headed = in-range ∙ ap (λ (u : List ℤ). bad headFields u headSize) hh
@@ -65,24 +66,24 @@ module _ (f : List ℕ) (h : List ℤ) (n b g : ℕ) (begun : leb 20 (length f) 
   unfolding shapeOf
   same = ap (λ (k : ℕ). sized k b g) hn ∙ ap₂ (sized (vars h)) hb hg ∙ ap (λ (u : List ℤ). shape u) hh
 
-  size-is : start (sized n b g) (b + g + 2) ≡ start (shapeOf f) (records (shapeOf f))
+  size-is : start (sized n b g) (records (sized n b g)) ≡ start (shapeOf f) (records (shapeOf f))
   size-is = ap (λ (s : Shape). start s (records s)) same
 
-  pub rest-short : {l : ℕ} → l ≡ start (sized n b g) (b + g + 2) → (length f ≡ l → ⊥) → number Cause.size ≡ refusal f
+  pub rest-short : {l : ℕ} → l ≡ start (sized n b g) (records (sized n b g)) → (length f ≡ l → ⊥) → number Cause.size ≡ refusal f
   rest-short e q = refused-size f begun headed (λ p. q (p ∙ sym (e ∙ size-is)))
 
-  module _ {l x : ℕ} {w : List ℤ} (e : l ≡ start (sized n b g) (b + g + 2)) (q : length f ≡ l)
-      (hw : w ≡ filledAll (sized n b g) f (b + g + 2) h) (hx : x ≡ badAll (markedAt (sized n b g) f) (sized n b g) w (b + g + 2)) where
+  module _ {l x : ℕ} {w : List ℤ} (e : l ≡ start (sized n b g) (records (sized n b g))) (q : length f ≡ l)
+      (hw : w ≡ filledAll (sized n b g) f (records (sized n b g)) h) (hx : x ≡ badAll (markedAt (sized n b g) f) (sized n b g) w (records (sized n b g))) where
     rest-contents : w ≡ contents f
     unfolding contents
     rest-contents =
-        let c : b + g + 2 ≡ suc (b + g + 1) = omega arith in
+        let c : records (sized n b g) ≡ suc (b + g + 1) = omega arith in
         hw ∙ ap₂ (λ (k : ℕ) (u : List ℤ). filledAll (sized n b g) f k u) c hh ∙ all-again (sized n b g) f (b + g + 1)
         ∙ ap (λ (k : ℕ). filledAll (sized n b g) f k zeros) (sym c) ∙ ap (λ (s : Shape). filledAll s f (records s) zeros) same
 
     rest-refusal : x ≡ refusal f
     rest-refusal =
-        hx ∙ ap (λ (u : List ℤ). badAll (markedAt (sized n b g) f) (sized n b g) u (b + g + 2)) rest-contents
+        hx ∙ ap (λ (u : List ℤ). badAll (markedAt (sized n b g) f) (sized n b g) u (records (sized n b g))) rest-contents
         ∙ ap (λ (s : Shape). badAll (markedAt s f) s (contents f) (records s)) same ∙ answer f begun headed (q ∙ e ∙ size-is)
 
     pub rest-read : (x ≡ refusal f) × (x ≡ 0 → w ≡ contents f)
@@ -91,11 +92,11 @@ module _ (f : List ℕ) (h : List ℤ) (n b g : ℕ) (begun : leb 20 (length f) 
 -- ---- the file's beginning
 
 module _ (f : List ℕ) where
-  pub begins-short : length f < 20 → number Cause.beginning ≡ refusal f
-  begins-short l = refused-beginning f (rw (lt-leb 20 (length f) l))
+  pub begins-short : length f < capsAt → number Cause.beginning ≡ refusal f
+  begins-short l = refused-beginning f (rw (lt-leb capsAt (length f) l))
 
-  pub begins-wrong : {t : Bool} → 20 ≤ length f → t ≡ marked f 0 head → t ≡ false → number Cause.beginning ≡ refusal f
-  begins-wrong l e h = refused-beginning f (rw (le-leb 20 (length f) l) (sym e ∙ h))
+  pub begins-wrong : {t : Bool} → capsAt ≤ length f → t ≡ marked f 0 head → t ≡ false → number Cause.beginning ≡ refusal f
+  begins-wrong l e h = refused-beginning f (rw (le-leb capsAt (length f) l) (sym e ∙ h))
 
-  pub begins : {t : Bool} → 20 ≤ length f → t ≡ marked f 0 head → t ≡ true → leb 20 (length f) && marked f 0 head ≡ true
-  begins l e h = rw (le-leb 20 (length f) l) (sym e ∙ h)
+  pub begins : {t : Bool} → capsAt ≤ length f → t ≡ marked f 0 head → t ≡ true → leb capsAt (length f) && marked f 0 head ≡ true
+  begins l e h = rw (le-leb capsAt (length f) l) (sym e ∙ h)

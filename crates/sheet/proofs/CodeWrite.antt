@@ -17,17 +17,20 @@ use Rattle.sheet.specs.Slots.{_!_, headSize, vars, bands, boxes}
 use Rattle.sheet.specs.Refusals.{Cause, number}
 use Rattle.sheet.specs.Steps.{sized}
 use Rattle.sheet.specs.Fields.{Kind, i32, Field, width, encoded, offset, coded}
-use Rattle.sheet.specs.Layout.{headFields, edgeField, Record, fields, count}
+use Rattle.sheet.specs.Sizes.{letters, coefficientBytes}
+use Rattle.sheet.specs.Layout.{rowFields, headFields, edgeField, Record, fields, count, rowRest}
 use Rattle.sheet.specs.File.{Shape, shape, records, recordAt, start, recordBytes, codedAll, badAll}
 use Rattle.sheet.specs.Sheet.{valueRefusal, length-of, bytesOf, writeRefusal}
 use Rattle.sheet.specs.Written.{writtenLength, Wrote}
 use Rattle.sheet.proofs.Records.{each-head}
 use Rattle.sheet.proofs.Laws.{number-is, ranges-bad, value-good}
 use Rattle.sheet.proofs.Answers.{Answer, write-bad, write-short, write-done}
+use Rattle.sheet.proofs.Length.{rest-offset}
 use Rattle.sheet.proofs.Numbers.{length-coded}
 use Rattle.sheet.proofs.Says.{length-codedAll}
 use Rattle.sheet.proofs.RoundTrip.{length-bytesOf}
 use Rattle.sheet.proofs.CodeFields.{Run, coded-part}
+use Rattle.sheet.proofs.CodeLayout.{rest-at}
 use Rattle.sheet.proofs.CodeRead.{Counts, counts}
 
 sets-append : (l : List ℕ) (i : ℕ) (xs ys : List ℕ) → sets (sets l i xs) (i + length xs) ys ≡ sets l i (xs ++ ys)
@@ -61,6 +64,18 @@ module _ (p : ℕ → Field) (v : List ℤ) (s : List ℕ) (at k : ℕ) where
       (hu ∙ ap (λ (i : ℕ). sets t a (encoded d (v ! i))) hi ∙ ap (sets t a) (same-bytes d (x .kind) (v ! x .slot) hd) ∙ ap (λ (y : Field). sets t a (encoded (y .kind) (v ! y .slot))) (sym e))
       ∙ ap (λ (j : ℕ). sets s at (coded p v j)) (sym n)
 
+-- field k of p
+pub coded-field : (p : ℕ → Field) (v : List ℤ) (s : List ℕ) (at k : ℕ) (d : Kind) (i a : ℕ) {t u : List ℕ} → u ≡ sets t a (encoded d (v ! i))
+    → width d ≡ width (p k .kind) → i ≡ p k .slot → a ≡ at + offset p k → t ≡ sets s at (coded p v k) → u ≡ sets s at (coded p v (suc k))
+coded-field p v s at k = coded-next p v s at k (suc k) (omega arith) (p k) refl
+
+-- number q of a row's rest
+pub coded-rest : (n r : ℕ) (v : List ℤ) (s : List ℕ) (at q : ℕ) (d : Kind) (i a : ℕ) {t u : List ℕ} → u ≡ sets t a (encoded d (v ! i))
+    → width d ≡ width (rowRest r q .kind) → i ≡ rowRest r q .slot → a ≡ at + coefficientBytes n + offset (rowRest r) q
+    → t ≡ sets s at (coded (rowFields n r) v (n + q)) → u ≡ sets s at (coded (rowFields n r) v (n + suc q))
+coded-rest n r v s at q d i a hu hd hi ha =
+    coded-next (rowFields n r) v s at (n + q) (n + suc q) (omega arith) _ (rest-at n r q) d i a hu hd hi (omega (arith, rest-offset n r q))
+
 -- a band's edge
 pub edge-width : (k : ℕ) → width i32 ≡ width (edgeField k .kind)
 unfolding edgeField
@@ -69,7 +84,7 @@ edge-width (suc k) = refl
 
 -- ---- the records of a sheet
 
-pub length-record : (n : ℕ) (x : Record) (v : List ℤ) → length (recordBytes n x v) ≡ 2 + offset (fields n x) (count n x)
+pub length-record : (n : ℕ) (x : Record) (v : List ℤ) → length (recordBytes n x v) ≡ letters + offset (fields n x) (count n x)
 length-record n x v = omega (arith, length-coded (fields n x) v (count n x))
 
 pub record-next : (s : Shape) (v : List ℤ) (b : List ℕ) (r : ℕ) {a : ℕ} {t u : List ℕ} → u ≡ sets t a (recordBytes (s .vars) (recordAt s r) v) → a ≡ start s r → t ≡ sets b 0 (codedAll s v r)
@@ -124,11 +139,11 @@ module _ (v : List ℤ) (n b g : ℕ) (hn : n ≡ vars v) (hb : b ≡ bands v) (
   same : sized n b g ≡ shape v
   same = ap (λ (k : ℕ). sized k b g) hn ∙ ap₂ (sized (vars v)) hb hg
 
-  pub value-is : {x : ℕ} → x ≡ badAll (λ r. true) (sized n b g) v (b + g + 2) → x ≡ valueRefusal v
+  pub value-is : {x : ℕ} → x ≡ badAll (λ r. true) (sized n b g) v (records (sized n b g)) → x ≡ valueRefusal v
   unfolding valueRefusal
   value-is e = e ∙ ap (λ (s : Shape). badAll (λ r. true) s v (records s)) same
 
-  module _ (buffer : List ℕ) (place : ℕ) (good : 0 ≡ valueRefusal v) {l : ℕ} (hl : l ≡ start (sized n b g) (b + g + 2)) where
+  module _ (buffer : List ℕ) (place : ℕ) (good : 0 ≡ valueRefusal v) {l : ℕ} (hl : l ≡ start (sized n b g) (records (sized n b g))) where
     size-is : l ≡ length-of v
     unfolding length-of
     size-is = hl ∙ ap (λ (s : Shape). start s (records s)) same
@@ -136,7 +151,7 @@ module _ (v : List ℤ) (n b g : ℕ) (hn : n ≡ vars v) (hb : b ≡ bands v) (
     pub wrote-short : length buffer < place + l → Wrote v buffer place (number Cause.room) 0 buffer
     wrote-short h = refused v buffer place (number-is Cause.room) (write-short v buffer place good (omega (arith, size-is)))
 
-    module _ {last : List ℕ} (h : place + l ≤ length buffer) (e : last ≡ sets (take (length buffer - place) (drop place buffer)) 0 (codedAll (sized n b g) v (b + g + 2))) where
+    module _ {last : List ℕ} (h : place + l ≤ length buffer) (e : last ≡ sets (take (length buffer - place) (drop place buffer)) 0 (codedAll (sized n b g) v (records (sized n b g)))) where
       back : putMid place (length buffer - place) buffer last ≡ sets buffer place (bytesOf v)
       unfolding bytesOf
       back =

@@ -5,9 +5,10 @@ use Prim.Native.Nat.{ℕ, zero, suc, _+_, _*_, _≤_, _<_}
 use native.Mathlib.Omega.{arith}
 use native.Mathlib.Nat.{zero-mul, suc-mul, mul-comm}
 use lib.IntN.{ℤ}
-use Rattle.sheet.specs.Slots.{N, headSize, rowSlot, recoverySlot, unsafeSlot, vars, bands, boxes}
-use Rattle.sheet.specs.Fields.{Field, width, offset}
-use Rattle.sheet.specs.Layout.{_▸_, unsafeLimit, recoveryLimit, capField, headFields, edgeField, rowRest, rowFields, bandFields, sideFields, boxFields, fields, count, Record, head, band, unsafe, recovery}
+use Rattle.sheet.specs.Slots.{headSize, rowSlot, recoverySlot, unsafeSlot, vars, bands, boxes, restSize, firstRow, sides}
+use Rattle.sheet.specs.Fields.{u16, i16, Field, width, offset}
+use Rattle.sheet.specs.Sizes.{letters, capsAt, capBytes, rowsAt, coefficientBytes, rowBytes, pairBytes, boxBytes, bandHead}
+use Rattle.sheet.specs.Layout.{_▸_, unsafeLimit, recoveryLimit, capField, headFields, edgeField, rowRest, rowFields, bandFields, sideFields, boxFields, fields, count, Record, head, band, unsafe, recovery, rowCount}
 use Rattle.sheet.specs.File.{Shape, shape, records, recordAt, start}
 use Rattle.sheet.specs.Sheet.{length-of}
 use Rattle.sheet.proofs.Records.{head-at, band-at, unsafe-at, recovery-at}
@@ -28,81 +29,81 @@ offset-runs p q at m w e r h (suc i) = ap (offset p) (e i) ∙ omega (arith, off
 
 -- ---- the sheet's records
 
-pub cap-offset : (i : ℕ) → offset headFields (headSize + i) ≡ 18 + 2 * i
+pub cap-offset : (i : ℕ) → letters + offset headFields (headSize + i) ≡ capsAt + capBytes i
 unfolding offset headFields _▸_
-cap-offset i = offset-part headFields capField headSize i (record { at = λ j l. cap-at j }) ∙ omega (arith, offset-flat capField 2 i (λ j l. refl))
+cap-offset i = omega (arith, offset-part headFields capField headSize i (record { at = λ j l. cap-at j }), offset-flat capField (width u16) i (λ j l. refl))
 
-pub coefficient-offset : (n s j : ℕ) → j ≤ n → offset (rowFields n s) j ≡ 2 * j
-coefficient-offset n s j l = offset-flat (rowFields n s) 2 j (λ i k. ap (λ (x : Field). width (x .kind)) (coefficient-at n s i (omega arith))) ∙ mul-comm j 2
+pub coefficient-offset : (n s j : ℕ) → j ≤ n → offset (rowFields n s) j ≡ coefficientBytes j
+coefficient-offset n s j l = offset-flat (rowFields n s) (width i16) j (λ i k. ap (λ (x : Field). width (x .kind)) (coefficient-at n s i (omega arith))) ∙ mul-comm j (width i16)
 
-pub rest-offset : (n s q : ℕ) → offset (rowFields n s) (n + q) ≡ 2 * n + offset (rowRest (s + N)) q
-rest-offset n s q = offset-part (rowFields n s) (rowRest (s + N)) n q (record { at = λ j l. rest-at n s j }) ∙ omega (arith, coefficient-offset n s n (omega arith))
+pub rest-offset : (n s q : ℕ) → offset (rowFields n s) (n + q) ≡ coefficientBytes n + offset (rowRest s) q
+rest-offset n s q = offset-part (rowFields n s) (rowRest s) n q (record { at = λ j l. rest-at n s j }) ∙ omega (arith, coefficient-offset n s n (omega arith))
 
-row-size : (n s : ℕ) → offset (rowFields n s) (n + 4) ≡ 2 * n + 12
+row-size : (n s : ℕ) → offset (rowFields n s) (rowCount n) ≡ rowBytes n
 unfolding offset rowRest _▸_
-row-size n s = rest-offset n s 4
+row-size n s = rest-offset n s restSize
 
 -- before the rows: edge and safety range
-three : (n k : ℕ) → offset (bandFields n k) 3 ≡ 12
+rows-offset : (n k : ℕ) → offset (bandFields n k) firstRow ≡ rowsAt
 unfolding offset bandFields edgeField _▸_
-three n zero = refl
-three n (suc k) = refl
+rows-offset n zero = refl
+rows-offset n (suc k) = refl
 
 -- where row i of a band starts
-pub row-offset : (n k i : ℕ) → offset (bandFields n k) (3 + i * (n + 4)) ≡ 12 + i * (2 * n + 12)
+pub row-offset : (n k i : ℕ) → offset (bandFields n k) (firstRow + i * rowCount n) ≡ rowsAt + i * rowBytes n
 row-offset n k i =
-    let e : 3 + 0 * (n + 4) ≡ 3 = omega (arith, zero-mul (n + 4)) in
-    offset-runs (bandFields n k) (λ i. rowFields n (rowSlot k i)) (λ i. 3 + i * (n + 4)) (n + 4) (2 * n + 12) (λ i. omega (arith, suc-mul i (n + 4))) (row-run n k) (λ i. row-size n (rowSlot k i)) i
-    ∙ ap (λ (a : ℕ). a + i * (2 * n + 12)) (ap (offset (bandFields n k)) e ∙ three n k)
+    let e : firstRow + 0 * rowCount n ≡ firstRow = omega (arith, zero-mul (rowCount n)) in
+    offset-runs (bandFields n k) (λ i. rowFields n (rowSlot k i)) (λ i. firstRow + i * rowCount n) (rowCount n) (rowBytes n) (λ i. omega (arith, suc-mul i (rowCount n))) (row-run n k) (λ i. row-size n (rowSlot k i)) i
+    ∙ ap (λ (a : ℕ). a + i * rowBytes n) (ap (offset (bandFields n k)) e ∙ rows-offset n k)
 
 -- where the sides of variable i start
-pub side-offset : (h s i : ℕ) → offset (boxFields h s) (i * 2) ≡ 8 * i
+pub side-offset : (h s i : ℕ) → offset (boxFields h s) (i * sides) ≡ boxBytes i
 unfolding offset sideFields _▸_
 side-offset h s i =
-    offset-runs (boxFields h s) (λ i. sideFields h (s + i)) (λ i. i * 2) 2 8 (λ i. suc-mul i 2) (side-run h s) (λ i. refl) i ∙ omega arith
+    offset-runs (boxFields h s) (λ i. sideFields h (s + i)) (λ i. i * sides) sides pairBytes (λ i. suc-mul i sides) (side-run h s) (λ i. refl) i ∙ omega arith
 
 -- ---- records, and the file
 
--- so many bytes follow a record's mark
-abbrev pub bodySize : ℕ → Record → ℕ
-bodySize n head = 18 + 2 * n
-bodySize n (band k) = 12 + n * (2 * n + 12)
-bodySize n (unsafe j) = 8 * n
-bodySize n recovery = 8 * n
+-- so many bytes a record has
+abbrev pub recordSize : ℕ → Record → ℕ
+recordSize n head = capsAt + capBytes n
+recordSize n (band k) = bandHead + n * rowBytes n
+recordSize n (unsafe j) = letters + boxBytes n
+recordSize n recovery = letters + boxBytes n
 
-pub body-size : (n : ℕ) (x : Record) → offset (fields n x) (count n x) ≡ bodySize n x
+pub record-size : (n : ℕ) (x : Record) → letters + offset (fields n x) (count n x) ≡ recordSize n x
 unfolding fields
-body-size n head = cap-offset n
-body-size n (band k) = row-offset n k n
-body-size n (unsafe j) = side-offset unsafeLimit (unsafeSlot j) n
-body-size n recovery = side-offset recoveryLimit recoverySlot n
+record-size n head = cap-offset n
+record-size n (band k) = omega (arith, row-offset n k n)
+record-size n (unsafe j) = ap (λ (a : ℕ). letters + a) (side-offset unsafeLimit (unsafeSlot j) n)
+record-size n recovery = ap (λ (a : ℕ). letters + a) (side-offset recoveryLimit recoverySlot n)
 
 module _ (s : Shape) where
-  pub start-next : (r : ℕ) {x : Record} → recordAt s r ≡ x → start s (suc r) ≡ start s r + 2 + bodySize (s .vars) x
+  pub start-next : (r : ℕ) {x : Record} → recordAt s r ≡ x → start s (suc r) ≡ start s r + recordSize (s .vars) x
   unfolding start
-  start-next r e = ap (λ (a : ℕ). start s r + 2 + a) (body-size (s .vars) (recordAt s r) ∙ ap (bodySize (s .vars)) e)
+  start-next r e = omega (arith, record-size (s .vars) (recordAt s r) ∙ ap (recordSize (s .vars)) e)
 
   -- where band k starts, and no-go box j
-  pub band-start : (k : ℕ) → k ≤ s .bands → start s (1 + k) ≡ 20 + 2 * s .vars + k * (14 + s .vars * (2 * s .vars + 12))
+  pub band-start : (k : ℕ) → k ≤ s .bands → start s (1 + k) ≡ capsAt + capBytes (s .vars) + k * (bandHead + s .vars * rowBytes (s .vars))
   unfolding start
   band-start zero l = start-next 0 (head-at s) ∙ omega arith
   band-start (suc k) l =
       let e : 1 + suc k ≡ suc (1 + k) = omega arith in
-      ap (start s) e ∙ start-next (1 + k) (band-at s k l) ∙ omega (arith, band-start k (omega arith), suc-mul k (14 + s .vars * (2 * s .vars + 12)))
+      ap (start s) e ∙ start-next (1 + k) (band-at s k l) ∙ omega (arith, band-start k (omega arith), suc-mul k (bandHead + s .vars * rowBytes (s .vars)))
 
-  pub unsafe-start : (j : ℕ) → j ≤ s .boxes → start s (1 + (s .bands + j)) ≡ start s (1 + s .bands) + j * (2 + 8 * s .vars)
-  unsafe-start zero l = let e : s .bands + 0 ≡ s .bands = omega arith in rw e (omega (arith, zero-mul (2 + 8 * s .vars)))
+  pub unsafe-start : (j : ℕ) → j ≤ s .boxes → start s (1 + (s .bands + j)) ≡ start s (1 + s .bands) + j * (letters + boxBytes (s .vars))
+  unsafe-start zero l = let e : s .bands + 0 ≡ s .bands = omega arith in rw e (omega (arith, zero-mul (letters + boxBytes (s .vars))))
   unsafe-start (suc j) l =
       let e : 1 + (s .bands + suc j) ≡ suc (1 + (s .bands + j)) = omega arith in
-      ap (start s) e ∙ start-next (1 + (s .bands + j)) (unsafe-at s j l) ∙ omega (arith, unsafe-start j (omega arith), suc-mul j (2 + 8 * s .vars))
+      ap (start s) e ∙ start-next (1 + (s .bands + j)) (unsafe-at s j l) ∙ omega (arith, unsafe-start j (omega arith), suc-mul j (letters + boxBytes (s .vars)))
 
-  -- the length of document 01
-  pub file-length : start s (records s) ≡ 20 + 2 * s .vars + s .bands * (14 + s .vars * (2 * s .vars + 12)) + (2 + 8 * s .vars) * (s .boxes + 1)
+  pub file-length : start s (records s) ≡ capsAt + capBytes (s .vars) + s .bands * (bandHead + s .vars * rowBytes (s .vars)) + (letters + boxBytes (s .vars)) * (s .boxes + 1)
   file-length =
       let e : records s ≡ suc (1 + (s .bands + s .boxes)) = omega arith in
       ap (start s) e ∙ start-next (1 + (s .bands + s .boxes)) (recovery-at s)
-      ∙ omega (arith, unsafe-start (s .boxes) (omega arith), band-start (s .bands) (omega arith), mul-comm (2 + 8 * s .vars) (s .boxes + 1), suc-mul (s .boxes) (2 + 8 * s .vars))
+      ∙ omega (arith, unsafe-start (s .boxes) (omega arith), band-start (s .bands) (omega arith), mul-comm (letters + boxBytes (s .vars)) (s .boxes + 1), suc-mul (s .boxes) (letters + boxBytes (s .vars)))
 
+-- the length of document 01
 pub length-is : (v : List ℤ) → length-of v ≡ 20 + 2 * vars v + bands v * (14 + vars v * (2 * vars v + 12)) + (2 + 8 * vars v) * (boxes v + 1)
 unfolding length-of
 length-is v = file-length (shape v)

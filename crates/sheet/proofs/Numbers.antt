@@ -32,8 +32,8 @@ bytes-drop : (m : ℕ) (bs : List ℕ) → Bytes bs → Bytes (drop m bs)
 bytes-drop m bs h k = rw (getD-drop m bs k 0) (h (m + k))
 
 -- the last two bytes of 32 bits are those of 16
-half : (z : ℤ) → SFits w16 z → beBytes 2 (ofZ w32 z) ≡ beBytes 2 (ofZ w16 z)
-half z h = cong 2 (ofZ w32 z) (ofZ w16 z) (go z h)
+half : (z : ℤ) → SFits w16 z → beBytes (width i16) (ofZ w32 z) ≡ beBytes (width i16) (ofZ w16 z)
+half z h = cong (width i16) (ofZ w32 z) (ofZ w16 z) (go z h)
   where
     go : (z : ℤ) → SFits w16 z → ofZ w32 z % 65536 ≡ ofZ w16 z % 65536
     go (pos n) h = refl
@@ -44,12 +44,12 @@ back m bs l h = ap (λ (k : ℕ). beBytes k (be (take m bs))) (sym (length-take-
 
 pub encoded-decoded : (k : Kind) (bs : List ℕ) → width k ≤ length bs → Bytes bs → encoded k (decoded k bs) ≡ take (width k) bs
 unfolding encoded decoded decode encode
-encoded-decoded u8 bs l h = back 1 bs l h
-encoded-decoded u16 bs l h = back 2 bs l h
+encoded-decoded u8 bs l h = back (width u8) bs l h
+encoded-decoded u16 bs l h = back (width u16) bs l h
 encoded-decoded i16 bs l h =
-    let f : Fits w16 (be (take 2 bs)) = record { fits = omega (arith, be-lt (take 2 bs) (bytes-take 2 bs h), ap (λ (k : ℕ). 256 ^ k) (length-take-le 2 bs l)) } in
-    half (toZ w16 (be (take 2 bs))) (sfits-toZ f) ∙ ap (beBytes 2) (ofZ-toZ f) ∙ back 2 bs l h
-encoded-decoded i32 bs l h = encode-decode w32 (take 4 bs) (length-take-le 4 bs l) (bytes-take 4 bs h)
+    let f : Fits w16 (be (take (width i16) bs)) = record { fits = omega (arith, be-lt (take (width i16) bs) (bytes-take (width i16) bs h), ap (λ (k : ℕ). 256 ^ k) (length-take-le (width i16) bs l)) } in
+    half (toZ w16 (be (take (width i16) bs))) (sfits-toZ f) ∙ ap (beBytes (width i16)) (ofZ-toZ f) ∙ back (width i16) bs l h
+encoded-decoded i32 bs l h = encode-decode w32 (take (width i32) bs) (length-take-le (width i32) bs l) (bytes-take (width i32) bs h)
 
 pub length-encoded : (k : Kind) (z : ℤ) → length (encoded k z) ≡ width k
 unfolding encoded
@@ -61,8 +61,8 @@ unsigned m (negsuc n) B e r = absurd (r .low .le)
 
 own : (k : Kind) (z : ℤ) → Fit k z → numberOf k (encoded k z) ≡ z
 unfolding encoded decode encode
-own u8 z r = unsigned 1 z 255 refl r
-own u16 z r = unsigned 2 z 65535 refl r
+own u8 z r = unsigned (width u8) z 255 refl r
+own u16 z r = unsigned (width u16) z 65535 refl r
 own i16 z r = let f : SFits w16 z = simp flat (omega (ints, r .low, r .high)) in ap (λ (bs : List ℕ). toZ w16 (be bs)) (half z f) ∙ decode-encode w16 z f
 own i32 z r = decode-encode w32 z (simp flat (omega (ints, r .low, r .high)))
 

@@ -4,11 +4,11 @@ use mathlib.Core.Logic.{⊎-elim}
 use Prim.Native.Nat.{ℕ, zero, suc, _+_, _*_, _-_, _/_, _%_, _≤_, _<_}
 use native.Mathlib.Omega.{arith}
 use native.Mathlib.Nat.{mod-lt, div-add-mod', div-lt-iff-lt-mul, mul-le-mul-right}
-use Rattle.sheet.specs.Slots.{N, maxBands, maxBoxes, rowSize, bandSize, boxSize, bandSlot, rowSlot, recoverySlot, unsafeSlot, slots}
+use Rattle.sheet.specs.Slots.{N, maxBands, maxBoxes, rowSize, bandSize, boxSize, bandSlot, rowSlot, recoverySlot, unsafeSlot, slots, bSlot, cSlot, dSlot, qSlot, restSize, safetyLeastSlot, safetyGreatestSlot, sides, firstRow}
 use Rattle.sheet.specs.Fields.{Field}
-use Rattle.sheet.specs.Layout.{unsafeLimit, recoveryLimit, _▸_, first, groups, always, maxVars, headFields, edgeField, rowRest, rowFields, bandFields, sideFields, boxFields, fields, count, Record, head, band, unsafe, recovery}
+use Rattle.sheet.specs.Layout.{unsafeLimit, recoveryLimit, _▸_, first, groups, always, maxVars, headFields, edgeField, rowRest, rowFields, bandFields, sideFields, boxFields, fields, count, Record, head, band, unsafe, recovery, rowCount, bandCount, boxCount}
 use Rattle.sheet.specs.File.{Shape, records, recordAt, fieldsAt, countAt}
-use Rattle.sheet.proofs.Streams.{each-first, first-low, first-high, lt-or-le, three-more}
+use Rattle.sheet.proofs.Streams.{each-first, first-low, first-high, lt-or-le, rows-more}
 use Rattle.sheet.proofs.Records.{record-cases}
 
 -- the slots of the first k fields lie from lo to below hi, and no two are one
@@ -132,35 +132,35 @@ edge-slot zero = refl
 edge-slot (suc k) = refl
 
 module _ (n : ℕ) (l : n ≤ N) where
-  spread-row : (s : ℕ) → Spread (rowFields n s) (n + 4) s (s + rowSize)
+  spread-row : (s : ℕ) → Spread (rowFields n s) (rowCount n) s (s + rowSize)
   unfolding rowFields rowRest
   spread-row s =
-      spread-first n 4 _ _ (s + N) (spread-run s (λ j. refl) (omega arith))
-      (spread-next _ _ (s + N + 1) (omega arith) (omega arith) (omega arith)
-      (spread-next _ _ (s + N + 2) (omega arith) (omega arith) (omega arith)
-      (spread-next _ _ (s + N + 3) (omega arith) (omega arith) (omega arith) (spread-one _ (omega arith) (omega arith)))))
+      spread-first n restSize _ _ (bSlot s) (spread-run s (λ j. refl) (omega arith))
+      (spread-next _ _ (cSlot s) (omega arith) (omega arith) (omega arith)
+      (spread-next _ _ (dSlot s) (omega arith) (omega arith) (omega arith)
+      (spread-next _ _ (qSlot s) (omega arith) (omega arith) (omega arith) (spread-one _ (omega arith) (omega arith)))))
       (omega arith) (omega arith)
 
-  spread-band : (k : ℕ) → Spread (bandFields n k) (3 + n * (n + 4)) (bandSlot k) (bandSlot (suc k))
+  spread-band : (k : ℕ) → Spread (bandFields n k) (bandCount n) (bandSlot k) (bandSlot (suc k))
   unfolding bandFields
   spread-band k =
-      subst (λ (c : ℕ). Spread (bandFields n k) c (bandSlot k) (bandSlot (suc k))) (three-more (n * (n + 4)))
-      (spread-next _ _ (bandSlot k + 1) (omega (arith, edge-slot k)) (omega (arith, edge-slot k)) (omega arith)
-      (spread-next _ _ (bandSlot k + 2) (omega arith) (omega arith) (omega arith)
-      (spread-next _ _ (bandSlot k + 3) (omega arith) (omega arith) (omega arith)
-      (spread-most (omega arith) (spread-groups n (n + 4) rowSize (bandSlot k + 3) _ (omega arith) (λ i h. spread-row (rowSlot k i)))))))
+      subst (λ (c : ℕ). Spread (bandFields n k) c (bandSlot k) (bandSlot (suc k))) (rows-more (n * rowCount n))
+      (spread-next _ _ (safetyLeastSlot k) (omega (arith, edge-slot k)) (omega (arith, edge-slot k)) (omega arith)
+      (spread-next _ _ (safetyGreatestSlot k) (omega arith) (omega arith) (omega arith)
+      (spread-next _ _ (bandSlot k + firstRow) (omega arith) (omega arith) (omega arith)
+      (spread-most (omega arith) (spread-groups n (rowCount n) rowSize (bandSlot k + firstRow) _ (omega arith) (λ i h. spread-row (rowSlot k i)))))))
 
-  pair-slot : (h s q : ℕ) → q < 2 → sideFields h s q .slot ≡ s + q * N
+  pair-slot : (h s q : ℕ) → q < sides → sideFields h s q .slot ≡ s + q * N
   unfolding sideFields _▸_
   pair-slot h s zero l = omega arith
   pair-slot h s (suc zero) l = omega arith
   pair-slot h s (suc (suc q)) l = let z : ⊥ = omega arith in absurd z
 
-  side-slot : (h s j : ℕ) → boxFields h s j .slot ≡ s + j / 2 + j % 2 * N
+  side-slot : (h s j : ℕ) → boxFields h s j .slot ≡ s + j / sides + j % sides * N
   unfolding boxFields groups
-  side-slot h s j = pair-slot h (s + j / 2) (j % 2) (mod-lt j (omega arith))
+  side-slot h s j = pair-slot h (s + j / sides) (j % sides) (mod-lt j (omega arith))
 
-  spread-box : (h s : ℕ) → Spread (boxFields h s) (n * 2) s (s + boxSize)
+  spread-box : (h s : ℕ) → Spread (boxFields h s) (boxCount n) s (s + boxSize)
   spread-box h s = record {
     low = λ j k. omega (arith, side-slot h s j);
     high = λ j k. omega (arith, side-slot h s j);
@@ -222,7 +222,7 @@ module _ (s : Shape) (l : Small s) where
       omega (arith, spread-at r .high j b)
 
   -- no field has the slot of a side of the recovery box beyond the variables
-  pub recovery-free : (i q : ℕ) → s .vars ≤ i → i < N → q < 2 → (r : ℕ) → r < records s → (j : ℕ) → j < countAt s r → fieldsAt s r j .slot ≡ recoverySlot + i + q * N → ⊥
+  pub recovery-free : (i q : ℕ) → s .vars ≤ i → i < N → q < sides → (r : ℕ) → r < records s → (j : ℕ) → j < countAt s r → fieldsAt s r j .slot ≡ recoverySlot + i + q * N → ⊥
   unfolding fields
   recovery-free i q b h k =
       let room : s .vars ≤ N = omega (arith, l .vars) in

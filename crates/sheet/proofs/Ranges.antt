@@ -9,12 +9,12 @@ use lib.IntN.{ℤ, pos, negsuc, negℤ, natAbs}
 use lib.Signed.{leZ, leZ-yes}
 use mir.Facts.{and-yes}
 use Rattle.integers.proofs.Z.{ints, flat}
-use Rattle.sheet.specs.Slots.{_!_, headSize, bandSlot, rowSlot, recoverySlot, unsafeSlot, vars, bands, boxes}
+use Rattle.sheet.specs.Slots.{_!_, headSize, bandSlot, rowSlot, recoverySlot, unsafeSlot, vars, bands, boxes, varsSlot, bandsSlot, boxesSlot, bandVarSlot, δSlot, αSlot, ρSlot, leastSlot, greatestSlot, restSize, sides, bInRest, cInRest, dInRest, qInRest, edgeInBand, leastInBand, greatestInBand}
 use Rattle.sheet.specs.Valid.{Between}
 use Rattle.sheet.specs.Fields.{Kind, u8, u16, i16, i32, Field}
-use Rattle.sheet.specs.Layout.{unsafeLimit, recoveryLimit, _▸_, varsSlot, bandsSlot, boxesSlot, headFields, edgeField, rowRest, rowFields, bandFields, sideFields, boxFields}
+use Rattle.sheet.specs.Layout.{unsafeLimit, recoveryLimit, _▸_, headFields, edgeField, rowRest, rowFields, bandFields, sideFields, boxFields, rowCount, bandCount, boxCount}
 use Rattle.sheet.specs.File.{shape}
-use Rattle.sheet.proofs.Streams.{Each, each-next, each-first, each-groups, each-low, each-high, three-more, nine-more}
+use Rattle.sheet.proofs.Streams.{Each, each-next, each-first, each-groups, each-low, each-high, rows-more, caps-more}
 use Rattle.sheet.proofs.Laws.{InRange, AllGood}
 use Rattle.sheet.proofs.Records.{EachField, each-field, each-head, each-band, each-unsafe, each-recovery, each-cap, each-row, each-side}
 use Rattle.sheet.proofs.Places.{Small}
@@ -26,9 +26,9 @@ abs-in {l} (negsuc n) r = absurd (let z : ⊥ = omega (ints, r .low) in z)
 pub small : (v : List ℤ) → Each (InRange v) headFields headSize → Small (shape v)
 unfolding headFields _▸_
 small v h = record {
-  vars = abs-in (v ! varsSlot) (h .at 0 (omega arith)) .1;
-  bands = abs-in (v ! bandsSlot) (h .at 1 (omega arith)) .1;
-  boxes = abs-in (v ! boxesSlot) (h .at 2 (omega arith)) .1;
+  vars = abs-in (v ! varsSlot) (h .at varsSlot (omega arith)) .1;
+  bands = abs-in (v ! bandsSlot) (h .at bandsSlot (omega arith)) .1;
+  boxes = abs-in (v ! boxesSlot) (h .at boxesSlot (omega arith)) .1;
 }
 
 -- ---- kinds
@@ -67,48 +67,48 @@ module _ (v : List ℤ) (n : ℕ) where
   head-fit : Each (InRange v) headFields (headSize + n) → Each (FieldFits v) headFields (headSize + n)
   unfolding headFields _▸_
   head-fit h =
-      let vars = h .at 0 (omega arith) in
-      let δ = h .at 4 (omega arith) in
-      let least = h .at 7 (omega arith) in
-      subst (Each (FieldFits v) headFields) (nine-more n)
+      let vars = h .at varsSlot (omega arith) in
+      let δ = h .at δSlot (omega arith) in
+      let least = h .at leastSlot (omega arith) in
+      subst (Each (FieldFits v) headFields) (caps-more n)
       (each-next _ _ (known vars tt tt)
-      (each-next _ _ (known (h .at 1 (omega arith)) tt tt)
-      (each-next _ _ (known (h .at 2 (omega arith)) tt tt)
-      (each-next _ _ (between (h .at 3 (omega arith)) (lit tt) (record { low = simp flat (omega (ints, vars .low)); high = simp flat (omega (ints, vars .high)) }))
+      (each-next _ _ (known (h .at bandsSlot (omega arith)) tt tt)
+      (each-next _ _ (known (h .at boxesSlot (omega arith)) tt tt)
+      (each-next _ _ (between (h .at bandVarSlot (omega arith)) (lit tt) (record { low = simp flat (omega (ints, vars .low)); high = simp flat (omega (ints, vars .high)) }))
       (each-next _ _ (known δ tt tt)
-      (each-next _ _ (between (h .at 5 (omega arith)) (lit tt) (record { low = simp flat (omega (ints, δ .high)); high = simp flat (omega (ints, δ .low)) }))
-      (each-next _ _ (known (h .at 6 (omega arith)) tt tt)
+      (each-next _ _ (between (h .at αSlot (omega arith)) (lit tt) (record { low = simp flat (omega (ints, δ .high)); high = simp flat (omega (ints, δ .low)) }))
+      (each-next _ _ (known (h .at ρSlot (omega arith)) tt tt)
       (each-next _ _ (known least tt tt)
-      (each-next _ _ (between (h .at 8 (omega arith)) (known least tt tt) (lit tt))
+      (each-next _ _ (between (h .at greatestSlot (omega arith)) (known least tt tt) (lit tt))
       (record { at = λ i l. known (each-cap n h .at i l) tt tt }))))))))))
 
-  row-fit : (s : ℕ) → Each (InRange v) (rowFields n s) (n + 4) → Each (FieldFits v) (rowFields n s) (n + 4)
+  row-fit : (s : ℕ) → Each (InRange v) (rowFields n s) (rowCount n) → Each (FieldFits v) (rowFields n s) (rowCount n)
   unfolding rowFields rowRest _▸_
   row-fit s h =
-      let a = each-low n 4 _ _ h in
-      let b = each-high n 4 _ _ h in
-      each-first n 4 _ _ (record { at = λ j l. known (a .at j l) tt tt })
-      (each-next _ _ (known (b .at 0 (omega arith)) tt tt)
-      (each-next _ _ (known (b .at 1 (omega arith)) tt tt)
-      (each-next _ _ (known (b .at 2 (omega arith)) tt tt) (record { at = λ j l. known (b .at 3 (omega arith)) tt tt }))))
+      let a = each-low n restSize _ _ h in
+      let b = each-high n restSize _ _ h in
+      each-first n restSize _ _ (record { at = λ j l. known (a .at j l) tt tt })
+      (each-next _ _ (known (b .at bInRest (omega arith)) tt tt)
+      (each-next _ _ (known (b .at cInRest (omega arith)) tt tt)
+      (each-next _ _ (known (b .at dInRest (omega arith)) tt tt) (record { at = λ j l. known (b .at qInRest (omega arith)) tt tt }))))
 
-  box-fit : (h s : ℕ) → h ≤ unsafeLimit → Each (InRange v) (boxFields h s) (n * 2) → Each (FieldFits v) (boxFields h s) (n * 2)
+  box-fit : (h s : ℕ) → h ≤ unsafeLimit → Each (InRange v) (boxFields h s) (boxCount n) → Each (FieldFits v) (boxFields h s) (boxCount n)
   unfolding boxFields sideFields _▸_
   box-fit h s l b =
-      each-groups n 2 _ (λ i k.
+      each-groups n sides _ (λ i k.
       let p = each-side n h s b i k in
-      let e : Between (negsuc 2147483647) (pos 2147483647) (negℤ (pos h)) = record { low = simp flat (omega ints); high = simp flat (omega ints) } in
-      let f : Between (negsuc 2147483647) (pos 2147483647) (pos h) = record { low = omega ints; high = omega ints } in
+      let e : Between (lowest i32) (highest i32) (negℤ (pos h)) = record { low = simp flat (omega ints); high = simp flat (omega ints) } in
+      let f : Between (lowest i32) (highest i32) (pos h) = record { low = omega ints; high = omega ints } in
       let lower = between (p .at 0 (omega arith)) e f in
       each-next _ _ lower (record { at = λ j l. between (p .at 1 (omega arith)) lower f }))
 
 module _ (v : List ℤ) (g : AllGood v) where
   edge-in : (k : ℕ) → k < bands v → Between (negℤ (pos 2000000)) (pos 2000000) (v ! bandSlot k)
   unfolding bandFields edgeField _▸_
-  edge-in zero l = known (each-band (shape v) g 0 l .at 0 (omega arith)) tt tt
+  edge-in zero l = known (each-band (shape v) g 0 l .at edgeInBand (omega arith)) tt tt
   edge-in (suc k) l =
       let e = edge-in k (omega arith) in
-      let b = each-band (shape v) g (suc k) l .at 0 (omega arith) in
+      let b = each-band (shape v) g (suc k) l .at edgeInBand (omega arith) in
       record { low = omega (ints, e .low, simp flat at (b .low)); high = b .high }
 
   edge-fit : (k : ℕ) → k < bands v → FieldFits v (edgeField k)
@@ -116,17 +116,17 @@ module _ (v : List ℤ) (g : AllGood v) where
   edge-fit zero l = known (edge-in 0 l) tt tt
   edge-fit (suc k) l = known (edge-in (suc k) l) tt tt
 
-  band-fit : (k : ℕ) → k < bands v → Each (FieldFits v) (bandFields (vars v) k) (3 + vars v * (vars v + 4))
+  band-fit : (k : ℕ) → k < bands v → Each (FieldFits v) (bandFields (vars v) k) (bandCount (vars v))
   unfolding headFields bandFields _▸_
   band-fit k l =
       let n = vars v in
       let h = head-fit v n (each-head (shape v) g) in
-      let greatest = h .at 8 (omega arith) in
+      let greatest = h .at greatestSlot (omega arith) in
       let b = each-band (shape v) g k l in
-      let safety = between (b .at 1 (omega arith)) (h .at 7 (omega arith)) greatest in
-      subst (Each (FieldFits v) (bandFields n k)) (three-more (n * (n + 4)))
-      (each-next _ _ (edge-fit k l) (each-next _ _ safety (each-next _ _ (between (b .at 2 (omega arith)) safety greatest)
-      (each-groups n (n + 4) _ (λ i m. row-fit v n (rowSlot k i) (each-row n k b i m))))))
+      let safety = between (b .at leastInBand (omega arith)) (h .at leastSlot (omega arith)) greatest in
+      subst (Each (FieldFits v) (bandFields n k)) (rows-more (n * rowCount n))
+      (each-next _ _ (edge-fit k l) (each-next _ _ safety (each-next _ _ (between (b .at greatestInBand (omega arith)) safety greatest)
+      (each-groups n (rowCount n) _ (λ i m. row-fit v n (rowSlot k i) (each-row n k b i m))))))
 
   -- every number of a sheet whose numbers are all in range fits its kind
   pub all-fit : EachField (FieldFits v) (shape v)

@@ -3,11 +3,11 @@ use mathlib.Core.Path.{_≡_, refl, sym, _∙_, subst}
 use mathlib.Core.Logic.{⊎-elim}
 use Prim.Native.Nat.{ℕ, _+_, _*_, _-_, _≤_, _<_}
 use native.Mathlib.Omega.{arith}
-use Rattle.sheet.specs.Slots.{headSize, rowSlot, recoverySlot, unsafeSlot}
+use Rattle.sheet.specs.Slots.{headSize, rowSlot, recoverySlot, unsafeSlot, sides}
 use Rattle.sheet.specs.Fields.{Field}
-use Rattle.sheet.specs.Layout.{unsafeLimit, recoveryLimit, _▸_, capField, headFields, rowFields, bandFields, sideFields, boxFields, fields, count, Record, head, band, unsafe, recovery}
+use Rattle.sheet.specs.Layout.{unsafeLimit, recoveryLimit, _▸_, capField, headFields, rowFields, bandFields, sideFields, boxFields, fields, count, Record, head, band, unsafe, recovery, rowCount, bandCount, boxCount}
 use Rattle.sheet.specs.File.{Shape, records, recordAt}
-use Rattle.sheet.proofs.Streams.{Each, each-rest, each-group, next, first-low, first-high, first-after, lt-or-le, three-more}
+use Rattle.sheet.proofs.Streams.{Each, each-rest, each-group, next, first-low, first-high, first-after, lt-or-le, rows-more}
 use Rattle.sheet.proofs.CodeLayout.{cap-at}
 
 module _ (s : Shape) where
@@ -57,8 +57,8 @@ abbrev pub EachField : (Field → Type 0) → Shape → Type 0
 EachField P s = Each (EachOf P (s .vars)) (recordAt s) (records s)
 
 module _ {P : Field → Type 0} (s : Shape) where
-  pub each-field : Each P headFields (headSize + s .vars) → ((k : ℕ) → k < s .bands → Each P (bandFields (s .vars) k) (3 + s .vars * (s .vars + 4)))
-      → ((j : ℕ) → j < s .boxes → Each P (boxFields unsafeLimit (unsafeSlot j)) (s .vars * 2)) → Each P (boxFields recoveryLimit recoverySlot) (s .vars * 2) → EachField P s
+  pub each-field : Each P headFields (headSize + s .vars) → ((k : ℕ) → k < s .bands → Each P (bandFields (s .vars) k) (bandCount (s .vars)))
+      → ((j : ℕ) → j < s .boxes → Each P (boxFields unsafeLimit (unsafeSlot j)) (boxCount (s .vars))) → Each P (boxFields recoveryLimit recoverySlot) (boxCount (s .vars)) → EachField P s
   unfolding fields
   each-field a b c d = record { at = record-cases s (λ r. EachOf P (s .vars)) a b c d }
 
@@ -67,15 +67,15 @@ module _ {P : Field → Type 0} (s : Shape) where
     unfolding fields
     each-head = subst (EachOf P (s .vars)) (head-at s) (g .at 0 (omega arith))
 
-    pub each-band : (k : ℕ) → k < s .bands → Each P (bandFields (s .vars) k) (3 + s .vars * (s .vars + 4))
+    pub each-band : (k : ℕ) → k < s .bands → Each P (bandFields (s .vars) k) (bandCount (s .vars))
     unfolding fields
     each-band k l = subst (EachOf P (s .vars)) (band-at s k l) (g .at (1 + k) (omega arith))
 
-    pub each-unsafe : (j : ℕ) → j < s .boxes → Each P (boxFields unsafeLimit (unsafeSlot j)) (s .vars * 2)
+    pub each-unsafe : (j : ℕ) → j < s .boxes → Each P (boxFields unsafeLimit (unsafeSlot j)) (boxCount (s .vars))
     unfolding fields
     each-unsafe j l = subst (EachOf P (s .vars)) (unsafe-at s j l) (g .at (1 + (s .bands + j)) (omega arith))
 
-    pub each-recovery : Each P (boxFields recoveryLimit recoverySlot) (s .vars * 2)
+    pub each-recovery : Each P (boxFields recoveryLimit recoverySlot) (boxCount (s .vars))
     unfolding fields
     each-recovery = subst (EachOf P (s .vars)) (recovery-at s) (g .at (1 + (s .bands + s .boxes)) (omega arith))
 
@@ -83,10 +83,10 @@ module _ {P : Field → Type 0} (n : ℕ) where
   pub each-cap : Each P headFields (headSize + n) → Each P capField n
   each-cap h = record { at = λ i l. subst P (cap-at i) (h .at (headSize + i) (omega arith)) }
 
-  pub each-row : (k : ℕ) → Each P (bandFields n k) (3 + n * (n + 4)) → (i : ℕ) → i < n → Each P (rowFields n (rowSlot k i)) (n + 4)
+  pub each-row : (k : ℕ) → Each P (bandFields n k) (bandCount n) → (i : ℕ) → i < n → Each P (rowFields n (rowSlot k i)) (rowCount n)
   unfolding bandFields
-  each-row k b = each-group n (n + 4) _ (each-rest _ _ (each-rest _ _ (each-rest _ _ (subst (Each P (bandFields n k)) (sym (three-more (n * (n + 4)))) b))))
+  each-row k b = each-group n (rowCount n) _ (each-rest _ _ (each-rest _ _ (each-rest _ _ (subst (Each P (bandFields n k)) (sym (rows-more (n * rowCount n))) b))))
 
-  pub each-side : (h s : ℕ) → Each P (boxFields h s) (n * 2) → (i : ℕ) → i < n → Each P (sideFields h (s + i)) 2
+  pub each-side : (h s : ℕ) → Each P (boxFields h s) (boxCount n) → (i : ℕ) → i < n → Each P (sideFields h (s + i)) sides
   unfolding boxFields
-  each-side h s = each-group n 2 (λ i. sideFields h (s + i))
+  each-side h s = each-group n sides (λ i. sideFields h (s + i))

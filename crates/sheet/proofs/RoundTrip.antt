@@ -10,9 +10,10 @@ use lib.ListN.{length, take, drop}
 use lib.Seq.{take-all, take-at, drop-at, length-take-le, sets-eq}
 use borrow.Author.Tests.{eq-eqb, le-leb, leb-true}
 use Rattle.integers.specs.Bytes.{Bytes}
-use Rattle.sheet.specs.Slots.{_!_, headSize}
+use Rattle.sheet.specs.Slots.{_!_, headSize, varsSlot, bandsSlot, boxesSlot}
 use Rattle.sheet.specs.Refusals.{Cause, unless}
 use Rattle.sheet.specs.Fields.{decoded, offset}
+use Rattle.sheet.specs.Sizes.{letters, capsAt}
 use Rattle.sheet.specs.Layout.{_▸_, Record, head, headFields, fields, count}
 use Rattle.sheet.specs.File.{Shape, shape, records, fieldsAt, start, filledAll, codedAll, marked, markedAt, badAll}
 use Rattle.sheet.specs.Sheet.{zeros, headOf, shapeOf, contents, stage, refusal, values, valueRefusal, length-of, bytesOf, writeRefusal, written, Same}
@@ -44,12 +45,12 @@ module _ (v : List ℤ) (f : List ℕ) (g : AllGood v) (size : length f ≡ star
   unfolding fields start
   head-equal =
       let n = shape v .vars in
-      let P : Record → Type 0 = λ x. (j : ℕ) → j < count n x → v ! fields n x j .slot ≡ decoded (fields n x j .kind) (drop (0 + 2 + offset (fields n x) j) f) in
+      let P : Record → Type 0 = λ x. (j : ℕ) → j < count n x → v ! fields n x j .slot ≡ decoded (fields n x j .kind) (drop (0 + letters + offset (fields n x) j) f) in
       record { at = λ j l. subst P (head-at (shape v)) (t .numbers 0 (omega arith)) j (omega arith) ∙ sym (head-number f j l) }
 
   shape-is : shape v ≡ shapeOf f
   unfolding headFields _▸_ shapeOf
-  shape-is = shape-same v (headOf f) (head-equal .at 0 (omega arith)) (head-equal .at 1 (omega arith)) (head-equal .at 2 (omega arith))
+  shape-is = shape-same v (headOf f) (head-equal .at varsSlot (omega arith)) (head-equal .at bandsSlot (omega arith)) (head-equal .at boxesSlot (omega arith))
 
   contents-equal : EachField (Equal v (contents f)) (shape v)
   unfolding contents
@@ -64,7 +65,7 @@ module _ (v : List ℤ) (f : List ℕ) (g : AllGood v) (size : length f ≡ star
 
   passes : (i : ℕ) → stage f i ≡ 0
   unfolding stage
-  passes zero = rw (le-leb 20 (length f) (omega (arith, size, file-length (shape v))), first-mark)
+  passes zero = rw (le-leb capsAt (length f) (omega (arith, size, file-length (shape v))), first-mark)
   passes (suc zero) = ranges-bad headFields (headOf f) headSize (same-head v (headOf f) head-equal nine)
   passes (suc (suc zero)) = rw (← shape-is, eq-eqb (length f) (start (shape v) (records (shape v))) size)
   passes (suc (suc (suc i))) =

@@ -5,11 +5,11 @@ use Prim.Native.Nat.{ℕ, zero, suc, _+_, _*_, _<_}
 use native.Mathlib.Omega.{arith}
 use lib.IntN.{ℤ}
 use lib.Signed.{_≤ℤ_}
-use Rattle.sheet.specs.Slots.{_!_, headSize, bandSlot, rowSlot, recoverySlot, unsafeSlot, vars, bands}
+use Rattle.sheet.specs.Slots.{_!_, headSize, bandSlot, rowSlot, recoverySlot, unsafeSlot, vars, bands, varsSlot, δSlot, leastSlot, greatestSlot, restSize, sides, edgeInBand, leastInBand}
 use Rattle.sheet.specs.Fields.{Field}
-use Rattle.sheet.specs.Layout.{unsafeLimit, recoveryLimit, _▸_, headFields, edgeField, rowRest, rowFields, bandFields, sideFields, boxFields}
+use Rattle.sheet.specs.Layout.{unsafeLimit, recoveryLimit, _▸_, headFields, edgeField, rowRest, rowFields, bandFields, sideFields, boxFields, rowCount, bandCount, boxCount}
 use Rattle.sheet.specs.File.{Shape}
-use Rattle.sheet.proofs.Streams.{Each, each-next, each-first, each-groups, three-more, nine-more}
+use Rattle.sheet.proofs.Streams.{Each, each-next, each-first, each-groups, rows-more, caps-more}
 use Rattle.sheet.proofs.Records.{EachField, each-field, each-head, each-band, each-unsafe, each-recovery, each-side}
 use Rattle.sheet.proofs.Laws.{InRange}
 use Rattle.sheet.proofs.Places.{edge-slot}
@@ -40,10 +40,10 @@ module _ (v w : List ℤ) where
   head-ends : (n : ℕ) → Each Equal headFields (headSize + n) → Each Ends headFields (headSize + n)
   unfolding headFields _▸_
   head-ends n h =
-      let vars = h .at 0 (omega arith) in
-      let δ = h .at 4 (omega arith) in
-      let least = h .at 7 (omega arith) in
-      subst (Each Ends headFields) (nine-more n)
+      let vars = h .at varsSlot (omega arith) in
+      let δ = h .at δSlot (omega arith) in
+      let least = h .at leastSlot (omega arith) in
+      subst (Each Ends headFields) (caps-more n)
       (each-next _ _ (given refl refl)
       (each-next _ _ (given refl refl)
       (each-next _ _ (given refl refl)
@@ -54,16 +54,16 @@ module _ (v w : List ℤ) where
       (each-next _ _ (given refl refl)
       (each-next _ _ (given least refl) (record { at = λ i l. given refl refl }))))))))))
 
-  row-ends : (n s : ℕ) → Each Ends (rowFields n s) (n + 4)
+  row-ends : (n s : ℕ) → Each Ends (rowFields n s) (rowCount n)
   unfolding rowFields rowRest
   row-ends n s =
-      each-first n 4 _ _ (record { at = λ j l. given refl refl })
+      each-first n restSize _ _ (record { at = λ j l. given refl refl })
       (each-next _ _ (given refl refl) (each-next _ _ (given refl refl) (each-next _ _ (given refl refl) (record { at = λ j l. given refl refl }))))
 
-  box-ends : (n h s : ℕ) → Each Equal (boxFields h s) (n * 2) → Each Ends (boxFields h s) (n * 2)
+  box-ends : (n h s : ℕ) → Each Equal (boxFields h s) (boxCount n) → Each Ends (boxFields h s) (boxCount n)
   unfolding boxFields sideFields _▸_
   box-ends n h s e =
-      each-groups n 2 _ (λ i l. each-next _ _ (given refl refl) (record { at = λ j k. given (each-side n h s e i l .at 0 (omega arith)) refl }))
+      each-groups n sides _ (λ i l. each-next _ _ (given refl refl) (record { at = λ j k. given (each-side n h s e i l .at 0 (omega arith)) refl }))
 
   -- ---- sheets
 
@@ -74,17 +74,17 @@ module _ (v w : List ℤ) where
     edge-ends (suc k) l = given (cc (edge-same k (omega arith))) refl
       where
         edge-same : (k : ℕ) → k < s .bands → v ! bandSlot k ≡ w ! bandSlot k
-        edge-same k l = subst (λ (i : ℕ). v ! i ≡ w ! i) (edge-slot k) (each-band s e k l .at 0 (omega arith))
+        edge-same k l = subst (λ (i : ℕ). v ! i ≡ w ! i) (edge-slot k) (each-band s e k l .at edgeInBand (omega arith))
 
-    band-ends : (k : ℕ) → k < s .bands → Each Ends (bandFields (s .vars) k) (3 + s .vars * (s .vars + 4))
+    band-ends : (k : ℕ) → k < s .bands → Each Ends (bandFields (s .vars) k) (bandCount (s .vars))
     unfolding headFields bandFields _▸_
     band-ends k l =
         let n = s .vars in
-        let greatest = each-head s e .at 8 (omega arith) in
-        subst (Each Ends (bandFields n k)) (three-more (n * (n + 4)))
+        let greatest = each-head s e .at greatestSlot (omega arith) in
+        subst (Each Ends (bandFields n k)) (rows-more (n * rowCount n))
         (each-next _ _ (edge-ends k l)
-        (each-next _ _ (given (each-head s e .at 7 (omega arith)) greatest)
-        (each-next _ _ (given (each-band s e k l .at 1 (omega arith)) greatest) (each-groups n (n + 4) _ (λ i m. row-ends n (rowSlot k i))))))
+        (each-next _ _ (given (each-head s e .at leastSlot (omega arith)) greatest)
+        (each-next _ _ (given (each-band s e k l .at leastInBand (omega arith)) greatest) (each-groups n (rowCount n) _ (λ i m. row-ends n (rowSlot k i))))))
 
     pub same-good : EachField (InRange v) s → EachField (InRange w) s
     same-good g =

@@ -7,6 +7,7 @@ use native.Mathlib.Omega.{arith}
 use native.Mathlib.Nat.{add-zero, mod-lt, mod-eq-of-lt, div-eq-of-lt, div-lt-iff-lt-mul, mul-add-div-right, mul-add-mod-self-right, mul-le-mul-right}
 use lib.Dec.{T, ltb, ltb→lt, nltb→le}
 use borrow.Author.Tests.{lt-ltb, le-ltb}
+use Rattle.sheet.specs.Slots.{headSize, firstRow}
 use Rattle.sheet.specs.Layout.{_▸_, first, groups}
 
 pub lt-or-le : (a b : ℕ) → (a < b) ⊎ (b ≤ a)
@@ -17,11 +18,11 @@ lt-or-le a b = go (ltb a b) (λ t. ltb→lt a b t) (λ t. nltb→le a b t)
     go false f g = inr (g tt)
 
 -- so many more, one at a time
-pub three-more : (n : ℕ) → suc (suc (suc n)) ≡ 3 + n
-three-more n = omega arith
+pub rows-more : (n : ℕ) → suc (suc (suc n)) ≡ firstRow + n
+rows-more n = omega arith
 
-pub nine-more : (n : ℕ) → suc (suc (suc (suc (suc (suc (suc (suc (suc n)))))))) ≡ 9 + n
-nine-more n = omega arith
+pub caps-more : (n : ℕ) → suc (suc (suc (suc (suc (suc (suc (suc (suc n)))))))) ≡ headSize + n
+caps-more n = omega arith
 
 module _ {A : Type 0} where
   pub next : (x : A) (g : ℕ → A) (j : ℕ) → (x ▸ g) (1 + j) ≡ g j

@@ -10,10 +10,10 @@ use lib.ListN.{length}
 use mir.Syntax.{w32}
 use mir.Val.{SFits}
 use Rattle.integers.proofs.Z.{ints, flat}
-use Rattle.sheet.specs.Slots.{_!_, N, slots, bandSlot, recoverySlot, unsafeSlot, vars, bands, row}
+use Rattle.sheet.specs.Slots.{_!_, N, slots, bandSlot, recoverySlot, unsafeSlot, vars, bands, row, varsSlot, bandsSlot, boxesSlot, bandVarSlot, δSlot, αSlot, ρSlot, leastSlot, greatestSlot, restSize, sides, bInRest, cInRest, dInRest, qInRest, edgeInBand, leastInBand, greatestInBand}
 use Rattle.sheet.specs.Valid.{ValidRow, ValidBox, Valid}
 use Rattle.sheet.specs.Fields.{Kind, u8, u16, i16, i32}
-use Rattle.sheet.specs.Layout.{unsafeLimit, recoveryLimit, _▸_, varsSlot, bandsSlot, boxesSlot, bandVarSlot, δSlot, αSlot, ρSlot, headFields, edgeField, rowRest, rowFields, bandFields, sideFields, boxFields}
+use Rattle.sheet.specs.Layout.{unsafeLimit, recoveryLimit, _▸_, headFields, edgeField, rowRest, rowFields, bandFields, sideFields, boxFields, boxCount}
 use Rattle.sheet.specs.File.{Shape, shape, records, fieldsAt}
 use Rattle.sheet.specs.Sheet.{zeros, shapeOf, contents, refusal, values}
 use Rattle.sheet.proofs.Streams.{Each, each-next, each-low, each-high}
@@ -38,11 +38,11 @@ module _ (v : List ℤ) (g : AllGood v) where
   unfolding rowFields rowRest _▸_
   valid-row k i l m =
       let h = each-row (vars v) k (each-band (shape v) g k l) i m in
-      let a = each-low (vars v) 4 _ _ h in
-      let b = each-high (vars v) 4 _ _ h in
-      record { a = a .at; b = b .at 0 (omega arith); c = b .at 1 (omega arith); d = b .at 2 (omega arith); q = b .at 3 (omega arith) }
+      let a = each-low (vars v) restSize _ _ h in
+      let b = each-high (vars v) restSize _ _ h in
+      record { a = a .at; b = b .at bInRest (omega arith); c = b .at cInRest (omega arith); d = b .at dInRest (omega arith); q = b .at qInRest (omega arith) }
 
-  valid-box : (h s : ℕ) → Each (InRange v) (boxFields h s) (vars v * 2) → ValidBox (vars v) (pos h) v s
+  valid-box : (h s : ℕ) → Each (InRange v) (boxFields h s) (boxCount (vars v)) → ValidBox (vars v) (pos h) v s
   unfolding sideFields _▸_
   valid-box h s b =
       let p = each-side (vars v) h s b in
@@ -53,22 +53,22 @@ module _ (v : List ℤ) (g : AllGood v) where
       }
 
   -- the numbers before the commands are not below 0
-  not-below : Each (λ x. pos 0 ≤ℤ v ! x .slot) headFields 7
+  not-below : Each (λ x. pos 0 ≤ℤ v ! x .slot) headFields leastSlot
   unfolding headFields _▸_
   not-below =
       let h = each-head (shape v) g in
-      each-next _ _ (omega (ints, h .at 0 (omega arith) .low))
-      (each-next _ _ (omega (ints, h .at 1 (omega arith) .low))
-      (each-next _ _ (omega (ints, h .at 2 (omega arith) .low))
-      (each-next _ _ (h .at 3 (omega arith) .low)
-      (each-next _ _ (omega (ints, h .at 4 (omega arith) .low))
-      (each-next _ _ (omega (ints, h .at 5 (omega arith) .low))
-      (each-next _ _ (omega (ints, h .at 6 (omega arith) .low)) (record { at = λ j l. absurd (let z : ⊥ = omega arith in z) })))))))
+      each-next _ _ (omega (ints, h .at varsSlot (omega arith) .low))
+      (each-next _ _ (omega (ints, h .at bandsSlot (omega arith) .low))
+      (each-next _ _ (omega (ints, h .at boxesSlot (omega arith) .low))
+      (each-next _ _ (h .at bandVarSlot (omega arith) .low)
+      (each-next _ _ (omega (ints, h .at δSlot (omega arith) .low))
+      (each-next _ _ (omega (ints, h .at αSlot (omega arith) .low))
+      (each-next _ _ (omega (ints, h .at ρSlot (omega arith) .low)) (record { at = λ j l. absurd (let z : ⊥ = omega arith in z) })))))))
 
-  head-pos : (i : ℕ) → i < 7 → pos 0 ≤ℤ v ! i
+  head-pos : (i : ℕ) → i < leastSlot → pos 0 ≤ℤ v ! i
   head-pos i l = subst (λ (i : ℕ). pos 0 ≤ℤ v ! i) (let e : headFields i .slot ≡ i = omega (arith, head-slot i) in e) (not-below .at i l)
 
-  abs-is : (i : ℕ) → i < 7 → v ! i ≡ pos (natAbs (v ! i))
+  abs-is : (i : ℕ) → i < leastSlot → v ! i ≡ pos (natAbs (v ! i))
   abs-is i l = go (v ! i) (head-pos i l)
     where
       go : (z : ℤ) → pos 0 ≤ℤ z → z ≡ pos (natAbs z)
@@ -77,7 +77,7 @@ module _ (v : List ℤ) (g : AllGood v) where
 
   edge-at : (k : ℕ) → k < bands v → InRange v (edgeField k)
   unfolding bandFields _▸_
-  edge-at k l = each-band (shape v) g k l .at 0 (omega arith)
+  edge-at k l = each-band (shape v) g k l .at edgeInBand (omega arith)
 
   edge-high : (k : ℕ) → k < bands v → v ! bandSlot k ≤ℤ pos 2000000
   unfolding edgeField
@@ -88,15 +88,15 @@ module _ (v : List ℤ) (g : AllGood v) where
   unfolding headFields bandFields edgeField _▸_
   valid-of size fits =
       let h = each-head (shape v) g in
-      let n = h .at 0 (omega arith) in
-      let b = h .at 1 (omega arith) in
-      let c = h .at 2 (omega arith) in
-      let x = h .at 3 (omega arith) in
-      let d = h .at 4 (omega arith) in
-      let a = h .at 5 (omega arith) in
-      let r = h .at 6 (omega arith) in
-      let l = h .at 7 (omega arith) in
-      let u = h .at 8 (omega arith) in
+      let n = h .at varsSlot (omega arith) in
+      let b = h .at bandsSlot (omega arith) in
+      let c = h .at boxesSlot (omega arith) in
+      let x = h .at bandVarSlot (omega arith) in
+      let d = h .at δSlot (omega arith) in
+      let a = h .at αSlot (omega arith) in
+      let r = h .at ρSlot (omega arith) in
+      let l = h .at leastSlot (omega arith) in
+      let u = h .at greatestSlot (omega arith) in
       record {
         size = size;
         fits = fits;
@@ -120,9 +120,9 @@ module _ (v : List ℤ) (g : AllGood v) where
         first-edge = (let l : 0 < bands v = omega (arith, abs-in (v ! bandsSlot) b .0) in omega (ints, edge-at 0 l .low, edge-at 0 l .high));
         edges = λ k l. omega (ints, simp flat at (edge-at (suc k) l .low));
         edges-high = edge-high;
-        safety = λ k l. each-band (shape v) g k l .at 2 (omega arith) .low;
-        safety-low = λ k l. each-band (shape v) g k l .at 1 (omega arith) .low;
-        safety-high = λ k l. each-band (shape v) g k l .at 2 (omega arith) .high;
+        safety = λ k l. each-band (shape v) g k l .at greatestInBand (omega arith) .low;
+        safety-low = λ k l. each-band (shape v) g k l .at leastInBand (omega arith) .low;
+        safety-high = λ k l. each-band (shape v) g k l .at greatestInBand (omega arith) .high;
         rows = valid-row;
         recovery = valid-box recoveryLimit recoverySlot (each-recovery (shape v) g);
         unsafe = λ j l. valid-box unsafeLimit (unsafeSlot j) (each-unsafe (shape v) g j l);
@@ -182,7 +182,7 @@ module _ (f : List ℕ) where
       let P : List ℤ → Type 0 = λ v. (TakenAll (shape v) (records (shape v)) i → ⊥) → v ! i ≡ pos 0 in
       cases P (λ e. let a = accepted f e in subst P (sym (a .values)) (λ n. ⊎-elim (λ z. z) (λ t. absurd (n t)) (zero-or-taken f a i))) (λ n. zeros-at i)
 
-  pub recovery-beyond : refusal f ≡ 0 → (i q : ℕ) → vars (values f) ≤ i → i < N → q < 2 → values f ! (recoverySlot + i + q * N) ≡ pos 0
+  pub recovery-beyond : refusal f ≡ 0 → (i q : ℕ) → vars (values f) ≤ i → i < N → q < sides → values f ! (recoverySlot + i + q * N) ≡ pos 0
   recovery-beyond e i q b h k =
       let ok = valid f e in
       values-beyond (recoverySlot + i + q * N)

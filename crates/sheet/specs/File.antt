@@ -8,6 +8,7 @@ use lib.ListN.{getD}
 use Rattle.sheet.specs.Slots.{vars, bands, boxes}
 use Rattle.sheet.specs.Refusals.{Cause, number, firstRefusal}
 use Rattle.sheet.specs.Fields.{Field, offset, filled, coded, bad}
+use Rattle.sheet.specs.Sizes.{letters}
 use Rattle.sheet.specs.Layout.{_▸_, first, always, Record, head, band, unsafe, recovery, mark, fields, count}
 
 -- the counts that a file's records depend on
@@ -35,12 +36,12 @@ countAt s r = count (s .vars) (recordAt s r)
 -- where record r starts
 unfoldable pub start : Shape → ℕ → ℕ
 start s zero = 0
-start s (suc r) = start s r + 2 + offset (fieldsAt s r) (countAt s r)
+start s (suc r) = start s r + letters + offset (fieldsAt s r) (countAt s r)
 
 -- v with the values of the first r records of f
 unfoldable pub filledAll : Shape → List ℕ → ℕ → List ℤ → List ℤ
 filledAll s f zero v = v
-filledAll s f (suc r) v = filled (fieldsAt s r) f (start s r + 2) (countAt s r) (filledAll s f r v)
+filledAll s f (suc r) v = filled (fieldsAt s r) f (start s r + letters) (countAt s r) (filledAll s f r v)
 
 -- a record's bytes, and those of the first r records
 abbrev pub recordBytes : ℕ → Record → List ℤ → List ℕ

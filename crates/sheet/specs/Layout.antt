@@ -4,7 +4,8 @@ use mathlib.Core.List.{List}
 use Prim.Native.Nat.{ℕ, zero, suc, _+_, _*_, _-_, _/_, _%_}
 use lib.Dec.{ltb}
 use lib.IntN.{ℤ, pos, negℤ, _+ℤ_, _-ℤ_}
-use Rattle.sheet.specs.Slots.{_!_, N, maxBands, maxBoxes, headSize, capSlot, bandSlot, rowSlot, recoverySlot, unsafeSlot}
+use Rattle.sheet.specs.Slots.{_!_, N, maxBands, maxBoxes, bandsSlot, boxesSlot, bandVarSlot, δSlot, αSlot, ρSlot, leastSlot, greatestSlot, headSize, capSlot, bSlot, cSlot, dSlot, qSlot, restSize, firstRow, bandSlot, safetyLeastSlot, safetyGreatestSlot, rowSlot, sides, recoverySlot, unsafeSlot}
+pub use Rattle.sheet.specs.Slots.{varsSlot}
 use Rattle.sheet.specs.Refusals.{Cause}
 use Rattle.sheet.specs.Fields.{Kind, u8, u16, i16, i32, Field}
 
@@ -40,34 +41,6 @@ fromTo k s l h = ranged k s (λ v. pos l) (λ v. pos h)
 abbrev pub within : Kind → ℕ → ℕ → Cause → Field
 within k s h = ranged k s (λ v. negℤ (pos h)) (λ v. pos h)
 
--- the head's slots
-abbrev pub varsSlot : ℕ
-varsSlot = 0
-
-abbrev pub bandsSlot : ℕ
-bandsSlot = 1
-
-abbrev pub boxesSlot : ℕ
-boxesSlot = 2
-
-abbrev pub bandVarSlot : ℕ
-bandVarSlot = 3
-
-abbrev pub δSlot : ℕ
-δSlot = 4
-
-abbrev pub αSlot : ℕ
-αSlot = 5
-
-abbrev pub ρSlot : ℕ
-ρSlot = 6
-
-abbrev pub leastSlot : ℕ
-leastSlot = 7
-
-abbrev pub greatestSlot : ℕ
-greatestSlot = 8
-
 -- a sheet has at most so many variables; there is room for N
 abbrev pub maxVars : ℕ
 maxVars = 4
@@ -94,25 +67,35 @@ unfoldable pub edgeField : ℕ → Field
 edgeField zero = ranged i32 (bandSlot 0) (λ v. negℤ (pos 2000000)) (λ v. negℤ (pos 2000000)) Cause.edge
 edgeField (suc k) = ranged i32 (bandSlot (suc k)) (λ v. v ! bandSlot k +ℤ pos 1) (λ v. pos 2000000) Cause.edge
 
--- b, c, d, q from a slot on
+-- b, c, d, q of the row at a slot
 unfoldable pub rowRest : ℕ → ℕ → Field
 rowRest s =
-    within i16 s 1000 Cause.row
-    ▸ within i32 (s + 1) 100000000 Cause.row
-    ▸ fromTo i32 (s + 2) 0 100000000 Cause.row
-    ▸ always (fromTo u16 (s + 3) 1 4096 Cause.row)
+    within i16 (bSlot s) 1000 Cause.row
+    ▸ within i32 (cSlot s) 100000000 Cause.row
+    ▸ fromTo i32 (dSlot s) 0 100000000 Cause.row
+    ▸ always (fromTo u16 (qSlot s) 1 4096 Cause.row)
 
 -- the row at a slot: n coefficients a, then the rest
 unfoldable pub rowFields : ℕ → ℕ → ℕ → Field
-rowFields n s = first n (λ j. within i16 (s + j) 1000 Cause.row) (rowRest (s + N))
+rowFields n s = first n (λ j. within i16 (s + j) 1000 Cause.row) (rowRest s)
+
+-- so many fields a row has, a band, and a box, of a sheet with n variables
+abbrev pub rowCount : ℕ → ℕ
+rowCount n = n + restSize
+
+abbrev pub bandCount : ℕ → ℕ
+bandCount n = firstRow + n * rowCount n
+
+abbrev pub boxCount : ℕ → ℕ
+boxCount n = n * sides
 
 -- edge, safety least and greatest, n rows
 unfoldable pub bandFields : ℕ → ℕ → ℕ → Field
 bandFields n k =
     edgeField k
-    ▸ ranged i32 (bandSlot k + 1) (λ v. v ! leastSlot) (λ v. v ! greatestSlot) Cause.safety
-    ▸ ranged i32 (bandSlot k + 2) (λ v. v ! (bandSlot k + 1)) (λ v. v ! greatestSlot) Cause.safety
-    ▸ groups (n + 4) (λ i. rowFields n (rowSlot k i))
+    ▸ ranged i32 (safetyLeastSlot k) (λ v. v ! leastSlot) (λ v. v ! greatestSlot) Cause.safety
+    ▸ ranged i32 (safetyGreatestSlot k) (λ v. v ! safetyLeastSlot k) (λ v. v ! greatestSlot) Cause.safety
+    ▸ groups (rowCount n) (λ i. rowFields n (rowSlot k i))
 
 -- the sides of a no-go box lie within ±unsafeLimit, those of the recovery box within ±recoveryLimit
 abbrev pub unsafeLimit : ℕ
@@ -127,7 +110,7 @@ sideFields h s = within i32 s h Cause.side ▸ always (ranged i32 (s + N) (λ v.
 
 -- the box at a slot: for each variable the two sides
 unfoldable pub boxFields : ℕ → ℕ → ℕ → Field
-boxFields h s = groups 2 (λ i. sideFields h (s + i))
+boxFields h s = groups sides (λ i. sideFields h (s + i))
 
 -- ---- records
 
@@ -154,6 +137,6 @@ fields n recovery = boxFields recoveryLimit recoverySlot
 
 abbrev pub count : ℕ → Record → ℕ
 count n head = headSize + n
-count n (band k) = 3 + n * (n + 4)
-count n (unsafe j) = n * 2
-count n recovery = n * 2
+count n (band k) = bandCount n
+count n (unsafe j) = boxCount n
+count n recovery = boxCount n

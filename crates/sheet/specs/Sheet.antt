@@ -10,6 +10,7 @@ use lib.Seq.{sets}
 use Rattle.sheet.specs.Slots.{_!_, headSize, slots}
 use Rattle.sheet.specs.Refusals.{Cause, unless, firstRefusal}
 use Rattle.sheet.specs.Fields.{filled, bad}
+use Rattle.sheet.specs.Sizes.{letters, capsAt}
 use Rattle.sheet.specs.Layout.{head, headFields}
 use Rattle.sheet.specs.File.{Shape, shape, records, fieldsAt, countAt, start, filledAll, codedAll, marked, markedAt, badAll}
 
@@ -20,7 +21,7 @@ zeros = replicate slots (pos 0)
 
 -- the head's numbers up to the commands, which stand before the counts are known
 unfoldable pub headOf : List ℕ → List ℤ
-headOf f = filled headFields f 2 headSize zeros
+headOf f = filled headFields f letters headSize zeros
 
 -- the counts that a file's head names, and the file's values with these counts
 unfoldable pub shapeOf : List ℕ → Shape
@@ -31,7 +32,7 @@ contents f = let s = shapeOf f in filledAll s f (records s) zeros
 
 -- the reader's tests in their order, each made only where those before it passed
 unfoldable pub stage : List ℕ → ℕ → ℕ
-stage f zero = unless (leb 20 (length f) && marked f 0 head) Cause.beginning
+stage f zero = unless (leb capsAt (length f) && marked f 0 head) Cause.beginning
 stage f (suc zero) = bad headFields (headOf f) headSize
 stage f (suc (suc zero)) = let s = shapeOf f in unless (eqb (length f) (start s (records s))) Cause.size
 stage f (suc (suc (suc i))) = let s = shapeOf f in badAll (markedAt s f) s (contents f) (records s)

@@ -21,28 +21,106 @@ maxBoxes = 8
 -- ---- slots
 
 -- the head: n, bands, no-go boxes, band variable, δ, α, ρ, least and greatest command
+abbrev pub varsSlot : ℕ
+varsSlot = 0
+
+abbrev pub bandsSlot : ℕ
+bandsSlot = 1
+
+abbrev pub boxesSlot : ℕ
+boxesSlot = 2
+
+abbrev pub bandVarSlot : ℕ
+bandVarSlot = 3
+
+abbrev pub δSlot : ℕ
+δSlot = 4
+
+abbrev pub αSlot : ℕ
+αSlot = 5
+
+abbrev pub ρSlot : ℕ
+ρSlot = 6
+
+abbrev pub leastSlot : ℕ
+leastSlot = 7
+
+abbrev pub greatestSlot : ℕ
+greatestSlot = 8
+
+-- so many numbers they are; the caps stand after them
 abbrev pub headSize : ℕ
 headSize = 9
 
 abbrev pub capSlot : ℕ → ℕ
 capSlot i = headSize + i
 
--- a row has N coefficients a, then b, c, d, q; a band its edge, the safety range, and N rows
+-- a row: N coefficients a, then the rest: b, c, d, q
+abbrev pub bInRest : ℕ
+bInRest = 0
+
+abbrev pub cInRest : ℕ
+cInRest = 1
+
+abbrev pub dInRest : ℕ
+dInRest = 2
+
+abbrev pub qInRest : ℕ
+qInRest = 3
+
+abbrev pub restSize : ℕ
+restSize = 4
+
+-- their slots in the row at a slot
+abbrev pub bSlot : ℕ → ℕ
+bSlot at = at + N
+
+abbrev pub cSlot : ℕ → ℕ
+cSlot at = at + N + cInRest
+
+abbrev pub dSlot : ℕ → ℕ
+dSlot at = at + N + dInRest
+
+abbrev pub qSlot : ℕ → ℕ
+qSlot at = at + N + qInRest
+
 abbrev pub rowSize : ℕ
-rowSize = N + 4
+rowSize = N + restSize
+
+-- a band: its edge, the safety range, and N rows
+abbrev pub edgeInBand : ℕ
+edgeInBand = 0
+
+abbrev pub leastInBand : ℕ
+leastInBand = 1
+
+abbrev pub greatestInBand : ℕ
+greatestInBand = 2
+
+abbrev pub firstRow : ℕ
+firstRow = 3
 
 abbrev pub bandSize : ℕ
-bandSize = 3 + N * rowSize
+bandSize = firstRow + N * rowSize
 
 abbrev pub bandSlot : ℕ → ℕ
 bandSlot k = headSize + N + k * bandSize
 
-abbrev pub rowSlot : ℕ → ℕ → ℕ
-rowSlot k i = bandSlot k + 3 + i * rowSize
+abbrev pub safetyLeastSlot : ℕ → ℕ
+safetyLeastSlot k = bandSlot k + leastInBand
 
--- a box has N lower sides, then N upper sides
+abbrev pub safetyGreatestSlot : ℕ → ℕ
+safetyGreatestSlot k = bandSlot k + greatestInBand
+
+abbrev pub rowSlot : ℕ → ℕ → ℕ
+rowSlot k i = bandSlot k + firstRow + i * rowSize
+
+-- a box: N lower sides, then N upper sides; a variable has two
+abbrev pub sides : ℕ
+sides = 2
+
 abbrev pub boxSize : ℕ
-boxSize = 2 * N
+boxSize = sides * N
 
 abbrev pub recoverySlot : ℕ
 recoverySlot = headSize + N + maxBands * bandSize
@@ -57,32 +135,32 @@ slots = recoverySlot + boxSize + maxBoxes * boxSize
 -- ---- names
 
 abbrev pub vars : List ℤ → ℕ
-vars v = natAbs (v ! 0)
+vars v = natAbs (v ! varsSlot)
 
 abbrev pub bands : List ℤ → ℕ
-bands v = natAbs (v ! 1)
+bands v = natAbs (v ! bandsSlot)
 
 -- how many no-go boxes
 abbrev pub boxes : List ℤ → ℕ
-boxes v = natAbs (v ! 2)
+boxes v = natAbs (v ! boxesSlot)
 
 abbrev pub bandVar : List ℤ → ℕ
-bandVar v = natAbs (v ! 3)
+bandVar v = natAbs (v ! bandVarSlot)
 
 abbrev pub δ : List ℤ → ℕ
-δ v = natAbs (v ! 4)
+δ v = natAbs (v ! δSlot)
 
 abbrev pub α : List ℤ → ℕ
-α v = natAbs (v ! 5)
+α v = natAbs (v ! αSlot)
 
 abbrev pub ρ : List ℤ → ℕ
-ρ v = natAbs (v ! 6)
+ρ v = natAbs (v ! ρSlot)
 
 abbrev pub leastCommand : List ℤ → ℤ
-leastCommand v = v ! 7
+leastCommand v = v ! leastSlot
 
 abbrev pub greatestCommand : List ℤ → ℤ
-greatestCommand v = v ! 8
+greatestCommand v = v ! greatestSlot
 
 abbrev pub cap : List ℤ → ℕ → ℤ
 cap v i = v ! (capSlot i)
@@ -92,10 +170,10 @@ edge v k = v ! (bandSlot k)
 
 -- band k's safety range
 abbrev pub safetyLeast : List ℤ → ℕ → ℤ
-safetyLeast v k = v ! (bandSlot k + 1)
+safetyLeast v k = v ! (safetyLeastSlot k)
 
 abbrev pub safetyGreatest : List ℤ → ℕ → ℤ
-safetyGreatest v k = v ! (bandSlot k + 2)
+safetyGreatest v k = v ! (safetyGreatestSlot k)
 
 -- a row: N = Σ aj·xj + b·u + c, spread d, divisor q
 pub record Row : Type 0 where
@@ -107,7 +185,7 @@ pub record Row : Type 0 where
 
 -- the row whose numbers start at a slot
 abbrev pub rowAt : List ℤ → ℕ → Row
-rowAt v at = record { a = λ j. v ! (at + j); b = v ! (at + N); c = v ! (at + N + 1); d = v ! (at + N + 2); q = v ! (at + N + 3) }
+rowAt v at = record { a = λ j. v ! (at + j); b = v ! bSlot at; c = v ! cSlot at; d = v ! dSlot at; q = v ! qSlot at }
 
 -- the row of band k for variable i
 abbrev pub row : List ℤ → ℕ → ℕ → Row

@@ -7,7 +7,7 @@ use lib.Signed.{_≤ℤ_, _<ℤ_}
 use lib.ListN.{length}
 use mir.Syntax.{w32}
 use mir.Val.{SFits}
-use Rattle.sheet.specs.Slots.{_!_, N, slots, recoverySlot, unsafeSlot, vars, bands, boxes, bandVar, δ, α, ρ, leastCommand, greatestCommand, cap, edge, safetyLeast, safetyGreatest, Row, row}
+use Rattle.sheet.specs.Slots.{_!_, N, slots, leastSlot, recoverySlot, unsafeSlot, vars, bands, boxes, bandVar, δ, α, ρ, leastCommand, greatestCommand, cap, edge, safetyLeast, safetyGreatest, Row, row}
 
 -- z lies from l to h
 pub record Between (l h z : ℤ) : Type 0 where
@@ -31,7 +31,7 @@ pub record Valid (v : List ℤ) : Type 0 where
   pub size : length v ≡ slots
   pub fits : (i : ℕ) → SFits w32 (v ! i)
   -- the counts are not negative, and so the head's numbers themselves
-  pub head : (i : ℕ) → i < 7 → pos 0 ≤ℤ v ! i
+  pub head : (i : ℕ) → i < leastSlot → pos 0 ≤ℤ v ! i
   pub vars-low : 1 ≤ vars v
   pub vars-high : vars v ≤ 4
   pub bands-low : 1 ≤ bands v

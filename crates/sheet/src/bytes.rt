@@ -7,17 +7,12 @@ ghost use mir.Syntax.{w32};
 ghost use mir.Val.{ofZ};
 ghost use Rattle.integers.specs.Bytes.{be};
 ghost use Rattle.sheet.specs.Slots.{_!_, slots};
-ghost use Rattle.sheet.specs.Fields.{u8, u16, i16, i32, decoded, encoded};
+ghost use Rattle.sheet.specs.Fields.{u8, u16, i16, i32, width, decoded, encoded};
+pub use crate::sizes::I16;
+pub use crate::sizes::I32;
+pub use crate::sizes::U8;
+pub use crate::sizes::U16;
 use crate::slots::SLOTS;
-
-// So many bytes a number has.
-pub const U8: usize = 1;
-
-pub const U16: usize = 2;
-
-pub const I16: usize = 2;
-
-pub const I32: usize = 4;
 
 fn wide(b: u8) -> u32
     ensures { λ r. ⌜ (r ≡ b) × (r < 256) ⌝ }
@@ -27,43 +22,43 @@ fn wide(b: u8) -> u32
 
 // The number that two bytes are.
 fn two(f: &[u8], at: usize) -> u32
-    requires { ⌜ at + 2 ≤ length (now f) ⌝ }
-    ensures { λ r. ⌜ (r ≡ be (take 2 (drop at (now (f .entry))))) × (r < 65536) ⌝ }
+    requires { ⌜ at + width u16 ≤ length (now f) ⌝ }
+    ensures { λ r. ⌜ (r ≡ be (take (width u16) (drop at (now (f .entry))))) × (r < 65536) ⌝ }
 {
     wide(f[at]) * 256 + wide(f[at + 1])
 }
 
 // The number that four bytes are.
 pub fn four(f: &[u8], at: usize) -> u32
-    requires { ⌜ at + 4 ≤ length (now f) ⌝ }
-    ensures { λ r. ⌜ r ≡ be (take 4 (drop at (now (f .entry)))) ⌝ }
+    requires { ⌜ at + width i32 ≤ length (now f) ⌝ }
+    ensures { λ r. ⌜ r ≡ be (take (width i32) (drop at (now (f .entry)))) ⌝ }
 {
-    two(f, at) * 65536 + two(f, at + 2)
+    two(f, at) * 65536 + two(f, at + U16)
 }
 
 pub fn get_u8(f: &[u8], at: usize) -> i32
-    requires { ⌜ at + 1 ≤ length (now f) ⌝ }
+    requires { ⌜ at + width u8 ≤ length (now f) ⌝ }
     ensures { λ r. ⌜ r ≡ decoded u8 (drop at (now (f .entry))) ⌝ }
 {
     wide(f[at]) as i32
 }
 
 pub fn get_u16(f: &[u8], at: usize) -> i32
-    requires { ⌜ at + 2 ≤ length (now f) ⌝ }
+    requires { ⌜ at + width u16 ≤ length (now f) ⌝ }
     ensures { λ r. ⌜ r ≡ decoded u16 (drop at (now (f .entry))) ⌝ }
 {
     two(f, at) as i32
 }
 
 pub fn get_i16(f: &[u8], at: usize) -> i32
-    requires { ⌜ at + 2 ≤ length (now f) ⌝ }
+    requires { ⌜ at + width i16 ≤ length (now f) ⌝ }
     ensures { λ r. ⌜ r ≡ decoded i16 (drop at (now (f .entry))) ⌝ }
 {
     ((two(f, at) + 0x8000) % 0x1_0000) as i32 - 0x8000
 }
 
 pub fn get_i32(f: &[u8], at: usize) -> i32
-    requires { ⌜ at + 4 ≤ length (now f) ⌝ }
+    requires { ⌜ at + width i32 ≤ length (now f) ⌝ }
     ensures { λ r. ⌜ r ≡ decoded i32 (drop at (now (f .entry))) ⌝ }
 {
     let u = four(f, at);
@@ -89,7 +84,7 @@ fn bits(v: &[i32; SLOTS], slot: usize) -> u32
 
 // Each of the following writes the number at a slot.
 pub fn put_u8(s: &mut [u8], at: usize, v: &[i32; SLOTS], slot: usize)
-    requires { ⌜ (at + 1 ≤ length (now s)) × (slot < slots) ⌝ }
+    requires { ⌜ (at + width u8 ≤ length (now s)) × (slot < slots) ⌝ }
     ensures { λ _. ⌜ now (s .exit) ≡ sets (now (s .entry)) at (encoded u8 (now (v .entry) ! slot)) ⌝ }
 {
     s[at] = (bits(v, slot) % 256) as u8;
@@ -97,7 +92,7 @@ pub fn put_u8(s: &mut [u8], at: usize, v: &[i32; SLOTS], slot: usize)
 
 // Two bytes, of an i16 too: they are the last two of its bits.
 pub fn put_u16(s: &mut [u8], at: usize, v: &[i32; SLOTS], slot: usize)
-    requires { ⌜ (at + 2 ≤ length (now s)) × (slot < slots) ⌝ }
+    requires { ⌜ (at + width u16 ≤ length (now s)) × (slot < slots) ⌝ }
     ensures { λ _. ⌜ now (s .exit) ≡ sets (now (s .entry)) at (encoded u16 (now (v .entry) ! slot)) ⌝ }
 {
     let u = bits(v, slot);
@@ -106,7 +101,7 @@ pub fn put_u16(s: &mut [u8], at: usize, v: &[i32; SLOTS], slot: usize)
 }
 
 pub fn put_i32(s: &mut [u8], at: usize, v: &[i32; SLOTS], slot: usize)
-    requires { ⌜ (at + 4 ≤ length (now s)) × (slot < slots) ⌝ }
+    requires { ⌜ (at + width i32 ≤ length (now s)) × (slot < slots) ⌝ }
     ensures { λ _. ⌜ now (s .exit) ≡ sets (now (s .entry)) at (encoded i32 (now (v .entry) ! slot)) ⌝ }
 {
     let u = bits(v, slot);

@@ -10,6 +10,7 @@ ghost use lib.Signed.{_≤ℤ_};
 ghost use Prim.Native.Nat.{_<_};
 ghost use Rattle.sheet.specs.Slots.{_!_, headSize, slots};
 ghost use Rattle.sheet.specs.Fields.{bad};
+ghost use Rattle.sheet.specs.Sizes.{capsAt};
 ghost use Rattle.sheet.specs.Layout.{head, headFields};
 ghost use Rattle.sheet.specs.File.{marked};
 ghost use Rattle.sheet.specs.Sheet.{zeros, headOf, contents, refusal, values};
@@ -19,6 +20,7 @@ pub mod bytes;
 mod marks;
 mod reader;
 pub mod refusals;
+pub mod sizes;
 pub mod slots;
 mod tests;
 mod writer;
@@ -58,7 +60,7 @@ pub fn count(v: &[i32; SLOTS], slot: usize) -> usize
 
 // What follows the head's numbers, once they were read and tested.
 fn read_rest(f: &[u8], v: &mut [i32; SLOTS]) -> u8
-    requires { ⌜ leb 20 (length (now f)) && marked (now f) 0 head ≡ true ⌝ }
+    requires { ⌜ leb capsAt (length (now f)) && marked (now f) 0 head ≡ true ⌝ }
     requires { ⌜ (now v ≡ headOf (now f)) × (0 ≡ bad headFields (now v) headSize) ⌝ }
     ensures { λ r. ⌜ (r ≡ refusal (now (f .entry))) × (r ≡ 0 → now (v .exit) ≡ contents (now (f .entry))) ⌝ }
 {
@@ -76,7 +78,7 @@ fn read_cleared(f: &[u8], v: &mut [i32; SLOTS]) -> u8
     requires { ⌜ now v ≡ zeros ⌝ }
     ensures { λ r. ⌜ (r ≡ refusal (now (f .entry))) × (r ≡ 0 → now (v .exit) ≡ contents (now (f .entry))) ⌝ }
 {
-    if f.len() < marks::CAPS_AT {
+    if f.len() < sizes::CAPS_AT {
         return BEGINNING;
     }
     let right = marks::marked(f, 0, marks::mark_of(0, 0, 0));

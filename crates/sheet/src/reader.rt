@@ -1,24 +1,30 @@
 // The numbers of a file, read to their slots.
 ghost use mathlib.Core.Path.{_≡_};
 ghost use mathlib.Core.Bool.{true, false};
-ghost use Prim.Native.Nat.{ℕ, _+_, _*_, _≤_, _<_};
+ghost use Prim.Native.Nat.{ℕ, _+_, _≤_, _<_};
 ghost use lib.ListN.{length};
 ghost use Rattle.sheet.specs.Slots.{N, maxBands, maxBoxes, headSize, rowSize, boxSize, slots};
+ghost use Rattle.sheet.specs.Refusals.{Cause, number};
 ghost use Rattle.sheet.specs.Steps.{sized};
 ghost use Rattle.sheet.specs.Fields.{offset, filled};
-ghost use Rattle.sheet.specs.Layout.{headFields, rowFields, bandFields, boxFields};
+ghost use Rattle.sheet.specs.Sizes.{letters, capsAt, capBytes, rowBytes, bandBytes, boxBytes};
+ghost use Rattle.sheet.specs.Layout.{headFields, rowFields, rowCount, bandFields, bandCount, boxFields, boxCount};
 ghost use Rattle.sheet.specs.File.{records, fieldsAt, countAt, start, filledAll, markedAt, badAll};
-use crate::bytes::*;
+use crate::bytes::get_i16;
+use crate::bytes::get_i32;
+use crate::bytes::get_u8;
+use crate::bytes::get_u16;
 use crate::marks::*;
 use crate::refusals::MARK;
+use crate::sizes::*;
 use crate::slots::*;
 use crate::tests::bad_record;
 use crate::tests::first;
 
 // The head's numbers but for the caps.
 pub fn read_head(f: &[u8], v: &mut [i32; SLOTS])
-    requires { ⌜ 20 ≤ length (now f) ⌝ }
-    ensures { λ _. ⌜ now (v .exit) ≡ filled headFields (now (f .entry)) 2 headSize (now (v .entry)) ⌝ }
+    requires { ⌜ capsAt ≤ length (now f) ⌝ }
+    ensures { λ _. ⌜ now (v .exit) ≡ filled headFields (now (f .entry)) letters headSize (now (v .entry)) ⌝ }
 {
     v[VARS] = get_u8(f, VARS_AT);
     v[BANDS] = get_u8(f, BANDS_AT);
@@ -32,8 +38,8 @@ pub fn read_head(f: &[u8], v: &mut [i32; SLOTS])
 }
 
 fn read_caps(f: &[u8], n: usize, v: &mut [i32; SLOTS])
-    requires { ⌜ (n ≤ N) × (20 + 2 * n ≤ length (now f)) ⌝ }
-    ensures { λ _. ⌜ now (v .exit) ≡ filled headFields (now (f .entry)) 2 (headSize + n) (now (v .entry)) ⌝ }
+    requires { ⌜ (n ≤ N) × (capsAt + capBytes n ≤ length (now f)) ⌝ }
+    ensures { λ _. ⌜ now (v .exit) ≡ filled headFields (now (f .entry)) letters (headSize + n) (now (v .entry)) ⌝ }
 {
     read_head(f, v);
     let mut i: usize = 0;
@@ -44,8 +50,8 @@ fn read_caps(f: &[u8], n: usize, v: &mut [i32; SLOTS])
 }
 
 fn read_row(f: &[u8], at: usize, n: usize, slot: usize, v: &mut [i32; SLOTS])
-    requires { ⌜ (n ≤ N) × ((slot + rowSize ≤ slots) × (at + (2 * n + 12) ≤ length (now f))) ⌝ }
-    ensures { λ _. ⌜ now (v .exit) ≡ filled (rowFields n slot) (now (f .entry)) at (n + 4) (now (v .entry)) ⌝ }
+    requires { ⌜ (n ≤ N) × ((slot + rowSize ≤ slots) × (at + rowBytes n ≤ length (now f))) ⌝ }
+    ensures { λ _. ⌜ now (v .exit) ≡ filled (rowFields n slot) (now (f .entry)) at (rowCount n) (now (v .entry)) ⌝ }
 {
     let mut j: usize = 0;
     while j < n {
@@ -60,8 +66,8 @@ fn read_row(f: &[u8], at: usize, n: usize, slot: usize, v: &mut [i32; SLOTS])
 }
 
 fn read_band(f: &[u8], at: usize, n: usize, k: usize, v: &mut [i32; SLOTS])
-    requires { ⌜ (n ≤ N) × ((k < maxBands) × (at + (12 + n * (2 * n + 12)) ≤ length (now f))) ⌝ }
-    ensures { λ _. ⌜ now (v .exit) ≡ filled (bandFields n k) (now (f .entry)) at (3 + n * (n + 4)) (now (v .entry)) ⌝ }
+    requires { ⌜ (n ≤ N) × ((k < maxBands) × (at + bandBytes n ≤ length (now f))) ⌝ }
+    ensures { λ _. ⌜ now (v .exit) ≡ filled (bandFields n k) (now (f .entry)) at (bandCount n) (now (v .entry)) ⌝ }
 {
     let slot = FIRST_BAND + k * BAND_SIZE;
     v[slot] = get_i32(f, at);
@@ -71,7 +77,7 @@ fn read_band(f: &[u8], at: usize, n: usize, k: usize, v: &mut [i32; SLOTS])
     while i < n {
         read_row(
             f,
-            at + ROWS_AT + i * (I16 * n + REST),
+            at + ROWS_AT + i * (I16 * n + REST_BYTES),
             n,
             slot + FIRST_ROW + i * ROW_SIZE,
             v,
@@ -81,13 +87,13 @@ fn read_band(f: &[u8], at: usize, n: usize, k: usize, v: &mut [i32; SLOTS])
 }
 
 fn read_box(f: &[u8], at: usize, n: usize, slot: usize, v: &mut [i32; SLOTS])
-    requires { ⌜ (n ≤ N) × ((slot + boxSize ≤ slots) × (at + 8 * n ≤ length (now f))) ⌝ }
-    ensures { λ _. ⌜ ((h : ℕ) → now (v .exit) ≡ filled (boxFields h slot) (now (f .entry)) at (n * 2) (now (v .entry))) ⌝ }
+    requires { ⌜ (n ≤ N) × ((slot + boxSize ≤ slots) × (at + boxBytes n ≤ length (now f))) ⌝ }
+    ensures { λ _. ⌜ ((h : ℕ) → now (v .exit) ≡ filled (boxFields h slot) (now (f .entry)) at (boxCount n) (now (v .entry))) ⌝ }
 {
     let mut i: usize = 0;
     while i < n {
-        v[slot + i] = get_i32(f, at + PAIR * i);
-        v[slot + i + N] = get_i32(f, at + PAIR * i + I32);
+        v[slot + i] = get_i32(f, at + PAIR_BYTES * i);
+        v[slot + i + N] = get_i32(f, at + PAIR_BYTES * i + UPPER_AT);
         i = i + 1;
     }
 }
@@ -102,9 +108,9 @@ fn read_record(
     r: usize,
     v: &mut [i32; SLOTS],
 )
-    requires { ⌜ (n ≤ N) × ((bands ≤ maxBands) × ((boxes ≤ maxBoxes) × (r < bands + boxes + 2))) ⌝ }
-    requires { ⌜ (at ≡ start (sized n bands boxes) r) × (at + (2 + offset (fieldsAt (sized n bands boxes) r) (countAt (sized n bands boxes) r)) ≤ length (now f)) ⌝ }
-    ensures { λ _. ⌜ now (v .exit) ≡ filled (fieldsAt (sized n bands boxes) r) (now (f .entry)) (at + 2) (countAt (sized n bands boxes) r) (now (v .entry)) ⌝ }
+    requires { ⌜ (n ≤ N) × ((bands ≤ maxBands) × ((boxes ≤ maxBoxes) × (r < records (sized n bands boxes)))) ⌝ }
+    requires { ⌜ (at ≡ start (sized n bands boxes) r) × (at + (letters + offset (fieldsAt (sized n bands boxes) r) (countAt (sized n bands boxes) r)) ≤ length (now f)) ⌝ }
+    ensures { λ _. ⌜ now (v .exit) ≡ filled (fieldsAt (sized n bands boxes) r) (now (f .entry)) (at + letters) (countAt (sized n bands boxes) r) (now (v .entry)) ⌝ }
 {
     let body = at + LETTERS;
     if r == 0 {
@@ -120,8 +126,8 @@ fn read_record(
 
 pub fn read_records(f: &[u8], n: usize, bands: usize, boxes: usize, v: &mut [i32; SLOTS])
     requires { ⌜ (n ≤ N) × ((bands ≤ maxBands) × (boxes ≤ maxBoxes)) ⌝ }
-    requires { ⌜ start (sized n bands boxes) (bands + boxes + 2) ≤ length (now f) ⌝ }
-    ensures { λ _. ⌜ now (v .exit) ≡ filledAll (sized n bands boxes) (now (f .entry)) (bands + boxes + 2) (now (v .entry)) ⌝ }
+    requires { ⌜ start (sized n bands boxes) (records (sized n bands boxes)) ≤ length (now f) ⌝ }
+    ensures { λ _. ⌜ now (v .exit) ≡ filledAll (sized n bands boxes) (now (f .entry)) (records (sized n bands boxes)) (now (v .entry)) ⌝ }
 {
     let mut at: usize = 0;
     let mut r: usize = 0;
@@ -134,7 +140,7 @@ pub fn read_records(f: &[u8], n: usize, bands: usize, boxes: usize, v: &mut [i32
 
 // A wrong mark comes before the record's numbers.
 fn wrong(right: bool, x: u8) -> u8
-    ensures { λ r. ⌜ r ≡ elim right [ true ↦ x | false ↦ 7 ] ⌝ }
+    ensures { λ r. ⌜ r ≡ elim right [ true ↦ x | false ↦ number Cause.mark ] ⌝ }
 {
     if right { x } else { MARK }
 }
@@ -142,8 +148,8 @@ fn wrong(right: bool, x: u8) -> u8
 // The marks and the numbers of every record, once they were read.
 pub fn bad_file(f: &[u8], n: usize, bands: usize, boxes: usize, v: &[i32; SLOTS]) -> u8
     requires { ⌜ (n ≤ N) × ((bands ≤ maxBands) × (boxes ≤ maxBoxes)) ⌝ }
-    requires { ⌜ start (sized n bands boxes) (bands + boxes + 2) ≤ length (now f) ⌝ }
-    ensures { λ x. ⌜ x ≡ badAll (markedAt (sized n bands boxes) (now (f .entry))) (sized n bands boxes) (now (v .entry)) (bands + boxes + 2) ⌝ }
+    requires { ⌜ start (sized n bands boxes) (records (sized n bands boxes)) ≤ length (now f) ⌝ }
+    ensures { λ x. ⌜ x ≡ badAll (markedAt (sized n bands boxes) (now (f .entry))) (sized n bands boxes) (now (v .entry)) (records (sized n bands boxes)) ⌝ }
 {
     let mut x: u8 = 0;
     let mut at: usize = 0;

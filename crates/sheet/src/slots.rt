@@ -1,4 +1,4 @@
-// Where each number of a sheet's value stands: the names of specs/Slots.antt and specs/Layout.antt.
+// Where each number of a sheet's value stands: the names of specs/Slots.antt.
 
 // There is room for N variables.
 pub const N: usize = 4;
@@ -40,7 +40,9 @@ pub const ROW_D: usize = N + 2;
 
 pub const ROW_Q: usize = N + 3;
 
-pub const ROW_SIZE: usize = N + 4;
+pub const REST_SIZE: usize = 4;
+
+pub const ROW_SIZE: usize = N + REST_SIZE;
 
 // A band: its edge, its safety range, N rows. Band k is at FIRST_BAND + k * BAND_SIZE.
 pub const SAFETY_LEAST: usize = 1;

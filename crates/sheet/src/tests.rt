@@ -1,14 +1,14 @@
 // The tests of a sheet's numbers, in the file's order. Each gives 0, or the refusal of the first number out of range.
 ghost use mathlib.Core.Path.{_≡_};
 ghost use mathlib.Core.Bool.{true};
-ghost use Prim.Native.Nat.{_+_, _*_, _≤_, _<_};
+ghost use Prim.Native.Nat.{_+_, _≤_, _<_};
 ghost use Rattle.integers.specs.Bound.{Bound};
 ghost use Rattle.sheet.specs.Slots.{_!_, N, maxBands, maxBoxes, headSize, boxSize, rowSize, slots};
 ghost use Rattle.sheet.specs.Refusals.{number};
 ghost use Rattle.sheet.specs.Steps.{orElse, sized};
 ghost use Rattle.sheet.specs.Fields.{Field, test, bad};
-ghost use Rattle.sheet.specs.Layout.{headFields, edgeField, rowFields, bandFields, boxFields};
-ghost use Rattle.sheet.specs.File.{fieldsAt, countAt, badAll};
+ghost use Rattle.sheet.specs.Layout.{headFields, edgeField, rowFields, rowCount, bandFields, bandCount, boxFields, boxCount};
+ghost use Rattle.sheet.specs.File.{records, fieldsAt, countAt, badAll};
 use crate::refusals::CAP;
 use crate::refusals::COMMANDS;
 use crate::refusals::EDGE;
@@ -105,7 +105,7 @@ pub fn bad_caps(v: &[i32; SLOTS], n: usize) -> u8
 
 fn bad_row(v: &[i32; SLOTS], n: usize, slot: usize) -> u8
     requires { ⌜ (n ≤ N) × (slot + rowSize ≤ slots) ⌝ }
-    ensures { λ r. ⌜ r ≡ bad (rowFields n slot) (now (v .entry)) (n + 4) ⌝ }
+    ensures { λ r. ⌜ r ≡ bad (rowFields n slot) (now (v .entry)) (rowCount n) ⌝ }
 {
     let mut x: u8 = 0;
     let mut j: usize = 0;
@@ -132,7 +132,7 @@ fn bad_edge(v: &[i32; SLOTS], k: usize) -> u8
 
 pub fn bad_band(v: &[i32; SLOTS], n: usize, k: usize) -> u8
     requires { ⌜ (n ≤ N) × (k < maxBands) ⌝ }
-    ensures { λ r. ⌜ r ≡ bad (bandFields n k) (now (v .entry)) (3 + n * (n + 4)) ⌝ }
+    ensures { λ r. ⌜ r ≡ bad (bandFields n k) (now (v .entry)) (bandCount n) ⌝ }
 {
     let slot = FIRST_BAND + k * BAND_SIZE;
     let greatest = value(v, GREATEST);
@@ -156,7 +156,7 @@ pub fn bad_band(v: &[i32; SLOTS], n: usize, k: usize) -> u8
 
 pub fn bad_box(v: &[i32; SLOTS], n: usize, slot: usize, most: u32) -> u8
     requires { ⌜ (n ≤ N) × (slot + boxSize ≤ slots) ⌝ }
-    ensures { λ r. ⌜ r ≡ bad (boxFields most slot) (now (v .entry)) (n * 2) ⌝ }
+    ensures { λ r. ⌜ r ≡ bad (boxFields most slot) (now (v .entry)) (boxCount n) ⌝ }
 {
     let side = most as i64;
     let mut x: u8 = 0;
@@ -171,7 +171,7 @@ pub fn bad_box(v: &[i32; SLOTS], n: usize, slot: usize, most: u32) -> u8
 
 // The numbers of the r-th record.
 pub fn bad_record(v: &[i32; SLOTS], n: usize, bands: usize, boxes: usize, r: usize) -> u8
-    requires { ⌜ (n ≤ N) × ((bands ≤ maxBands) × ((boxes ≤ maxBoxes) × (r < bands + boxes + 2))) ⌝ }
+    requires { ⌜ (n ≤ N) × ((bands ≤ maxBands) × ((boxes ≤ maxBoxes) × (r < records (sized n bands boxes)))) ⌝ }
     ensures { λ x. ⌜ x ≡ bad (fieldsAt (sized n bands boxes) r) (now (v .entry)) (countAt (sized n bands boxes) r) ⌝ }
 {
     if r == 0 {
@@ -189,7 +189,7 @@ pub fn bad_record(v: &[i32; SLOTS], n: usize, bands: usize, boxes: usize, r: usi
 // The numbers of every record.
 pub fn bad_values(v: &[i32; SLOTS], n: usize, bands: usize, boxes: usize) -> u8
     requires { ⌜ (n ≤ N) × ((bands ≤ maxBands) × (boxes ≤ maxBoxes)) ⌝ }
-    ensures { λ x. ⌜ x ≡ badAll (λ r. true) (sized n bands boxes) (now (v .entry)) (bands + boxes + 2) ⌝ }
+    ensures { λ x. ⌜ x ≡ badAll (λ r. true) (sized n bands boxes) (now (v .entry)) (records (sized n bands boxes)) ⌝ }
 {
     let mut x: u8 = 0;
     let mut r: usize = 0;

@@ -1,28 +1,32 @@
 // A sheet's numbers, written to a buffer. A record's writer gets the part of the buffer that starts at the record.
 ghost use mathlib.Core.Path.{_≡_};
-ghost use Prim.Native.Nat.{ℕ, _+_, _*_, _≤_, _<_};
+ghost use Prim.Native.Nat.{ℕ, _+_, _≤_, _<_};
 ghost use lib.ListN.{length};
 ghost use lib.Seq.{sets};
 ghost use Rattle.sheet.specs.Slots.{N, maxBands, maxBoxes, headSize, rowSize, boxSize, slots};
 ghost use Rattle.sheet.specs.Steps.{sized};
 ghost use Rattle.sheet.specs.Fields.{offset, coded};
-ghost use Rattle.sheet.specs.Layout.{headFields, rowFields, bandFields, boxFields};
-ghost use Rattle.sheet.specs.File.{recordAt, fieldsAt, countAt, start, recordBytes, codedAll};
+ghost use Rattle.sheet.specs.Sizes.{letters, capsAt, capBytes, rowBytes, bandBytes, boxBytes};
+ghost use Rattle.sheet.specs.Layout.{headFields, rowFields, rowCount, bandFields, bandCount, boxFields, boxCount};
+ghost use Rattle.sheet.specs.File.{records, recordAt, fieldsAt, countAt, start, recordBytes, codedAll};
 ghost use Rattle.sheet.specs.Sheet.{valueRefusal};
 ghost use Rattle.sheet.specs.Written.{Wrote};
 use crate::Written;
-use crate::bytes::*;
+use crate::bytes::put_i32;
+use crate::bytes::put_u8;
+use crate::bytes::put_u16;
 use crate::count;
 use crate::marks::*;
 use crate::refusals::ROOM;
+use crate::sizes::*;
 use crate::slots::*;
 use crate::tests::bad_head;
 use crate::tests::bad_values;
 
 // The head's numbers but for the caps.
 fn write_head(s: &mut [u8], v: &[i32; SLOTS])
-    requires { ⌜ 20 ≤ length (now s) ⌝ }
-    ensures { λ _. ⌜ now (s .exit) ≡ sets (now (s .entry)) 2 (coded headFields (now (v .entry)) headSize) ⌝ }
+    requires { ⌜ capsAt ≤ length (now s) ⌝ }
+    ensures { λ _. ⌜ now (s .exit) ≡ sets (now (s .entry)) letters (coded headFields (now (v .entry)) headSize) ⌝ }
 {
     put_u8(s, VARS_AT, v, VARS);
     put_u8(s, BANDS_AT, v, BANDS);
@@ -36,8 +40,8 @@ fn write_head(s: &mut [u8], v: &[i32; SLOTS])
 }
 
 fn write_caps(s: &mut [u8], n: usize, v: &[i32; SLOTS])
-    requires { ⌜ (n ≤ N) × (20 + 2 * n ≤ length (now s)) ⌝ }
-    ensures { λ _. ⌜ now (s .exit) ≡ sets (now (s .entry)) 2 (coded headFields (now (v .entry)) (headSize + n)) ⌝ }
+    requires { ⌜ (n ≤ N) × (capsAt + capBytes n ≤ length (now s)) ⌝ }
+    ensures { λ _. ⌜ now (s .exit) ≡ sets (now (s .entry)) letters (coded headFields (now (v .entry)) (headSize + n)) ⌝ }
 {
     write_head(s, v);
     let mut i: usize = 0;
@@ -48,8 +52,8 @@ fn write_caps(s: &mut [u8], n: usize, v: &[i32; SLOTS])
 }
 
 fn write_row(s: &mut [u8], at: usize, n: usize, v: &[i32; SLOTS], slot: usize)
-    requires { ⌜ (n ≤ N) × ((slot + rowSize ≤ slots) × (at + (2 * n + 12) ≤ length (now s))) ⌝ }
-    ensures { λ _. ⌜ now (s .exit) ≡ sets (now (s .entry)) at (coded (rowFields n slot) (now (v .entry)) (n + 4)) ⌝ }
+    requires { ⌜ (n ≤ N) × ((slot + rowSize ≤ slots) × (at + rowBytes n ≤ length (now s))) ⌝ }
+    ensures { λ _. ⌜ now (s .exit) ≡ sets (now (s .entry)) at (coded (rowFields n slot) (now (v .entry)) (rowCount n)) ⌝ }
 {
     let mut j: usize = 0;
     while j < n {
@@ -64,8 +68,8 @@ fn write_row(s: &mut [u8], at: usize, n: usize, v: &[i32; SLOTS], slot: usize)
 }
 
 fn write_band(s: &mut [u8], n: usize, v: &[i32; SLOTS], k: usize)
-    requires { ⌜ (n ≤ N) × ((k < maxBands) × (14 + n * (2 * n + 12) ≤ length (now s))) ⌝ }
-    ensures { λ _. ⌜ now (s .exit) ≡ sets (now (s .entry)) 2 (coded (bandFields n k) (now (v .entry)) (3 + n * (n + 4))) ⌝ }
+    requires { ⌜ (n ≤ N) × ((k < maxBands) × (letters + bandBytes n ≤ length (now s))) ⌝ }
+    ensures { λ _. ⌜ now (s .exit) ≡ sets (now (s .entry)) letters (coded (bandFields n k) (now (v .entry)) (bandCount n)) ⌝ }
 {
     let slot = FIRST_BAND + k * BAND_SIZE;
     put_i32(s, LETTERS, v, slot);
@@ -75,7 +79,7 @@ fn write_band(s: &mut [u8], n: usize, v: &[i32; SLOTS], k: usize)
     while i < n {
         write_row(
             s,
-            LETTERS + ROWS_AT + i * (I16 * n + REST),
+            LETTERS + ROWS_AT + i * (I16 * n + REST_BYTES),
             n,
             v,
             slot + FIRST_ROW + i * ROW_SIZE,
@@ -85,22 +89,22 @@ fn write_band(s: &mut [u8], n: usize, v: &[i32; SLOTS], k: usize)
 }
 
 fn write_box(s: &mut [u8], n: usize, v: &[i32; SLOTS], slot: usize)
-    requires { ⌜ (n ≤ N) × ((slot + boxSize ≤ slots) × (2 + 8 * n ≤ length (now s))) ⌝ }
-    ensures { λ _. ⌜ ((h : ℕ) → now (s .exit) ≡ sets (now (s .entry)) 2 (coded (boxFields h slot) (now (v .entry)) (n * 2))) ⌝ }
+    requires { ⌜ (n ≤ N) × ((slot + boxSize ≤ slots) × (letters + boxBytes n ≤ length (now s))) ⌝ }
+    ensures { λ _. ⌜ ((h : ℕ) → now (s .exit) ≡ sets (now (s .entry)) letters (coded (boxFields h slot) (now (v .entry)) (boxCount n))) ⌝ }
 {
     let mut i: usize = 0;
     while i < n {
-        put_i32(s, LETTERS + PAIR * i, v, slot + i);
-        put_i32(s, LETTERS + PAIR * i + I32, v, slot + i + N);
+        put_i32(s, LETTERS + PAIR_BYTES * i, v, slot + i);
+        put_i32(s, LETTERS + PAIR_BYTES * i + UPPER_AT, v, slot + i + N);
         i = i + 1;
     }
 }
 
 // The numbers of the r-th record.
 fn write_numbers(s: &mut [u8], n: usize, bands: usize, boxes: usize, r: usize, v: &[i32; SLOTS])
-    requires { ⌜ (n ≤ N) × ((bands ≤ maxBands) × ((boxes ≤ maxBoxes) × (r < bands + boxes + 2))) ⌝ }
-    requires { ⌜ 2 + offset (fieldsAt (sized n bands boxes) r) (countAt (sized n bands boxes) r) ≤ length (now s) ⌝ }
-    ensures { λ _. ⌜ now (s .exit) ≡ sets (now (s .entry)) 2 (coded (fieldsAt (sized n bands boxes) r) (now (v .entry)) (countAt (sized n bands boxes) r)) ⌝ }
+    requires { ⌜ (n ≤ N) × ((bands ≤ maxBands) × ((boxes ≤ maxBoxes) × (r < records (sized n bands boxes)))) ⌝ }
+    requires { ⌜ letters + offset (fieldsAt (sized n bands boxes) r) (countAt (sized n bands boxes) r) ≤ length (now s) ⌝ }
+    ensures { λ _. ⌜ now (s .exit) ≡ sets (now (s .entry)) letters (coded (fieldsAt (sized n bands boxes) r) (now (v .entry)) (countAt (sized n bands boxes) r)) ⌝ }
 {
     if r == 0 {
         write_caps(s, n, v);
@@ -115,8 +119,8 @@ fn write_numbers(s: &mut [u8], n: usize, bands: usize, boxes: usize, r: usize, v
 
 // The r-th record, at the start of the part that it gets.
 fn write_record(s: &mut [u8], n: usize, bands: usize, boxes: usize, r: usize, v: &[i32; SLOTS])
-    requires { ⌜ (n ≤ N) × ((bands ≤ maxBands) × ((boxes ≤ maxBoxes) × (r < bands + boxes + 2))) ⌝ }
-    requires { ⌜ 2 + offset (fieldsAt (sized n bands boxes) r) (countAt (sized n bands boxes) r) ≤ length (now s) ⌝ }
+    requires { ⌜ (n ≤ N) × ((bands ≤ maxBands) × ((boxes ≤ maxBoxes) × (r < records (sized n bands boxes)))) ⌝ }
+    requires { ⌜ letters + offset (fieldsAt (sized n bands boxes) r) (countAt (sized n bands boxes) r) ≤ length (now s) ⌝ }
     ensures { λ _. ⌜ now (s .exit) ≡ sets (now (s .entry)) 0 (recordBytes n (recordAt (sized n bands boxes) r) (now (v .entry))) ⌝ }
 {
     let m = mark_of(bands, boxes, r);
@@ -128,8 +132,8 @@ fn write_record(s: &mut [u8], n: usize, bands: usize, boxes: usize, r: usize, v:
 // Every record, each in the part that starts at its place.
 fn write_records(s: &mut [u8], n: usize, bands: usize, boxes: usize, v: &[i32; SLOTS])
     requires { ⌜ (n ≤ N) × ((bands ≤ maxBands) × (boxes ≤ maxBoxes)) ⌝ }
-    requires { ⌜ start (sized n bands boxes) (bands + boxes + 2) ≤ length (now s) ⌝ }
-    ensures { λ _. ⌜ now (s .exit) ≡ sets (now (s .entry)) 0 (codedAll (sized n bands boxes) (now (v .entry)) (bands + boxes + 2)) ⌝ }
+    requires { ⌜ start (sized n bands boxes) (records (sized n bands boxes)) ≤ length (now s) ⌝ }
+    ensures { λ _. ⌜ now (s .exit) ≡ sets (now (s .entry)) 0 (codedAll (sized n bands boxes) (now (v .entry)) (records (sized n bands boxes))) ⌝ }
 {
     let mut at: usize = 0;
     let mut r: usize = 0;

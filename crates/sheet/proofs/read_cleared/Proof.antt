@@ -18,6 +18,7 @@ use Rattle.sheet.specs.Layout.{_▸_, head, headFields}
 use Rattle.sheet.specs.Sheet.{headOf}
 use Rattle.sheet.specs.Slots.{headSize}
 use Rattle.sheet.specs.Steps.{sized}
+use Rattle.sheet.specs.Sizes.{letters, capsAt}
 use Rattle.sheet.proofs.read_cleared.Statement.{statement}
 use Rattle.sheet.proofs.read_cleared.Tie as tie
 
@@ -25,12 +26,12 @@ right-is : (c : tie.After-marked) → c .marked .result ≡ marked (c .before .b
 unfolding recordAt _▸_ start
 right-is c = let m = c .before .mark-of .ensures 0 in mark-is (sized 0 0 0) 0 (c .before .before .before .before .args .f .now) refl (m .0) (m .1) (c .marked .ensures)
 
-begun : (c : tie.Else2) → leb 20 (length (c .before .before .before .before .before .args .f .now)) && marked (c .before .before .before .before .before .args .f .now) 0 head ≡ true
+begun : (c : tie.Else2) → leb capsAt (length (c .before .before .before .before .before .args .f .now)) && marked (c .before .before .before .before .before .args .f .now) 0 head ≡ true
 begun c = begins _ (c .before .before .before .if1 .left) (right-is (c .before)) (not-false _ (c .if2 .left))
 
 head-read : (c : tie.After-read-head) → c .read-head .last .1 .0 ≡ headOf (c .before .before .before .before .before .before .before .args .f .now)
 unfolding headOf
-head-read c = let d = c .before .before .before .before .before .before .before in c .read-head .ensures ∙ ap (filled headFields (d .args .f .now) 2 headSize) (d .pre)
+head-read c = let d = c .before .before .before .before .before .before .before in c .read-head .ensures ∙ ap (filled headFields (d .args .f .now) letters headSize) (d .pre)
 
 returns : tie.Need-returns
 returns c = (begins-short _ (c .if1 .taken), λ e. (let z : ⊥ = omega arith in absurd z))

@@ -8,19 +8,20 @@ use Rattle.sheet.proofs.CodeFile.{rows-most}
 use Rattle.sheet.proofs.Length.{file-length}
 use Rattle.sheet.specs.Slots.{N, maxBands, maxBoxes}
 use Rattle.sheet.specs.Steps.{sized}
+use Rattle.sheet.specs.Sizes.{letters, rowBytes, bandHead, boxBytes}
 use Rattle.sheet.proofs.marks.file_length.Statement.{statement}
 use Rattle.sheet.proofs.marks.file_length.Tie as tie
 
 module _ (c : tie.Start) where
-  rows : c .args .n * (2 * c .args .n + 12) ≤ N * (2 * N + 12)
+  rows : c .args .n * rowBytes (c .args .n) ≤ N * rowBytes N
   rows = rows-most (c .args .n) (c .pre .0)
 
-  all-bands : c .args .bands * (14 + c .args .n * (2 * c .args .n + 12)) ≤ maxBands * (14 + N * (2 * N + 12))
-  all-bands = let l : 14 + c .args .n * (2 * c .args .n + 12) ≤ 14 + N * (2 * N + 12) = omega (arith, rows) in mul-le-mul (c .pre .1 .0) l
+  all-bands : c .args .bands * (bandHead + c .args .n * rowBytes (c .args .n)) ≤ maxBands * (bandHead + N * rowBytes N)
+  all-bands = let l : bandHead + c .args .n * rowBytes (c .args .n) ≤ bandHead + N * rowBytes N = omega (arith, rows) in mul-le-mul (c .pre .1 .0) l
 
-  all-boxes : (2 + 8 * c .args .n) * (c .args .boxes + 1) ≤ (2 + 8 * N) * (maxBoxes + 1)
+  all-boxes : (letters + boxBytes (c .args .n)) * (c .args .boxes + 1) ≤ (letters + boxBytes N) * (maxBoxes + 1)
   all-boxes =
-      let l : 2 + 8 * c .args .n ≤ 2 + 8 * N = omega (arith, c .pre .0) in
+      let l : letters + boxBytes (c .args .n) ≤ letters + boxBytes N = omega (arith, c .pre .0) in
       let k : c .args .boxes + 1 ≤ maxBoxes + 1 = omega (arith, c .pre .1 .1) in
       mul-le-mul l k
 

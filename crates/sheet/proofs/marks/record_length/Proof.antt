@@ -1,7 +1,7 @@
 -- `record_length`: the letters and what follows them. Assumes nothing.
 use native.Mathlib.Omega.{arith}
 use borrow.Author.Needs.{needs}
-use Rattle.sheet.proofs.CodeFile.{band-is, box-bytes, bytes-after, head-is, rows-most}
+use Rattle.sheet.proofs.CodeFile.{band-is, box-size-is, size-is, head-is, rows-most}
 use Rattle.sheet.specs.File.{Shape}
 use Rattle.sheet.specs.Steps.{sized}
 use Rattle.sheet.proofs.marks.record_length.Statement.{statement}
@@ -17,7 +17,7 @@ add-result : tie.Need-add-result
 add-result c = search needs
 
 returns : tie.Need-returns
-returns c = omega (arith, bytes-after (shape-at (c .before)) (c .before .args .r) (head-is (shape-at (c .before)) (c .before .args .r) (c .if1 .taken)))
+returns c = omega (arith, size-is (shape-at (c .before)) (c .before .args .r) (head-is (shape-at (c .before)) (c .before .args .r) (c .if1 .taken)))
 
 mul-result-2 : tie.Need-mul-result-2
 mul-result-2 c = search needs
@@ -32,7 +32,7 @@ add-result-3 : tie.Need-add-result-3
 add-result-3 c = omega (arith, rows-most (c .before .before .args .n) (c .before .before .pre .0))
 
 returns-2 : tie.Need-returns-2
-returns-2 c = omega (arith, bytes-after (shape-at (c .before .before)) (c .before .before .args .r) (band-is (shape-at (c .before .before)) (c .before .before .args .r) (c .before .if1 .left) (c .if2 .taken)))
+returns-2 c = omega (arith, size-is (shape-at (c .before .before)) (c .before .before .args .r) (band-is (shape-at (c .before .before)) (c .before .before .args .r) (c .before .if1 .left) (c .if2 .taken)))
 
 mul-result-4 : tie.Need-mul-result-4
 mul-result-4 c = search needs
@@ -41,7 +41,7 @@ add-result-4 : tie.Need-add-result-4
 add-result-4 c = search needs
 
 returns-3 : tie.Need-returns-3
-returns-3 c = omega (arith, box-bytes (shape-at (c .before .before)) (c .before .before .args .r) (omega arith) (omega arith))
+returns-3 c = omega (arith, box-size-is (shape-at (c .before .before)) (c .before .before .args .r) (omega arith) (omega arith))
 
 pub record-length-spec : {M : Type 1} → statement M
 record-length-spec =

@@ -7,28 +7,28 @@ use borrow.Author.Needs.{needs}
 use Rattle.integers.specs.Bound.{m}
 use Rattle.sheet.proofs.CodeFile.{bad-is, bad-more, mark-is, record-room, start-more}
 use Rattle.sheet.specs.Fields.{offset}
-use Rattle.sheet.specs.File.{badAll, countAt, fieldsAt, markedAt, start}
+use Rattle.sheet.specs.File.{badAll, countAt, fieldsAt, markedAt, start, records}
 use Rattle.sheet.specs.Refusals.{firstRefusal}
-use Rattle.sheet.specs.Slots.{bands, boxes}
 use Rattle.sheet.specs.Steps.{orElse, sized}
+use Rattle.sheet.specs.Sizes.{letters}
 use Rattle.sheet.proofs.reader.bad_file.Statement.{statement}
 use Rattle.sheet.proofs.reader.bad_file.Tie as tie
 
 abbrev Inv-loop : tie.InvT-loop
-Inv-loop f n bands boxes v x₀ at₀ r₀ x at r = (r ≤ bands + boxes + 2) × ((at ≡ start (sized n bands boxes) r) × (x ≡ badAll (markedAt (sized n bands boxes) f) (sized n bands boxes) v r))
+Inv-loop f n bands boxes v x₀ at₀ r₀ x at r = (r ≤ records (sized n bands boxes)) × ((at ≡ start (sized n bands boxes) r) × (x ≡ badAll (markedAt (sized n bands boxes) f) (sized n bands boxes) v r))
 
 abbrev μ-loop : tie.MeasureT-loop
-μ-loop f n bands boxes v x₀ at₀ r₀ x at r = bands + boxes + 2 - r
+μ-loop f n bands boxes v x₀ at₀ r₀ x at r = records (sized n bands boxes) - r
 
 -- the r-th record lies within the file
 within-file : (c : tie.In-loop Inv-loop μ-loop)
     → (let a = c .before .before .before .args in
     let s = sized (a .n) (a .bands) (a .boxes) in
     let r = c .before .loop .r in
-    c .before .loop .at + (2 + offset (fieldsAt s r) (countAt s r)) ≤ length (a .f .now))
+    c .before .loop .at + (letters + offset (fieldsAt s r) (countAt s r)) ≤ length (a .f .now))
 within-file c =
     let a = c .before .before .before .args in
-    omega (arith, c .before .loop .inv .1 .0, record-room (sized (a .n) (a .bands) (a .boxes)) (c .before .loop .r) (a .bands + a .boxes + 2) (length (a .f .now)) (omega arith) (c .before .before .before .pre .1))
+    omega (arith, c .before .loop .inv .1 .0, record-room (sized (a .n) (a .bands) (a .boxes)) (c .before .loop .r) (records (sized (a .n) (a .bands) (a .boxes))) (length (a .f .now)) (omega arith) (c .before .before .before .pre .1))
 
 loop-holds : tie.Need-loop-holds Inv-loop μ-loop
 unfolding start badAll firstRefusal
@@ -75,20 +75,20 @@ loop-again c = let w = c .before .before in
     let s = sized (a .n) (a .bands) (a .boxes) in
     let r = d .loop .r in
     let i = d .loop .inv .1 in
-    let letters = m .before .mark-of .ensures (a .n) in
+    let mark = m .before .mark-of .ensures (a .n) in
     let marks = markedAt s (a .f .now) in (
       omega arith,
       (
         omega (arith, i .0, c .record-length .ensures, start-more s r),
         c .before .first .ensures
-            ∙ ap₂ orElse (i .1) (bad-is s r marks (a .v .now) (mark-is s r (a .f .now) (i .0) (letters .0) (letters .1) (m .marked .ensures)) (w .before .bad-record .ensures) (w .wrong .ensures))
+            ∙ ap₂ orElse (i .1) (bad-is s r marks (a .v .now) (mark-is s r (a .f .now) (i .0) (mark .0) (mark .1) (m .marked .ensures)) (w .before .bad-record .ensures) (w .wrong .ensures))
             ∙ sym (bad-more s r marks (a .v .now)),
       ),
     )
 
 returns : tie.Need-returns Inv-loop μ-loop
 returns c = let a = c .before .before .before .args in
-    let e : c .before .loop .r ≡ a .bands + a .boxes + 2 = omega arith in
+    let e : c .before .loop .r ≡ records (sized (a .n) (a .bands) (a .boxes)) = omega arith in
     let s = sized (a .n) (a .bands) (a .boxes) in
     c .before .loop .inv .1 .1 ∙ ap (badAll (markedAt s (a .f .now)) s (a .v .now)) e
 

@@ -12,20 +12,21 @@ use Rattle.sheet.proofs.CodePlaces.{band-filled, row-room}
 use Rattle.sheet.proofs.CodeValues.{stored}
 use Rattle.sheet.proofs.Length.{row-offset}
 use Rattle.sheet.specs.Fields.{filled, offset}
-use Rattle.sheet.specs.Layout.{bandFields, rowFields}
-use Rattle.sheet.specs.Slots.{rowSlot}
+use Rattle.sheet.specs.Layout.{bandFields, rowFields, rowCount}
+use Rattle.sheet.specs.Slots.{rowSlot, firstRow}
+use Rattle.sheet.specs.Sizes.{rowsAt, rowBytes}
 use Rattle.sheet.proofs.reader.read_band.Statement.{statement}
 use Rattle.sheet.proofs.reader.read_band.Tie as tie
 
 abbrev Inv-loop : tie.InvT-loop
-Inv-loop f at n k v₀ slot i₀ v i = (i ≤ n) × ((w : List ℤ) → v₀ ≡ filled (bandFields n k) f at 3 w → v ≡ filled (bandFields n k) f at (3 + i * (n + 4)) w)
+Inv-loop f at n k v₀ slot i₀ v i = (i ≤ n) × ((w : List ℤ) → v₀ ≡ filled (bandFields n k) f at firstRow w → v ≡ filled (bandFields n k) f at (firstRow + i * rowCount n) w)
 
 abbrev μ-loop : tie.MeasureT-loop
 μ-loop f at n k v₀ slot i₀ v i = n - i
 
 within-rows : (c : tie.In-loop Inv-loop μ-loop)
-    → c .before .loop .i * (2 * c .before .before .before .before .before .before .args .n + 12) + (2 * c .before .before .before .before .before .before .args .n + 12)
-    ≤ c .before .before .before .before .before .before .args .n * (2 * c .before .before .before .before .before .before .args .n + 12)
+    → (let n = c .before .before .before .before .before .before .args .n in
+    c .before .loop .i * rowBytes n + rowBytes n ≤ n * rowBytes n)
 within-rows c = row-room _ _ (c .loop-test .taken)
 
 mul-slot : tie.Need-mul-slot Inv-loop μ-loop
@@ -117,11 +118,11 @@ loop-again c = let d = c .before .before .before in
     let p = bandFields n (a .k) in
     let q = rowFields n (rowSlot (a .k) i) in
     let f = a .f .now in
-    let e : a .at + 12 + i * (2 * n + 12) ≡ a .at + offset p (3 + i * (n + 4)) = omega (arith, row-offset n (a .k) i) in (
+    let e : a .at + rowsAt + i * rowBytes n ≡ a .at + offset p (firstRow + i * rowCount n) = omega (arith, row-offset n (a .k) i) in (
       omega arith,
       λ w h.
-          c .read-row .ensures ∙ ap₂ (λ (b : ℕ) (u : List ℤ). filled q f b (n + 4) u) e (d .loop .inv .1 w h)
-          ∙ sym (filled-part p q (3 + i * (n + 4)) (n + 4) (row-run n (a .k) i) f (a .at) w) ∙ ap (λ (j : ℕ). filled p f (a .at) j w) (row-next n i),
+          c .read-row .ensures ∙ ap₂ (λ (b : ℕ) (u : List ℤ). filled q f b (rowCount n) u) e (d .loop .inv .1 w h)
+          ∙ sym (filled-part p q (firstRow + i * rowCount n) (rowCount n) (row-run n (a .k) i) f (a .at) w) ∙ ap (λ (j : ℕ). filled p f (a .at) j w) (row-next n i),
     )
 
 returns : tie.Need-returns Inv-loop μ-loop
@@ -133,7 +134,7 @@ returns c = let d = c .before .before in
     let three = d .get-i323 in
     c .before .loop .inv .1 (a .v .now)
     (rw (stored (one .ensures) (one .ok), stored (two .ensures) (two .ok), stored (three .ensures) (three .ok)) (sym (band-filled (a .n) (a .k) (a .f .now) (a .at) (a .v .now))))
-    ∙ ap (λ (i : ℕ). filled (bandFields (a .n) (a .k)) (a .f .now) (a .at) (3 + i * (a .n + 4)) (a .v .now)) e
+    ∙ ap (λ (i : ℕ). filled (bandFields (a .n) (a .k)) (a .f .now) (a .at) (firstRow + i * rowCount (a .n)) (a .v .now)) e
 
 pub read-band-spec : {M : Type 1} → statement M
 read-band-spec =

@@ -2,18 +2,20 @@
 use mathlib.Core.Path.{_∙_, _≡_, ap, refl}
 use Prim.Native.Nat.{_*_, _+_, _-_, _≤_, ℕ}
 use native.Mathlib.Omega.{arith}
+use Rattle.sheet.specs.Slots.{sides}
 use Rattle.sheet.proofs.CodeFields.{filled-next}
 use Rattle.sheet.proofs.CodeLayout.{side-run}
 use Rattle.sheet.proofs.CodePlaces.{upper-offset}
 use Rattle.sheet.proofs.CodeValues.{stored}
 use Rattle.sheet.proofs.Length.{side-offset}
 use Rattle.sheet.specs.Fields.{filled, offset}
+use Rattle.sheet.specs.Sizes.{upperAt, boxBytes}
 use Rattle.sheet.specs.Layout.{_▸_, boxFields, sideFields}
 use Rattle.sheet.proofs.reader.read_box.Statement.{statement}
 use Rattle.sheet.proofs.reader.read_box.Tie as tie
 
 abbrev Inv-loop : tie.InvT-loop
-Inv-loop f at n slot v₀ i₀ v i = (i ≤ n) × ((h : ℕ) → v ≡ filled (boxFields h slot) f at (i * 2) v₀)
+Inv-loop f at n slot v₀ i₀ v i = (i ≤ n) × ((h : ℕ) → v ≡ filled (boxFields h slot) f at (i * sides) v₀)
 
 abbrev μ-loop : tie.MeasureT-loop
 μ-loop f at n slot v₀ i₀ v i = n - i
@@ -78,12 +80,12 @@ loop-again c = let d = c .before .before .before in
     let s = a .slot in
     let f = a .f .now in
     let v = a .v .now in
-    let z : i * 2 + 0 ≡ i * 2 = omega arith in (
+    let z : i * sides + 0 ≡ i * sides = omega arith in (
       omega arith,
       λ h.
-          filled-next (boxFields h s) (i * 2 + 1) ((i + 1) * 2) (omega arith) _ (side-run h s i .at 1 (omega arith)) f (a .at) v (a .at + 8 * i + 4)
+          filled-next (boxFields h s) (i * sides + 1) ((i + 1) * sides) (omega arith) _ (side-run h s i .at 1 (omega arith)) f (a .at) v (a .at + boxBytes i + upperAt)
           refl (stored (c .get-i322 .ensures) (c .get-i322 .ok)) (omega (arith, upper-offset h s i))
-          (filled-next (boxFields h s) (i * 2 + 0) (i * 2 + 1) (omega arith) _ (side-run h s i .at 0 (omega arith)) f (a .at) v (a .at + 8 * i)
+          (filled-next (boxFields h s) (i * sides + 0) (i * sides + 1) (omega arith) _ (side-run h s i .at 0 (omega arith)) f (a .at) v (a .at + boxBytes i)
           refl (stored (c .before .get-i32 .ensures) (c .before .get-i32 .ok)) (omega (arith, side-offset h s i, ap (offset (boxFields h s)) z))
           (d .loop .inv .1 h ∙ ap (λ (j : ℕ). filled (boxFields h s) f (a .at) j v) (omega arith))),
     )
@@ -91,7 +93,7 @@ loop-again c = let d = c .before .before .before in
 returns : tie.Need-returns Inv-loop μ-loop
 returns c = let a = c .before .before .before .args in
     let e : c .before .loop .i ≡ a .n = omega arith in
-    λ h. c .before .loop .inv .1 h ∙ ap (λ (i : ℕ). filled (boxFields h (a .slot)) (a .f .now) (a .at) (i * 2) (a .v .now)) e
+    λ h. c .before .loop .inv .1 h ∙ ap (λ (i : ℕ). filled (boxFields h (a .slot)) (a .f .now) (a .at) (i * sides) (a .v .now)) e
 
 pub read-box-spec : {M : Type 1} → statement M
 read-box-spec =

@@ -1,6 +1,6 @@
 -- `read_caps`: the head with its caps. Assumes nothing.
 use mathlib.Core.Path.{_∙_, _≡_, ap₂, refl, sym}
-use Prim.Native.Nat.{_*_, _+_, _-_, _≤_}
+use Prim.Native.Nat.{_+_, _-_, _≤_}
 use native.Mathlib.Omega.{arith}
 use Rattle.sheet.proofs.CodeFields.{filled-next, filled-part}
 use Rattle.sheet.proofs.CodePlaces.{cap-place, cap-run}
@@ -8,11 +8,12 @@ use Rattle.sheet.proofs.CodeValues.{stored}
 use Rattle.sheet.specs.Fields.{filled, offset}
 use Rattle.sheet.specs.Layout.{_▸_, capField, headFields}
 use Rattle.sheet.specs.Slots.{headSize}
+use Rattle.sheet.specs.Sizes.{letters, capsAt, capBytes}
 use Rattle.sheet.proofs.reader.read_caps.Statement.{statement}
 use Rattle.sheet.proofs.reader.read_caps.Tie as tie
 
 abbrev Inv-loop : tie.InvT-loop
-Inv-loop f n v₀ i₀ v i = (i ≤ n) × (v ≡ filled capField f 20 i v₀)
+Inv-loop f n v₀ i₀ v i = (i ≤ n) × (v ≡ filled capField f capsAt i v₀)
 
 abbrev μ-loop : tie.MeasureT-loop
 μ-loop f n v₀ i₀ v i = n - i
@@ -52,7 +53,7 @@ loop-again : tie.Need-loop-again Inv-loop μ-loop
 loop-again c = let d = c .before .before in
     let i = d .loop .i in (
       omega arith,
-      filled-next capField i (i + 1) refl _ refl (d .before .before .before .before .args .f .now) 20 (d .before .read-head .last .1 .0) (20 + 2 * i)
+      filled-next capField i (i + 1) refl _ refl (d .before .before .before .before .args .f .now) capsAt (d .before .read-head .last .1 .0) (capsAt + capBytes i)
           refl (stored (c .get-u16 .ensures) (c .get-u16 .ok)) (omega (arith, cap-place i)) (d .loop .inv .1),
     )
 
@@ -61,8 +62,8 @@ unfolding headFields _▸_ offset
 returns c = let d = c .before .before in
     let a = d .before .before .before .args in
     let e : c .before .loop .i ≡ a .n = omega arith in
-    c .before .loop .inv .1 ∙ ap₂ (filled capField (a .f .now) 20) e (d .read-head .ensures)
-    ∙ sym (filled-part headFields capField headSize (a .n) (cap-run (a .n)) (a .f .now) 2 (a .v .now))
+    c .before .loop .inv .1 ∙ ap₂ (filled capField (a .f .now) capsAt) e (d .read-head .ensures)
+    ∙ sym (filled-part headFields capField headSize (a .n) (cap-run (a .n)) (a .f .now) letters (a .v .now))
 
 pub read-caps-spec : {M : Type 1} → statement M
 read-caps-spec =

@@ -6,13 +6,14 @@ use native.Mathlib.Omega.{arith}
 use lib.IntN.{ℤ}
 use lib.ListN.{length}
 use borrow.Author.Needs.{needs}
-use Rattle.sheet.proofs.CodeFile.{band-is, bytes-after, head-is, recovery-is, unsafe-is}
-use Rattle.sheet.proofs.Length.{bodySize}
+use Rattle.sheet.proofs.CodeFile.{band-is, size-is, head-is, recovery-is, unsafe-is}
+use Rattle.sheet.proofs.Length.{recordSize}
 use Rattle.sheet.specs.Fields.{filled}
 use Rattle.sheet.specs.File.{Shape, countAt, fieldsAt, recordAt, start}
-use Rattle.sheet.specs.Layout.{Record, band, count, fields, head, headFields, recovery, unsafe}
+use Rattle.sheet.specs.Layout.{Record, band, count, fields, head, headFields, recovery, recoveryLimit, unsafe, unsafeLimit}
 use Rattle.sheet.specs.Slots.{headSize}
 use Rattle.sheet.specs.Steps.{sized}
+use Rattle.sheet.specs.Sizes.{letters}
 use Rattle.sheet.proofs.reader.read_record.Statement.{statement}
 use Rattle.sheet.proofs.reader.read_record.Tie as tie
 
@@ -21,13 +22,13 @@ module _ (c : tie.Start) where
   s = sized (c .args .n) (c .args .bands) (c .args .boxes)
 
   -- the record x ends within the file
-  ends : {x : Record} → recordAt s (c .args .r) ≡ x → c .args .at + 2 + bodySize (c .args .n) x ≤ length (c .args .f .now)
-  ends e = omega (arith, c .pre .1 .1, bytes-after s (c .args .r) e)
+  ends : {x : Record} → recordAt s (c .args .r) ≡ x → c .args .at + recordSize (c .args .n) x ≤ length (c .args .f .now)
+  ends e = omega (arith, c .pre .1 .1, size-is s (c .args .r) e)
 
   -- and its numbers are those of the r-th
-  those : {x : Record} {w : List ℤ} → recordAt s (c .args .r) ≡ x → w ≡ filled (fields (c .args .n) x) (c .args .f .now) (c .args .at + 2) (count (c .args .n) x) (c .args .v .now)
-      → w ≡ filled (fieldsAt s (c .args .r)) (c .args .f .now) (c .args .at + 2) (countAt s (c .args .r)) (c .args .v .now)
-  those e h = h ∙ ap (λ (x : Record). filled (fields (c .args .n) x) (c .args .f .now) (c .args .at + 2) (count (c .args .n) x) (c .args .v .now)) (sym e)
+  those : {x : Record} {w : List ℤ} → recordAt s (c .args .r) ≡ x → w ≡ filled (fields (c .args .n) x) (c .args .f .now) (c .args .at + letters) (count (c .args .n) x) (c .args .v .now)
+      → w ≡ filled (fieldsAt s (c .args .r)) (c .args .f .now) (c .args .at + letters) (countAt s (c .args .r)) (c .args .v .now)
+  those e h = h ∙ ap (λ (x : Record). filled (fields (c .args .n) x) (c .args .f .now) (c .args .at + letters) (count (c .args .n) x) (c .args .v .now)) (sym e)
 
 is-head : (c : tie.Then1) → recordAt (s (c .before .before)) (c .before .before .args .r) ≡ head
 is-head c = head-is _ _ (c .if1 .taken)
@@ -41,7 +42,7 @@ is-unsafe c = unsafe-is _ _ (omega arith) (omega arith)
 is-recovery : (c : tie.Else3) → recordAt (s (c .before .before .before .before)) (c .before .before .before .before .args .r) ≡ recovery
 is-recovery c = recovery-is _ _ (omega arith) (omega arith)
 
-at-head : (c : tie.Then1) → 2 ≡ c .before .before .args .at + 2
+at-head : (c : tie.Then1) → letters ≡ c .before .before .args .at + letters
 unfolding start
 at-head c = omega (arith, c .before .before .pre .1 .0, ap (start (s (c .before .before))) (c .if1 .taken))
 
@@ -90,11 +91,11 @@ returns-2 c = those (c .before .before .before .before .before) (is-band (c .bef
 
 returns-3 : tie.Need-returns-3
 unfolding fields
-returns-3 c = those (c .before .before .before .before .before .before) (is-unsafe (c .before .before)) (c .read-box .ensures 2000000)
+returns-3 c = those (c .before .before .before .before .before .before) (is-unsafe (c .before .before)) (c .read-box .ensures unsafeLimit)
 
 returns-4 : tie.Need-returns-4
 unfolding fields
-returns-4 c = those (c .before .before .before .before .before .before) (is-recovery (c .before .before)) (c .read-box2 .ensures 1000000)
+returns-4 c = those (c .before .before .before .before .before .before) (is-recovery (c .before .before)) (c .read-box2 .ensures recoveryLimit)
 
 pub read-record-spec : {M : Type 1} → statement M
 read-record-spec =

@@ -7,27 +7,27 @@ use lib.IntN.{ℤ}
 use lib.ListN.{length}
 use Rattle.sheet.proofs.CodeFile.{filled-more, record-room, start-more}
 use Rattle.sheet.specs.Fields.{filled, offset}
-use Rattle.sheet.specs.File.{countAt, fieldsAt, filledAll, start}
-use Rattle.sheet.specs.Slots.{bands, boxes}
+use Rattle.sheet.specs.File.{countAt, fieldsAt, filledAll, start, records}
 use Rattle.sheet.specs.Steps.{sized}
+use Rattle.sheet.specs.Sizes.{letters}
 use Rattle.sheet.proofs.reader.read_records.Statement.{statement}
 use Rattle.sheet.proofs.reader.read_records.Tie as tie
 
 abbrev Inv-loop : tie.InvT-loop
-Inv-loop f n bands boxes v₀ at₀ r₀ v at r = (r ≤ bands + boxes + 2) × ((at ≡ start (sized n bands boxes) r) × (v ≡ filledAll (sized n bands boxes) f r v₀))
+Inv-loop f n bands boxes v₀ at₀ r₀ v at r = (r ≤ records (sized n bands boxes)) × ((at ≡ start (sized n bands boxes) r) × (v ≡ filledAll (sized n bands boxes) f r v₀))
 
 abbrev μ-loop : tie.MeasureT-loop
-μ-loop f n bands boxes v₀ at₀ r₀ v at r = bands + boxes + 2 - r
+μ-loop f n bands boxes v₀ at₀ r₀ v at r = records (sized n bands boxes) - r
 
 -- the r-th record lies within the file
 within-file : (c : tie.In-loop Inv-loop μ-loop)
     → (let a = c .before .before .before .args in
     let s = sized (a .n) (a .bands) (a .boxes) in
     let r = c .before .loop .r in
-    c .before .loop .at + (2 + offset (fieldsAt s r) (countAt s r)) ≤ length (a .f .now))
+    c .before .loop .at + (letters + offset (fieldsAt s r) (countAt s r)) ≤ length (a .f .now))
 within-file c =
     let a = c .before .before .before .args in
-    omega (arith, c .before .loop .inv .1 .0, record-room (sized (a .n) (a .bands) (a .boxes)) (c .before .loop .r) (a .bands + a .boxes + 2) (length (a .f .now)) (omega arith) (c .before .before .before .pre .1))
+    omega (arith, c .before .loop .inv .1 .0, record-room (sized (a .n) (a .bands) (a .boxes)) (c .before .loop .r) (records (sized (a .n) (a .bands) (a .boxes))) (length (a .f .now)) (omega arith) (c .before .before .before .pre .1))
 
 loop-holds : tie.Need-loop-holds Inv-loop μ-loop
 unfolding start filledAll
@@ -63,13 +63,13 @@ loop-again c = let d = c .before .before .before .before in
       omega arith,
       (
         omega (arith, i .0, c .record-length .ensures, start-more s r),
-        c .before .read-record .ensures ∙ ap₂ (λ (b : ℕ) (u : List ℤ). filled (fieldsAt s r) (a .f .now) (b + 2) (countAt s r) u) (i .0) (i .1) ∙ sym (filled-more s r (a .f .now) (a .v .now)),
+        c .before .read-record .ensures ∙ ap₂ (λ (b : ℕ) (u : List ℤ). filled (fieldsAt s r) (a .f .now) (b + letters) (countAt s r) u) (i .0) (i .1) ∙ sym (filled-more s r (a .f .now) (a .v .now)),
       ),
     )
 
 returns : tie.Need-returns Inv-loop μ-loop
 returns c = let a = c .before .before .before .args in
-    let e : c .before .loop .r ≡ a .bands + a .boxes + 2 = omega arith in
+    let e : c .before .loop .r ≡ records (sized (a .n) (a .bands) (a .boxes)) = omega arith in
     c .before .loop .inv .1 .1 ∙ ap (λ (r : ℕ). filledAll (sized (a .n) (a .bands) (a .boxes)) (a .f .now) r (a .v .now)) e
 
 pub read-records-spec : {M : Type 1} → statement M

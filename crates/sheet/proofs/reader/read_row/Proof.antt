@@ -1,13 +1,16 @@
 -- `read_row`: a row's coefficients, and then b, c, d and q. Assumes nothing.
 use mathlib.Core.Path.{_∙_, _≡_, ap, refl}
-use Prim.Native.Nat.{_*_, _+_, _-_, _≤_, ℕ}
+use Prim.Native.Nat.{_+_, _-_, _≤_, ℕ}
 use native.Mathlib.Omega.{arith}
 use Rattle.integers.specs.Bound.{p}
+use Rattle.sheet.specs.Slots.{bInRest, cInRest, dInRest, qInRest}
 use Rattle.sheet.proofs.CodeFields.{filled-next}
-use Rattle.sheet.proofs.CodeLayout.{coefficient-at, rest-at}
+use Rattle.sheet.proofs.CodeLayout.{coefficient-at}
+use Rattle.sheet.proofs.CodePlaces.{filled-rest}
 use Rattle.sheet.proofs.CodeValues.{stored}
-use Rattle.sheet.proofs.Length.{coefficient-offset, rest-offset}
+use Rattle.sheet.proofs.Length.{coefficient-offset}
 use Rattle.sheet.specs.Fields.{filled, offset}
+use Rattle.sheet.specs.Sizes.{coefficientBytes, cAt, dAt, qAt}
 use Rattle.sheet.specs.Layout.{_▸_, rowFields, rowRest}
 use Rattle.sheet.proofs.reader.read_row.Statement.{statement}
 use Rattle.sheet.proofs.reader.read_row.Tie as tie
@@ -51,7 +54,7 @@ loop-again c = let d = c .before .before in
     let a = d .before .before .args in
     let j = d .loop .j in (
       omega arith,
-      filled-next (rowFields (a .n) (a .slot)) j (j + 1) refl _ (coefficient-at (a .n) (a .slot) j (omega arith)) (a .f .now) (a .at) (a .v .now) (a .at + 2 * j)
+      filled-next (rowFields (a .n) (a .slot)) j (j + 1) refl _ (coefficient-at (a .n) (a .slot) j (omega arith)) (a .f .now) (a .at) (a .v .now) (a .at + coefficientBytes j)
           refl (stored (c .get-i16 .ensures) (c .get-i16 .ok)) (omega (arith, coefficient-offset (a .n) (a .slot) j (omega arith))) (d .loop .inv .1),
     )
 
@@ -131,10 +134,10 @@ returns c = let c2 = c .before in
     let f = a .f .now in
     let v = a .v .now in
     let e : d .loop .j ≡ n + 0 = omega arith in
-    filled-next p (n + 3) (n + 4) (omega arith) _ (rest-at n s 3) f (a .at) v (a .at + 2 * n + 10) (omega arith) (stored (c .get-u16 .ensures) (c .get-u16 .ok)) (omega (arith, rest-offset n s 3))
-    (filled-next p (n + 2) (n + 3) (omega arith) _ (rest-at n s 2) f (a .at) v (a .at + 2 * n + 6) (omega arith) (stored (c2 .get-i322 .ensures) (c2 .get-i322 .ok)) (omega (arith, rest-offset n s 2))
-    (filled-next p (n + 1) (n + 2) (omega arith) _ (rest-at n s 1) f (a .at) v (a .at + 2 * n + 2) (omega arith) (stored (c1 .get-i32 .ensures) (c1 .get-i32 .ok)) (omega (arith, rest-offset n s 1))
-    (filled-next p (n + 0) (n + 1) (omega arith) _ (rest-at n s 0) f (a .at) v (a .at + 2 * n) (omega arith) (stored (c0 .get-i162 .ensures) (c0 .get-i162 .ok)) (omega (arith, rest-offset n s 0))
+    filled-rest n s qInRest f (a .at) v (a .at + coefficientBytes n + qAt) (omega arith) (stored (c .get-u16 .ensures) (c .get-u16 .ok)) (omega arith)
+    (filled-rest n s dInRest f (a .at) v (a .at + coefficientBytes n + dAt) (omega arith) (stored (c2 .get-i322 .ensures) (c2 .get-i322 .ok)) (omega arith)
+    (filled-rest n s cInRest f (a .at) v (a .at + coefficientBytes n + cAt) (omega arith) (stored (c1 .get-i32 .ensures) (c1 .get-i32 .ok)) (omega arith)
+    (filled-rest n s bInRest f (a .at) v (a .at + coefficientBytes n) (omega arith) (stored (c0 .get-i162 .ensures) (c0 .get-i162 .ok)) (omega arith)
     (d .loop .inv .1 ∙ ap (λ (j : ℕ). filled p f (a .at) j v) e))))
 
 pub read-row-spec : {M : Type 1} → statement M

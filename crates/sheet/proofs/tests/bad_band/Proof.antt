@@ -4,19 +4,19 @@ use Prim.Native.Nat.{_*_, _+_, _-_, _≤_, ℕ}
 use native.Mathlib.Omega.{arith}
 use borrow.Author.Needs.{needs}
 use Rattle.integers.specs.Bound.{p}
-use Rattle.sheet.proofs.CodeFields.{bad-next, bad-part}
+use Rattle.sheet.proofs.CodeFields.{bad-field, bad-next, bad-part}
 use Rattle.sheet.proofs.CodeLayout.{row-next, row-run}
 use Rattle.sheet.proofs.CodeValues.{held}
 use Rattle.sheet.specs.Fields.{bad}
-use Rattle.sheet.specs.Layout.{_▸_, bandFields, rowFields}
+use Rattle.sheet.specs.Layout.{_▸_, bandFields, rowFields, rowCount}
 use Rattle.sheet.specs.Refusals.{firstRefusal}
-use Rattle.sheet.specs.Slots.{rowSlot}
+use Rattle.sheet.specs.Slots.{rowSlot, firstRow, leastInBand, greatestInBand}
 use Rattle.sheet.specs.Steps.{orElse}
 use Rattle.sheet.proofs.tests.bad_band.Statement.{statement}
 use Rattle.sheet.proofs.tests.bad_band.Tie as tie
 
 abbrev Inv-loop : tie.InvT-loop
-Inv-loop v n k slot greatest x₀ i₀ x i = (i ≤ n) × (x ≡ bad (bandFields n k) v (3 + i * (n + 4)))
+Inv-loop v n k slot greatest x₀ i₀ x i = (i ≤ n) × (x ≡ bad (bandFields n k) v (firstRow + i * rowCount n))
 
 abbrev μ-loop : tie.MeasureT-loop
 μ-loop v n k slot greatest x₀ i₀ x i = n - i
@@ -62,8 +62,8 @@ loop-holds c = let d = c .before .before .before .before in
     let v = a .v .now in
     let greatest = d .before .value .ensures in (
       omega arith,
-      bad-next p 2 (3 + 0 * (a .n + 4)) (omega arith) _ refl v (c .after2 .ensures (p 2) (omega arith) (held (c .before .value3 .ensures .0) (c .before .value3 .ensures .1)) (held (greatest .0) (greatest .1)) refl)
-          (bad-next p 1 2 refl _ refl v (c .before .before .after .ensures (p 1) (omega arith) (held (c .before .before .before .value2 .ensures .0) (c .before .before .before .value2 .ensures .1)) (held (greatest .0) (greatest .1)) refl)
+      bad-next p greatestInBand (firstRow + 0 * rowCount (a .n)) (omega arith) _ refl v (c .after2 .ensures (p greatestInBand) (omega arith) (held (c .before .value3 .ensures .0) (c .before .value3 .ensures .1)) (held (greatest .0) (greatest .1)) refl)
+          (bad-field p v leastInBand (c .before .before .after .ensures (p leastInBand) (omega arith) (held (c .before .before .before .value2 .ensures .0) (c .before .before .before .value2 .ensures .1)) (held (greatest .0) (greatest .1)) refl)
           (d .bad-edge .ensures)),
     )
 
@@ -97,13 +97,13 @@ loop-again c = let d = c .before .before .before in
     let v = a .v .now in (
       omega arith,
       c .first .ensures ∙ ap₂ orElse (d .loop .inv .1) (c .before .bad-row .ensures)
-          ∙ sym (bad-part p (rowFields n (rowSlot (a .k) i)) (3 + i * (n + 4)) (n + 4) (row-run n (a .k) i) v) ∙ ap (bad p v) (row-next n i),
+          ∙ sym (bad-part p (rowFields n (rowSlot (a .k) i)) (firstRow + i * rowCount n) (rowCount n) (row-run n (a .k) i) v) ∙ ap (bad p v) (row-next n i),
     )
 
 returns : tie.Need-returns Inv-loop μ-loop
 returns c = let a = c .before .before .before .before .before .before .before .before .args in
     let e : c .before .loop .i ≡ a .n = omega arith in
-    c .before .loop .inv .1 ∙ ap (λ (i : ℕ). bad (bandFields (a .n) (a .k)) (a .v .now) (3 + i * (a .n + 4))) e
+    c .before .loop .inv .1 ∙ ap (λ (i : ℕ). bad (bandFields (a .n) (a .k)) (a .v .now) (firstRow + i * rowCount (a .n))) e
 
 pub bad-band-spec : {M : Type 1} → statement M
 bad-band-spec =

@@ -4,6 +4,7 @@ use Prim.Native.Nat.{_*_, _+_, _-_, _≤_, ℕ}
 use native.Mathlib.Omega.{arith}
 use borrow.Author.Needs.{needs}
 use Rattle.integers.specs.Bound.{p}
+use Rattle.sheet.specs.Slots.{sides}
 use Rattle.sheet.proofs.CodeFields.{bad-next}
 use Rattle.sheet.proofs.CodeLayout.{side-run}
 use Rattle.sheet.proofs.CodeValues.{held, minus, minus-fits, most}
@@ -14,7 +15,7 @@ use Rattle.sheet.proofs.tests.bad_box.Statement.{statement}
 use Rattle.sheet.proofs.tests.bad_box.Tie as tie
 
 abbrev Inv-loop : tie.InvT-loop
-Inv-loop v n slot most side x₀ i₀ x i = (i ≤ n) × (x ≡ bad (boxFields most slot) v (i * 2))
+Inv-loop v n slot most side x₀ i₀ x i = (i ≤ n) × (x ≡ bad (boxFields most slot) v (i * sides))
 
 abbrev μ-loop : tie.MeasureT-loop
 μ-loop v n slot most side x₀ i₀ x i = n - i
@@ -67,13 +68,13 @@ loop-again c = let b = c .before .before .before in
     let z = c .before .value .ensures in
     let f = b .before .before .fits .most in (
       omega arith,
-      bad-next p (i * 2 + 1) ((i + 1) * 2) (omega arith) _ (side-run (a .most) s i .at 1 (omega arith)) v (c .after2 .ensures (sideFields (a .most) (s + i) 1) refl (held (z .0) (z .1)) (most (a .most) f) refl)
-          (bad-next p (i * 2 + 0) (i * 2 + 1) (omega arith) _ (side-run (a .most) s i .at 0 (omega arith)) v (c .before .before .after .ensures (sideFields (a .most) (s + i) 0) refl (minus (a .most) f) (most (a .most) f) refl)
+      bad-next p (i * sides + 1) ((i + 1) * sides) (omega arith) _ (side-run (a .most) s i .at 1 (omega arith)) v (c .after2 .ensures (sideFields (a .most) (s + i) 1) refl (held (z .0) (z .1)) (most (a .most) f) refl)
+          (bad-next p (i * sides + 0) (i * sides + 1) (omega arith) _ (side-run (a .most) s i .at 0 (omega arith)) v (c .before .before .after .ensures (sideFields (a .most) (s + i) 0) refl (minus (a .most) f) (most (a .most) f) refl)
           (b .before .loop .inv .1 ∙ ap (bad p v) (omega arith))),
     )
 
 returns : tie.Need-returns Inv-loop μ-loop
-returns c = let e : c .before .loop .i ≡ c .before .before .args .n = omega arith in c .before .loop .inv .1 ∙ ap (λ (i : ℕ). bad (boxFields (c .before .before .args .most) (c .before .before .args .slot)) (c .before .before .args .v .now) (i * 2)) e
+returns c = let e : c .before .loop .i ≡ c .before .before .args .n = omega arith in c .before .loop .inv .1 ∙ ap (λ (i : ℕ). bad (boxFields (c .before .before .args .most) (c .before .before .args .slot)) (c .before .before .args .v .now) (i * sides)) e
 
 pub bad-box-spec : {M : Type 1} → statement M
 bad-box-spec =

@@ -5,7 +5,8 @@ use mir.Syntax.{w64}
 use mir.Val.{SFits}
 use borrow.Author.Needs.{needs}
 use Rattle.integers.proofs.Z.{bound-lit, bound-read, bound-sub, fits64}
-use Rattle.sheet.proofs.CodeFields.{bad-next}
+use Rattle.sheet.specs.Slots.{varsSlot, bandsSlot, boxesSlot, bandVarSlot, δSlot, αSlot, ρSlot, leastSlot, greatestSlot}
+use Rattle.sheet.proofs.CodeFields.{bad-field}
 use Rattle.sheet.proofs.CodeValues.{computed, held}
 use Rattle.sheet.specs.Fields.{bad}
 use Rattle.sheet.specs.Layout.{_▸_, headFields}
@@ -64,15 +65,15 @@ after-requires-9 c κs = search needs
 returns : tie.Need-returns
 unfolding headFields _▸_ bad firstRefusal
 returns c = let v = c .before .before .before .before .before .before .before .before .before .before .before .before .args .v .now in
-    bad-next headFields 8 9 refl _ refl v (c .after9 .ensures (headFields 8) refl (held (c .before .value3 .ensures .0) (c .before .value3 .ensures .1)) refl refl)
-    (bad-next headFields 7 8 refl _ refl v (c .before .before .after8 .ensures (headFields 7) refl refl refl refl)
-    (bad-next headFields 6 7 refl _ refl v (c .before .before .before .after7 .ensures (headFields 6) refl refl refl refl)
-    (bad-next headFields 5 6 refl _ refl v (c .before .before .before .before .after6 .ensures (headFields 5) refl refl (computed (c .before .before .before .before .before .value2 .ensures .0) (c .before .before .before .before .before .value2 .ensures .1) (λ z. pos 1000 -ℤ z) (sub-after-2 (c .before .before .before .before .before))) refl)
-    (bad-next headFields 4 5 refl _ refl v (c .before .before .before .before .before .before .after5 .ensures (headFields 4) refl refl refl refl)
-    (bad-next headFields 3 4 refl _ refl v (c .before .before .before .before .before .before .before .after4 .ensures (headFields 3) refl refl (computed (c .before .before .before .before .before .before .before .before .value .ensures .0) (c .before .before .before .before .before .before .before .before .value .ensures .1) (λ z. z -ℤ pos 1) (sub-after (c .before .before .before .before .before .before .before .before))) refl)
-    (bad-next headFields 2 3 refl _ refl v (c .before .before .before .before .before .before .before .before .before .after3 .ensures (headFields 2) refl refl refl refl)
-    (bad-next headFields 1 2 refl _ refl v (c .before .before .before .before .before .before .before .before .before .before .after2 .ensures (headFields 1) refl refl refl refl)
-    (bad-next headFields 0 1 refl _ refl v (c .before .before .before .before .before .before .before .before .before .before .before .after .ensures (headFields 0) refl refl refl refl) refl))))))))
+    bad-field headFields v greatestSlot (c .after9 .ensures (headFields greatestSlot) refl (held (c .before .value3 .ensures .0) (c .before .value3 .ensures .1)) refl refl)
+    (bad-field headFields v leastSlot (c .before .before .after8 .ensures (headFields leastSlot) refl refl refl refl)
+    (bad-field headFields v ρSlot (c .before .before .before .after7 .ensures (headFields ρSlot) refl refl refl refl)
+    (bad-field headFields v αSlot (c .before .before .before .before .after6 .ensures (headFields αSlot) refl refl (computed (c .before .before .before .before .before .value2 .ensures .0) (c .before .before .before .before .before .value2 .ensures .1) (λ z. pos 1000 -ℤ z) (sub-after-2 (c .before .before .before .before .before))) refl)
+    (bad-field headFields v δSlot (c .before .before .before .before .before .before .after5 .ensures (headFields δSlot) refl refl refl refl)
+    (bad-field headFields v bandVarSlot (c .before .before .before .before .before .before .before .after4 .ensures (headFields bandVarSlot) refl refl (computed (c .before .before .before .before .before .before .before .before .value .ensures .0) (c .before .before .before .before .before .before .before .before .value .ensures .1) (λ z. z -ℤ pos 1) (sub-after (c .before .before .before .before .before .before .before .before))) refl)
+    (bad-field headFields v boxesSlot (c .before .before .before .before .before .before .before .before .before .after3 .ensures (headFields boxesSlot) refl refl refl refl)
+    (bad-field headFields v bandsSlot (c .before .before .before .before .before .before .before .before .before .before .after2 .ensures (headFields bandsSlot) refl refl refl refl)
+    (bad-field headFields v varsSlot (c .before .before .before .before .before .before .before .before .before .before .before .after .ensures (headFields varsSlot) refl refl refl refl) refl))))))))
 
 pub bad-head-spec : {M : Type 1} → statement M
 bad-head-spec =

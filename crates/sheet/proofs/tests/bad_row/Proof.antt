@@ -3,12 +3,13 @@ use mathlib.Core.Path.{_∙_, _≡_, ap, refl}
 use Prim.Native.Nat.{_+_, _-_, _≤_}
 use native.Mathlib.Omega.{arith}
 use Rattle.integers.specs.Bound.{p}
+use Rattle.sheet.specs.Slots.{bInRest, cInRest, dInRest, qInRest}
 use Rattle.sheet.proofs.CodeFields.{bad-next}
-use Rattle.sheet.proofs.CodeLayout.{coefficient, coefficient-at, rest-at}
+use Rattle.sheet.proofs.CodeLayout.{coefficient, coefficient-at}
+use Rattle.sheet.proofs.CodePlaces.{bad-rest}
 use Rattle.sheet.specs.Fields.{bad}
 use Rattle.sheet.specs.Layout.{_▸_, rowFields, rowRest}
 use Rattle.sheet.specs.Refusals.{firstRefusal}
-use Rattle.sheet.specs.Slots.{N}
 use Rattle.sheet.proofs.tests.bad_row.Statement.{statement}
 use Rattle.sheet.proofs.tests.bad_row.Tie as tie
 
@@ -72,10 +73,10 @@ returns c = let d = c .before .before .before in
     let p = rowFields n s in
     let v = a .v .now in
     let e : d .before .before .loop .j ≡ n + 0 = omega arith in
-    bad-next p (n + 3) (n + 4) (omega arith) _ (rest-at n s 3) v (c .after5 .ensures (rowRest (s + N) 3) (omega arith) refl refl refl)
-    (bad-next p (n + 2) (n + 3) (omega arith) _ (rest-at n s 2) v (c .before .after4 .ensures (rowRest (s + N) 2) (omega arith) refl refl refl)
-    (bad-next p (n + 1) (n + 2) (omega arith) _ (rest-at n s 1) v (c .before .before .after3 .ensures (rowRest (s + N) 1) (omega arith) refl refl refl)
-    (bad-next p (n + 0) (n + 1) (omega arith) _ (rest-at n s 0) v (d .after2 .ensures (rowRest (s + N) 0) (omega arith) refl refl refl)
+    bad-rest n s qInRest v (c .after5 .ensures (rowRest s qInRest) (omega arith) refl refl refl)
+    (bad-rest n s dInRest v (c .before .after4 .ensures (rowRest s dInRest) (omega arith) refl refl refl)
+    (bad-rest n s cInRest v (c .before .before .after3 .ensures (rowRest s cInRest) (omega arith) refl refl refl)
+    (bad-rest n s bInRest v (d .after2 .ensures (rowRest s bInRest) (omega arith) refl refl refl)
     (d .before .before .loop .inv .1 ∙ ap (bad p v) e))))
 
 pub bad-row-spec : {M : Type 1} → statement M

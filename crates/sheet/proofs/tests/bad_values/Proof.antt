@@ -1,22 +1,21 @@
 -- `bad_values`: the tests of every record. Assumes nothing.
 use mathlib.Core.Bool.{true}
 use mathlib.Core.Path.{_∙_, _≡_, ap, ap₂, refl, sym}
-use Prim.Native.Nat.{_+_, _-_, _≤_}
+use Prim.Native.Nat.{_-_, _≤_}
 use native.Mathlib.Omega.{arith}
 use borrow.Author.Needs.{needs}
 use Rattle.sheet.proofs.CodeFile.{bad-more}
-use Rattle.sheet.specs.File.{badAll}
+use Rattle.sheet.specs.File.{badAll, records}
 use Rattle.sheet.specs.Refusals.{firstRefusal}
-use Rattle.sheet.specs.Slots.{bands, boxes}
 use Rattle.sheet.specs.Steps.{orElse, sized}
 use Rattle.sheet.proofs.tests.bad_values.Statement.{statement}
 use Rattle.sheet.proofs.tests.bad_values.Tie as tie
 
 abbrev Inv-loop : tie.InvT-loop
-Inv-loop v n bands boxes x₀ r₀ x r = (r ≤ bands + boxes + 2) × (x ≡ badAll (λ r. true) (sized n bands boxes) v r)
+Inv-loop v n bands boxes x₀ r₀ x r = (r ≤ records (sized n bands boxes)) × (x ≡ badAll (λ r. true) (sized n bands boxes) v r)
 
 abbrev μ-loop : tie.MeasureT-loop
-μ-loop v n bands boxes x₀ r₀ x r = bands + boxes + 2 - r
+μ-loop v n bands boxes x₀ r₀ x r = records (sized n bands boxes) - r
 
 loop-holds : tie.Need-loop-holds Inv-loop μ-loop
 unfolding badAll firstRefusal
@@ -47,7 +46,7 @@ loop-again c = let d = c .before .before .before in
 
 returns : tie.Need-returns Inv-loop μ-loop
 returns c = let a = c .before .before .args in
-    let e : c .before .loop .r ≡ a .bands + a .boxes + 2 = omega arith in
+    let e : c .before .loop .r ≡ records (sized (a .n) (a .bands) (a .boxes)) = omega arith in
     c .before .loop .inv .1 ∙ ap (badAll (λ r. true) (sized (a .n) (a .bands) (a .boxes)) (a .v .now)) e
 
 pub bad-values-spec : {M : Type 1} → statement M

@@ -7,24 +7,25 @@ use lib.ListN.{length}
 use lib.Seq.{sets}
 use Rattle.sheet.proofs.CodeLayout.{row-next, row-run}
 use Rattle.sheet.proofs.CodePlaces.{row-room}
-use Rattle.sheet.proofs.CodeWrite.{coded-next, coded-run, edge-width}
+use Rattle.sheet.proofs.CodeWrite.{coded-field, coded-run, edge-width}
 use Rattle.sheet.proofs.Length.{row-offset}
 use Rattle.sheet.proofs.Places.{edge-slot}
 use Rattle.sheet.specs.Fields.{i32, coded, offset}
-use Rattle.sheet.specs.Layout.{_▸_, bandFields, rowFields}
-use Rattle.sheet.specs.Slots.{bandSlot, rowSlot}
+use Rattle.sheet.specs.Layout.{_▸_, bandFields, rowFields, rowCount}
+use Rattle.sheet.specs.Slots.{bandSlot, rowSlot, firstRow, safetyLeastSlot, safetyGreatestSlot, edgeInBand, leastInBand, greatestInBand}
+use Rattle.sheet.specs.Sizes.{letters, safetyLeastAt, safetyGreatestAt, rowBytes, bandHead}
 use Rattle.sheet.proofs.writer.write_band.Statement.{statement}
 use Rattle.sheet.proofs.writer.write_band.Tie as tie
 
 abbrev Inv-loop : tie.InvT-loop
-Inv-loop s₀ n v k slot i₀ s i = (i ≤ n) × ((length s ≡ length s₀) × ((w : List ℕ) → s₀ ≡ sets w 2 (coded (bandFields n k) v 3) → s ≡ sets w 2 (coded (bandFields n k) v (3 + i * (n + 4)))))
+Inv-loop s₀ n v k slot i₀ s i = (i ≤ n) × ((length s ≡ length s₀) × ((w : List ℕ) → s₀ ≡ sets w letters (coded (bandFields n k) v firstRow) → s ≡ sets w letters (coded (bandFields n k) v (firstRow + i * rowCount n))))
 
 abbrev μ-loop : tie.MeasureT-loop
 μ-loop s₀ n v k slot i₀ s i = n - i
 
 within-rows : (c : tie.In-loop Inv-loop μ-loop)
     → (let n = c .before .before .before .before .before .before .before .before .before .before .before .before .before .before .before .args .n in
-    c .before .loop .i * (2 * n + 12) + (2 * n + 12) ≤ n * (2 * n + 12))
+    c .before .loop .i * rowBytes n + rowBytes n ≤ n * rowBytes n)
 within-rows c = row-room _ _ (c .loop-test .taken)
 
 mul-slot : tie.Need-mul-slot Inv-loop μ-loop
@@ -57,8 +58,8 @@ put-i32-requires-3 c κs = omega arith
 loop-holds : tie.Need-loop-holds Inv-loop μ-loop
 loop-holds c =
     let a = c .before .before .before .before .before .before .before .before .before .before .before .before .before .args in
-    let z : 3 ≡ 3 + 0 * (a .n + 4) = omega arith in
-    (omega arith, (refl, λ w e. e ∙ ap (λ (j : ℕ). sets w 2 (coded (bandFields (a .n) (a .k)) (a .v .now) j)) z))
+    let z : firstRow ≡ firstRow + 0 * rowCount (a .n) = omega arith in
+    (omega arith, (refl, λ w e. e ∙ ap (λ (j : ℕ). sets w letters (coded (bandFields (a .n) (a .k)) (a .v .now) j)) z))
 
 add-write-row : tie.Need-add-write-row Inv-loop μ-loop
 add-write-row c = omega arith
@@ -106,8 +107,8 @@ loop-again c =
       (
         omega arith,
         λ w e.
-            coded-run p v w 2 (3 + i * (n + 4)) (rowFields n (rowSlot (a .k) i)) (n + 4) (row-run n (a .k) i) (14 + i * (2 * n + 12)) (h .write-row .ensures) (omega (arith, row-offset n (a .k) i)) (d .loop .inv .1 .1 w e)
-            ∙ ap (λ (j : ℕ). sets w 2 (coded p v j)) (row-next n i),
+            coded-run p v w letters (firstRow + i * rowCount n) (rowFields n (rowSlot (a .k) i)) (rowCount n) (row-run n (a .k) i) (bandHead + i * rowBytes n) (h .write-row .ensures) (omega (arith, row-offset n (a .k) i)) (d .loop .inv .1 .1 w e)
+            ∙ ap (λ (j : ℕ). sets w letters (coded p v j)) (row-next n i),
       ),
     )
 
@@ -128,10 +129,10 @@ returns c =
     let v = a .v .now in
     let e : c .before .loop .i ≡ n = omega arith in
     c .before .loop .inv .1 .1 s
-    (coded-next p v s 2 2 3 refl _ refl i32 (bandSlot k + 2) 10 (c2 .put-i323 .ensures) refl refl (omega (arith, edge-width k))
-    (coded-next p v s 2 1 2 refl _ refl i32 (bandSlot k + 1) 6 (c1 .put-i322 .ensures) refl refl (omega (arith, edge-width k))
-    (coded-next p v s 2 0 1 refl _ refl i32 (bandSlot k) 2 (c0 .put-i32 .ensures) (edge-width k) (sym (edge-slot k)) refl refl)))
-    ∙ ap (λ (i : ℕ). sets s 2 (coded p v (3 + i * (n + 4)))) e
+    (coded-field p v s letters greatestInBand i32 (safetyGreatestSlot k) (letters + safetyGreatestAt) (c2 .put-i323 .ensures) refl refl (omega (arith, edge-width k))
+    (coded-field p v s letters leastInBand i32 (safetyLeastSlot k) (letters + safetyLeastAt) (c1 .put-i322 .ensures) refl refl (omega (arith, edge-width k))
+    (coded-field p v s letters edgeInBand i32 (bandSlot k) letters (c0 .put-i32 .ensures) (edge-width k) (sym (edge-slot k)) refl refl)))
+    ∙ ap (λ (i : ℕ). sets s letters (coded p v (firstRow + i * rowCount n))) e
 
 pub write-band-spec : {M : Type 1} → statement M
 write-band-spec =

@@ -10,12 +10,13 @@ use Rattle.sheet.proofs.CodeWrite.{coded-next}
 use Rattle.sheet.proofs.Length.{side-offset}
 use Rattle.sheet.specs.Fields.{i32, coded, offset}
 use Rattle.sheet.specs.Layout.{_▸_, boxFields, sideFields}
-use Rattle.sheet.specs.Slots.{N}
+use Rattle.sheet.specs.Slots.{N, sides}
+use Rattle.sheet.specs.Sizes.{letters, upperAt, boxBytes}
 use Rattle.sheet.proofs.writer.write_box.Statement.{statement}
 use Rattle.sheet.proofs.writer.write_box.Tie as tie
 
 abbrev Inv-loop : tie.InvT-loop
-Inv-loop s₀ n v slot i₀ s i = (i ≤ n) × ((length s ≡ length s₀) × ((h : ℕ) → s ≡ sets s₀ 2 (coded (boxFields h slot) v (i * 2))))
+Inv-loop s₀ n v slot i₀ s i = (i ≤ n) × ((length s ≡ length s₀) × ((h : ℕ) → s ≡ sets s₀ letters (coded (boxFields h slot) v (i * sides))))
 
 abbrev μ-loop : tie.MeasureT-loop
 μ-loop s₀ n v slot i₀ s i = n - i
@@ -71,14 +72,14 @@ loop-again c =
     let k = a .slot in
     let s = a .s .now in
     let v = a .v .now in
-    let z : i * 2 + 0 ≡ i * 2 = omega arith in (
+    let z : i * sides + 0 ≡ i * sides = omega arith in (
       omega arith,
       (
         omega arith,
         λ h.
-            coded-next (boxFields h k) v s 2 (i * 2 + 1) ((i + 1) * 2) (omega arith) _ (side-run h k i .at 1 (omega arith)) i32 (k + i + N) (2 + 8 * i + 4) (c1 .put-i322 .ensures) refl refl (omega (arith, upper-offset h k i))
-            (coded-next (boxFields h k) v s 2 (i * 2 + 0) (i * 2 + 1) (omega arith) _ (side-run h k i .at 0 (omega arith)) i32 (k + i) (2 + 8 * i) (c0 .put-i32 .ensures) refl refl (omega (arith, side-offset h k i, ap (offset (boxFields h k)) z))
-            (d .loop .inv .1 .1 h ∙ ap (λ (j : ℕ). sets s 2 (coded (boxFields h k) v j)) (omega arith))),
+            coded-next (boxFields h k) v s letters (i * sides + 1) ((i + 1) * sides) (omega arith) _ (side-run h k i .at 1 (omega arith)) i32 (k + i + N) (letters + boxBytes i + upperAt) (c1 .put-i322 .ensures) refl refl (omega (arith, upper-offset h k i))
+            (coded-next (boxFields h k) v s letters (i * sides + 0) (i * sides + 1) (omega arith) _ (side-run h k i .at 0 (omega arith)) i32 (k + i) (letters + boxBytes i) (c0 .put-i32 .ensures) refl refl (omega (arith, side-offset h k i, ap (offset (boxFields h k)) z))
+            (d .loop .inv .1 .1 h ∙ ap (λ (j : ℕ). sets s letters (coded (boxFields h k) v j)) (omega arith))),
       ),
     )
 
@@ -89,7 +90,7 @@ returns : tie.Need-returns Inv-loop μ-loop
 returns c =
     let a = c .before .before .before .args in
     let e : c .before .loop .i ≡ a .n = omega arith in
-    λ h. c .before .loop .inv .1 .1 h ∙ ap (λ (i : ℕ). sets (a .s .now) 2 (coded (boxFields h (a .slot)) (a .v .now) (i * 2))) e
+    λ h. c .before .loop .inv .1 .1 h ∙ ap (λ (i : ℕ). sets (a .s .now) letters (coded (boxFields h (a .slot)) (a .v .now) (i * sides))) e
 
 pub write-box-spec : {M : Type 1} → statement M
 write-box-spec =

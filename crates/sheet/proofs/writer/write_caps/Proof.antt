@@ -1,7 +1,7 @@
 -- `write_caps`: the head with its caps. Assumes nothing.
 use mathlib.Core.Path.{_≡_, _∙_, ap, refl}
 use mathlib.Core.List.{List}
-use Prim.Native.Nat.{ℕ, _*_, _+_, _-_, _≤_}
+use Prim.Native.Nat.{ℕ, _+_, _-_, _≤_}
 use native.Mathlib.Omega.{arith}
 use lib.ListN.{length}
 use lib.Seq.{sets}
@@ -11,11 +11,12 @@ use Rattle.sheet.proofs.Length.{cap-offset}
 use Rattle.sheet.specs.Fields.{u16, coded}
 use Rattle.sheet.specs.Layout.{headFields}
 use Rattle.sheet.specs.Slots.{headSize, capSlot}
+use Rattle.sheet.specs.Sizes.{letters, capsAt, capBytes}
 use Rattle.sheet.proofs.writer.write_caps.Statement.{statement}
 use Rattle.sheet.proofs.writer.write_caps.Tie as tie
 
 abbrev Inv-loop : tie.InvT-loop
-Inv-loop s₀ n v i₀ s i = (i ≤ n) × ((length s ≡ length s₀) × ((w : List ℕ) → s₀ ≡ sets w 2 (coded headFields v headSize) → s ≡ sets w 2 (coded headFields v (headSize + i))))
+Inv-loop s₀ n v i₀ s i = (i ≤ n) × ((length s ≡ length s₀) × ((w : List ℕ) → s₀ ≡ sets w letters (coded headFields v headSize) → s ≡ sets w letters (coded headFields v (headSize + i))))
 
 abbrev μ-loop : tie.MeasureT-loop
 μ-loop s₀ n v i₀ s i = n - i
@@ -53,7 +54,7 @@ loop-again c =
       (
         omega arith,
         λ w e.
-            coded-next headFields _ w 2 (headSize + i) (headSize + (i + 1)) (omega arith) _ (cap-at i) u16 (capSlot i) (20 + 2 * i) (h .put-u16 .ensures) refl refl (omega (arith, cap-offset i)) (d .loop .inv .1 .1 w e),
+            coded-next headFields _ w letters (headSize + i) (headSize + (i + 1)) (omega arith) _ (cap-at i) u16 (capSlot i) (capsAt + capBytes i) (h .put-u16 .ensures) refl refl (omega (arith, cap-offset i)) (d .loop .inv .1 .1 w e),
       ),
     )
 
@@ -65,7 +66,7 @@ returns c =
     let d = c .before .before .before .before in
     let a = d .before .before .before .args in
     let e : c .before .loop .i ≡ a .n = omega arith in
-    c .before .loop .inv .1 .1 (a .s .now) (d .write-head .ensures) ∙ ap (λ (i : ℕ). sets (a .s .now) 2 (coded headFields (a .v .now) (headSize + i))) e
+    c .before .loop .inv .1 .1 (a .s .now) (d .write-head .ensures) ∙ ap (λ (i : ℕ). sets (a .s .now) letters (coded headFields (a .v .now) (headSize + i))) e
 
 pub write-caps-spec : {M : Type 1} → statement M
 write-caps-spec =

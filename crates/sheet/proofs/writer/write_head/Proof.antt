@@ -3,9 +3,11 @@ use mathlib.Core.Path.{_∙_, ap, refl}
 use native.Mathlib.Omega.{arith}
 use lib.ListN.{length}
 use lib.Seq.{length-sets}
-use Rattle.sheet.proofs.CodeWrite.{coded-next}
+use Rattle.sheet.specs.Slots.{varsSlot, bandsSlot, boxesSlot, bandVarSlot, δSlot, αSlot, ρSlot, leastSlot, greatestSlot}
+use Rattle.sheet.proofs.CodeWrite.{coded-field}
 use Rattle.sheet.specs.Fields.{u8, u16, i32, coded, offset}
-use Rattle.sheet.specs.Layout.{_▸_, varsSlot, bandsSlot, boxesSlot, bandVarSlot, δSlot, αSlot, ρSlot, leastSlot, greatestSlot, headFields}
+use Rattle.sheet.specs.Sizes.{letters, varsAt, bandsAt, boxesAt, bandVarAt, δAt, αAt, ρAt, leastAt, greatestAt}
+use Rattle.sheet.specs.Layout.{_▸_, headFields}
 use borrow.Author.Needs.{needs}
 use Rattle.sheet.proofs.writer.write_head.Statement.{statement}
 use Rattle.sheet.proofs.writer.write_head.Tie as tie
@@ -61,15 +63,15 @@ returns c =
     let a = c0 .before .before .before .args in
     let s = a .s .now in
     let v = a .v .now in
-    coded-next headFields v s 2 8 9 refl _ refl i32 greatestSlot 16 (c8 .put-i322 .ensures) refl refl refl
-    (coded-next headFields v s 2 7 8 refl _ refl i32 leastSlot 12 (c7 .put-i32 .ensures) refl refl refl
-    (coded-next headFields v s 2 6 7 refl _ refl u16 ρSlot 10 (c6 .put-u163 .ensures) refl refl refl
-    (coded-next headFields v s 2 5 6 refl _ refl u16 αSlot 8 (c5 .put-u162 .ensures) refl refl refl
-    (coded-next headFields v s 2 4 5 refl _ refl u16 δSlot 6 (c4 .put-u16 .ensures) refl refl refl
-    (coded-next headFields v s 2 3 4 refl _ refl u8 bandVarSlot 5 (c3 .put-u84 .ensures) refl refl refl
-    (coded-next headFields v s 2 2 3 refl _ refl u8 boxesSlot 4 (c2 .put-u83 .ensures) refl refl refl
-    (coded-next headFields v s 2 1 2 refl _ refl u8 bandsSlot 3 (c1 .put-u82 .ensures) refl refl refl
-    (coded-next headFields v s 2 0 1 refl _ refl u8 varsSlot 2 (c0 .put-u8 .ensures) refl refl refl refl))))))))
+    coded-field headFields v s letters greatestSlot i32 greatestSlot greatestAt (c8 .put-i322 .ensures) refl refl refl
+    (coded-field headFields v s letters leastSlot i32 leastSlot leastAt (c7 .put-i32 .ensures) refl refl refl
+    (coded-field headFields v s letters ρSlot u16 ρSlot ρAt (c6 .put-u163 .ensures) refl refl refl
+    (coded-field headFields v s letters αSlot u16 αSlot αAt (c5 .put-u162 .ensures) refl refl refl
+    (coded-field headFields v s letters δSlot u16 δSlot δAt (c4 .put-u16 .ensures) refl refl refl
+    (coded-field headFields v s letters bandVarSlot u8 bandVarSlot bandVarAt (c3 .put-u84 .ensures) refl refl refl
+    (coded-field headFields v s letters boxesSlot u8 boxesSlot boxesAt (c2 .put-u83 .ensures) refl refl refl
+    (coded-field headFields v s letters bandsSlot u8 bandsSlot bandsAt (c1 .put-u82 .ensures) refl refl refl
+    (coded-field headFields v s letters varsSlot u8 varsSlot varsAt (c0 .put-u8 .ensures) refl refl refl refl))))))))
 
 same-length : tie.Need-same-length
 same-length c = ap length (returns c) ∙ simp length-sets

@@ -1,16 +1,17 @@
 -- `write_numbers`: the numbers of the r-th record, by its kind. Assumes nothing.
 use mathlib.Core.Path.{_≡_, _∙_, ap, sym}
 use mathlib.Core.List.{List}
-use Prim.Native.Nat.{ℕ, _+_, _-_, _≤_}
+use Prim.Native.Nat.{ℕ, _-_, _≤_}
 use native.Mathlib.Omega.{arith}
 use lib.ListN.{length}
 use lib.Seq.{sets}
-use Rattle.sheet.proofs.CodeFile.{band-is, bytes-after, head-is, recovery-is, unsafe-is}
-use Rattle.sheet.proofs.Length.{bodySize}
+use Rattle.sheet.proofs.CodeFile.{band-is, size-is, head-is, recovery-is, unsafe-is}
+use Rattle.sheet.proofs.Length.{recordSize}
 use Rattle.sheet.specs.Fields.{coded}
 use Rattle.sheet.specs.File.{Shape, countAt, fieldsAt, recordAt}
 use Rattle.sheet.specs.Layout.{unsafeLimit, recoveryLimit, Record, band, count, fields, head, recovery, unsafe}
 use Rattle.sheet.specs.Steps.{sized}
+use Rattle.sheet.specs.Sizes.{letters}
 use borrow.Author.Needs.{needs}
 use Rattle.sheet.proofs.writer.write_numbers.Statement.{statement}
 use Rattle.sheet.proofs.writer.write_numbers.Tie as tie
@@ -20,13 +21,13 @@ module _ (c : tie.Start) where
   s = sized (c .args .n) (c .args .bands) (c .args .boxes)
 
   -- the record x has room
-  room : {x : Record} → recordAt s (c .args .r) ≡ x → 2 + bodySize (c .args .n) x ≤ length (c .args .s .now)
-  room e = omega (arith, c .pre .1, bytes-after s (c .args .r) e)
+  room : {x : Record} → recordAt s (c .args .r) ≡ x → recordSize (c .args .n) x ≤ length (c .args .s .now)
+  room e = omega (arith, c .pre .1, size-is s (c .args .r) e)
 
   -- and its bytes are those of the r-th
-  those : {x : Record} {t : List ℕ} → recordAt s (c .args .r) ≡ x → t ≡ sets (c .args .s .now) 2 (coded (fields (c .args .n) x) (c .args .v .now) (count (c .args .n) x))
-      → t ≡ sets (c .args .s .now) 2 (coded (fieldsAt s (c .args .r)) (c .args .v .now) (countAt s (c .args .r)))
-  those e h = h ∙ ap (λ (x : Record). sets (c .args .s .now) 2 (coded (fields (c .args .n) x) (c .args .v .now) (count (c .args .n) x))) (sym e)
+  those : {x : Record} {t : List ℕ} → recordAt s (c .args .r) ≡ x → t ≡ sets (c .args .s .now) letters (coded (fields (c .args .n) x) (c .args .v .now) (count (c .args .n) x))
+      → t ≡ sets (c .args .s .now) letters (coded (fieldsAt s (c .args .r)) (c .args .v .now) (countAt s (c .args .r)))
+  those e h = h ∙ ap (λ (x : Record). sets (c .args .s .now) letters (coded (fields (c .args .n) x) (c .args .v .now) (count (c .args .n) x))) (sym e)
 
 is-head : (c : tie.Then1) → recordAt (s (c .before .before)) (c .before .before .args .r) ≡ head
 is-head c = head-is _ _ (c .if1 .taken)

@@ -7,6 +7,7 @@ use lib.Seq.{sets, length-sets}
 use Rattle.sheet.specs.Fields.{coded}
 use Rattle.sheet.specs.File.{countAt, fieldsAt}
 use Rattle.sheet.specs.Steps.{sized}
+use Rattle.sheet.specs.Sizes.{letters}
 use borrow.Author.Needs.{needs}
 use Rattle.sheet.proofs.writer.write_record.Statement.{statement}
 use Rattle.sheet.proofs.writer.write_record.Tie as tie
@@ -29,8 +30,8 @@ returns c =
     let m = w .before .before in
     let a = m .before .before .args in
     let s = sized (a .n) (a .bands) (a .boxes) in
-    let letters = m .mark-of .ensures (a .n) in
-    w .write-numbers .ensures ∙ ap₂ (λ (x y : ℕ). sets (set (set (a .s .now) 0 x) 1 y) 2 (coded (fieldsAt s (a .r)) (a .v .now) (countAt s (a .r)))) (letters .0) (letters .1)
+    let mark = m .mark-of .ensures (a .n) in
+    w .write-numbers .ensures ∙ ap₂ (λ (x y : ℕ). sets (set (set (a .s .now) 0 x) 1 y) letters (coded (fieldsAt s (a .r)) (a .v .now) (countAt s (a .r)))) (mark .0) (mark .1)
 
 same-length : tie.Need-same-length
 same-length c = ap length (returns c) ∙ simp length-sets

@@ -7,16 +7,17 @@ use lib.Seq.{sets, length-sets}
 use Rattle.sheet.proofs.CodeFile.{record-room, start-more}
 use Rattle.sheet.proofs.CodeWrite.{length-record, part-back, part-length, record-next}
 use Rattle.sheet.specs.Fields.{offset}
-use Rattle.sheet.specs.File.{codedAll, countAt, fieldsAt, recordAt, recordBytes, start}
+use Rattle.sheet.specs.File.{codedAll, countAt, fieldsAt, recordAt, recordBytes, start, records}
 use Rattle.sheet.specs.Steps.{sized}
+use Rattle.sheet.specs.Sizes.{letters}
 use Rattle.sheet.proofs.writer.write_records.Statement.{statement}
 use Rattle.sheet.proofs.writer.write_records.Tie as tie
 
 abbrev Inv-loop : tie.InvT-loop
-Inv-loop s₀ n bands boxes v at₀ r₀ s at r = (r ≤ bands + boxes + 2) × ((at ≡ start (sized n bands boxes) r) × (s ≡ sets s₀ 0 (codedAll (sized n bands boxes) v r)))
+Inv-loop s₀ n bands boxes v at₀ r₀ s at r = (r ≤ records (sized n bands boxes)) × ((at ≡ start (sized n bands boxes) r) × (s ≡ sets s₀ 0 (codedAll (sized n bands boxes) v r)))
 
 abbrev μ-loop : tie.MeasureT-loop
-μ-loop s₀ n bands boxes v at₀ r₀ s at r = bands + boxes + 2 - r
+μ-loop s₀ n bands boxes v at₀ r₀ s at r = records (sized n bands boxes) - r
 
 kept : (c : tie.At-loop Inv-loop μ-loop) → length (c .loop .s) ≡ length (c .before .before .args .s .now)
 kept c = ap length (c .loop .inv .1 .1) ∙ simp length-sets
@@ -26,10 +27,10 @@ room : (c : tie.In-loop Inv-loop μ-loop)
     → (let a = c .before .before .before .args in
     let s = sized (a .n) (a .bands) (a .boxes) in
     let r = c .before .loop .r in
-    c .before .loop .at + (2 + offset (fieldsAt s r) (countAt s r)) ≤ length (a .s .now))
+    c .before .loop .at + (letters + offset (fieldsAt s r) (countAt s r)) ≤ length (a .s .now))
 room c =
     let a = c .before .before .before .args in
-    omega (arith, c .before .loop .inv .1 .0, record-room (sized (a .n) (a .bands) (a .boxes)) (c .before .loop .r) (a .bands + a .boxes + 2) (length (a .s .now)) (omega arith) (c .before .before .before .pre .1))
+    omega (arith, c .before .loop .inv .1 .0, record-room (sized (a .n) (a .bands) (a .boxes)) (c .before .loop .r) (records (sized (a .n) (a .bands) (a .boxes))) (length (a .s .now)) (omega arith) (c .before .before .before .pre .1))
 
 loop-holds : tie.Need-loop-holds Inv-loop μ-loop
 unfolding start codedAll
@@ -88,7 +89,7 @@ same-length c = kept (c .before)
 returns : tie.Need-returns Inv-loop μ-loop
 returns c =
     let a = c .before .before .before .args in
-    let e : c .before .loop .r ≡ a .bands + a .boxes + 2 = omega arith in
+    let e : c .before .loop .r ≡ records (sized (a .n) (a .bands) (a .boxes)) = omega arith in
     c .before .loop .inv .1 .1 ∙ ap (λ (r : ℕ). sets (a .s .now) 0 (codedAll (sized (a .n) (a .bands) (a .boxes)) (a .v .now) r)) e
 
 pub write-records-spec : {M : Type 1} → statement M

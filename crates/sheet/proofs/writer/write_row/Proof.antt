@@ -1,15 +1,16 @@
 -- `write_row`: a row's coefficients, and then b, c, d and q. Assumes nothing.
 use mathlib.Core.Path.{_≡_, _∙_, ap, refl}
-use Prim.Native.Nat.{ℕ, _*_, _+_, _-_, _≤_}
+use Prim.Native.Nat.{ℕ, _+_, _-_, _≤_}
 use native.Mathlib.Omega.{arith}
 use lib.ListN.{length}
 use lib.Seq.{sets}
-use Rattle.sheet.proofs.CodeLayout.{coefficient-at, rest-at}
-use Rattle.sheet.proofs.CodeWrite.{coded-next}
-use Rattle.sheet.proofs.Length.{coefficient-offset, rest-offset}
+use Rattle.sheet.proofs.CodeLayout.{coefficient-at}
+use Rattle.sheet.proofs.CodeWrite.{coded-next, coded-rest}
+use Rattle.sheet.proofs.Length.{coefficient-offset}
 use Rattle.sheet.specs.Fields.{u16, i32, coded, offset}
 use Rattle.sheet.specs.Layout.{_▸_, rowFields, rowRest}
-use Rattle.sheet.specs.Slots.{N}
+use Rattle.sheet.specs.Slots.{N, bInRest, cInRest, dInRest, qInRest}
+use Rattle.sheet.specs.Sizes.{coefficientBytes, cAt, dAt, qAt}
 use Rattle.sheet.proofs.writer.write_row.Statement.{statement}
 use Rattle.sheet.proofs.writer.write_row.Tie as tie
 
@@ -50,7 +51,7 @@ loop-again c =
       omega arith,
       (
         omega arith,
-        coded-next (rowFields (a .n) (a .slot)) (a .v .now) (a .s .now) (a .at) j (j + 1) refl _ (coefficient-at (a .n) (a .slot) j (omega arith)) u16 (a .slot + j) (a .at + 2 * j) (w .put-u16 .ensures)
+        coded-next (rowFields (a .n) (a .slot)) (a .v .now) (a .s .now) (a .at) j (j + 1) refl _ (coefficient-at (a .n) (a .slot) j (omega arith)) u16 (a .slot + j) (a .at + coefficientBytes j) (w .put-u16 .ensures)
             refl refl (omega (arith, coefficient-offset (a .n) (a .slot) j (omega arith))) (d .loop .inv .1 .1),
       ),
     )
@@ -112,10 +113,10 @@ returns c =
     let s = a .s .now in
     let v = a .v .now in
     let e : d .loop .j ≡ n + 0 = omega arith in
-    coded-next p v s (a .at) (n + 3) (n + 4) (omega arith) _ (rest-at n i 3) u16 (i + (N + 3)) (a .at + 2 * n + 10) (c3 .put-u163 .ensures) refl (omega arith) (omega (arith, rest-offset n i 3))
-    (coded-next p v s (a .at) (n + 2) (n + 3) (omega arith) _ (rest-at n i 2) i32 (i + (N + 2)) (a .at + 2 * n + 6) (c2 .put-i322 .ensures) refl (omega arith) (omega (arith, rest-offset n i 2))
-    (coded-next p v s (a .at) (n + 1) (n + 2) (omega arith) _ (rest-at n i 1) i32 (i + (N + 1)) (a .at + 2 * n + 2) (c1 .put-i32 .ensures) refl (omega arith) (omega (arith, rest-offset n i 1))
-    (coded-next p v s (a .at) (n + 0) (n + 1) (omega arith) _ (rest-at n i 0) u16 (i + N) (a .at + 2 * n) (c0 .put-u162 .ensures) refl (omega arith) (omega (arith, rest-offset n i 0))
+    coded-rest n i v s (a .at) qInRest u16 (i + (N + qInRest)) (a .at + coefficientBytes n + qAt) (c3 .put-u163 .ensures) refl (omega arith) (omega arith)
+    (coded-rest n i v s (a .at) dInRest i32 (i + (N + dInRest)) (a .at + coefficientBytes n + dAt) (c2 .put-i322 .ensures) refl (omega arith) (omega arith)
+    (coded-rest n i v s (a .at) cInRest i32 (i + (N + cInRest)) (a .at + coefficientBytes n + cAt) (c1 .put-i32 .ensures) refl (omega arith) (omega arith)
+    (coded-rest n i v s (a .at) bInRest u16 (i + N) (a .at + coefficientBytes n) (c0 .put-u162 .ensures) refl (omega arith) (omega arith)
     (d .loop .inv .1 .1 ∙ ap (λ (j : ℕ). sets s (a .at) (coded p v j)) e))))
 
 pub write-row-spec : {M : Type 1} → statement M
