@@ -1,5 +1,6 @@
 //! The archive against the second guard in one run: the two take turns, the medians of their
-//! processor times are compared, and a table in markdown is printed.
+//! processor times are compared, and a table in markdown is printed. A second table has the
+//! instructions of a round, which callgrind counts over this program itself.
 
 use matching::archive;
 use matching::expected;
@@ -7,6 +8,7 @@ use matching::generate::{everywhere, question_bytes, sheet_bytes, worst_case};
 use second_guard::machine::StateBox;
 use second_guard::sheet::{self, Band, CommandRange, Row, Sheet, BANDS, UNSAFE_BOXES, VARIABLES};
 use std::hint::black_box;
+use std::process::Command;
 use std::time::Duration;
 
 /// How many samples each of the two gives, and how long one should last.
@@ -155,7 +157,85 @@ fn model(n: usize, bands: usize, unsafe_boxes: usize) -> (Sheet, StateBox) {
     (sheet, measured)
 }
 
+/// The numbers of variables and of bands at which a round is measured.
+const SHAPES: [(usize, usize); 9] = [
+    (1, 1),
+    (1, 3),
+    (1, 8),
+    (2, 1),
+    (2, 3),
+    (2, 8),
+    (4, 1),
+    (4, 3),
+    (4, 8),
+];
+
+/// A sheet and a question that takes over 1,000 rounds.
+fn many_rounds(n: usize, bands: usize) -> (Vec<u8>, Vec<u8>) {
+    let (sheet, measured) = model(n, bands, 1);
+    let bytes = sheet_bytes(&sheet);
+    let question = question_bytes(1_500, 5, &measured, n);
+    assert!(rounds(&bytes, &question) > 1_000, "enough rounds");
+    (bytes, question)
+}
+
+/// What callgrind runs: so many decisions by one of the two.
+const COUNTED: &str = "counted";
+
+fn run_counted(words: &[String]) {
+    let number = |i: usize| words[i].parse::<usize>().expect("a number");
+    let (sheet, question) = many_rounds(number(1), number(2));
+    for _ in 0..number(3) {
+        black_box(match words[0].as_str() {
+            "guard" => archive::decide(black_box(&sheet), black_box(&question)),
+            _ => expected::decide(black_box(&sheet), black_box(&question)),
+        });
+    }
+}
+
+/// The instructions of this program where one of the two makes so many decisions.
+fn instructions(who: &str, n: usize, bands: usize, decisions: usize) -> f64 {
+    let words = [n, bands, decisions].map(|number| number.to_string());
+    let output = Command::new("valgrind")
+        .args(["--tool=callgrind", "--callgrind-out-file=/dev/null"])
+        .arg(std::env::current_exe().expect("this program"))
+        .args([COUNTED, who])
+        .args(words)
+        .output()
+        .expect("valgrind runs");
+    let said = String::from_utf8_lossy(&output.stderr);
+    let count = said
+        .lines()
+        .find_map(|line| line.split("Collected :").nth(1));
+    let count = count.expect("callgrind's count").trim();
+    count.parse().expect("a number")
+}
+
+/// The instructions of a round: of some decisions, less those of a few.
+fn instructions_of_a_round(who: &str, n: usize, bands: usize) -> f64 {
+    let (few, some) = (2, 12);
+    let (sheet, question) = many_rounds(n, bands);
+    let more = instructions(who, n, bands, some) - instructions(who, n, bands, few);
+    more / ((some - few) as f64 * rounds(&sheet, &question) as f64)
+}
+
+fn count_instructions() {
+    println!();
+    println!("| instructions | guard | second guard | ratio |");
+    println!("|---|---:|---:|---:|");
+    for (n, bands) in SHAPES {
+        let guard = instructions_of_a_round("guard", n, bands);
+        let second = instructions_of_a_round("second", n, bands);
+        let ratio = guard / second;
+        println!("| one round, n {n}, bands {bands} | {guard:.0} | {second:.0} | {ratio:.2} |");
+    }
+}
+
 fn main() {
+    let words: Vec<String> = std::env::args().skip(1).collect();
+    if words.first().is_some_and(|word| word == COUNTED) {
+        return run_counted(&words[1..]);
+    }
     println!("| case | guard | second guard | ratio |");
     println!("|---|---:|---:|---:|");
 
@@ -168,16 +248,11 @@ fn main() {
         line(&name, &decide(&bytes, &question), 1.0);
     }
 
-    for n in [1, 2, 4] {
-        for bands in [1, 3, 8] {
-            let (sheet, measured) = model(n, bands, 1);
-            let bytes = sheet_bytes(&sheet);
-            let question = question_bytes(1_500, 5, &measured, n);
-            let count = rounds(&bytes, &question);
-            assert!(count > 1_000, "enough rounds");
-            let name = format!("one round, n {n}, bands {bands}");
-            line(&name, &decide(&bytes, &question), count as f64);
-        }
+    for (n, bands) in SHAPES {
+        let (bytes, question) = many_rounds(n, bands);
+        let count = rounds(&bytes, &question);
+        let name = format!("one round, n {n}, bands {bands}");
+        line(&name, &decide(&bytes, &question), count as f64);
     }
 
     let sizes = [
@@ -202,4 +277,6 @@ fn main() {
     assert!(count > 100_000, "the worst case has over 100,000 rounds");
     let name = format!("worst case, rounds {count} (n 4, bands 3)");
     line(&name, &decide(&bytes, &question), 1.0);
+
+    count_instructions();
 }
