@@ -1,0 +1,605 @@
+//! The examples and checks that the paper gives with numbers, then a few cases
+//! worked by hand from its sentences.
+
+use plain_guard::decision::{pack, unpack};
+use plain_guard::machine::{
+    allowed_change, band_of, ceil_div, floor_div, greatest_change, least_change,
+};
+use plain_guard::reach::{lies_in, rates, shares_a_state, step, Count};
+use plain_guard::sheet::{question_length, sheet_length};
+use plain_guard::*;
+
+/// Sheet A.
+fn sheet_a() -> Sheet {
+    let mut s = Sheet {
+        n: 1,
+        bands: 1,
+        no_go: 1,
+        band_variable: 0,
+        delta: 4,
+        alpha: 4,
+        rho: 4,
+        least: -25,
+        greatest: 25,
+        ..Sheet::default()
+    };
+    s.caps[0] = 5;
+    s.band[0].edge = -2_000_000;
+    s.band[0].safety_least = 0;
+    s.band[0].safety_greatest = 0;
+    s.band[0].rows[0].a[0] = -1;
+    s.band[0].rows[0].b = 4;
+    s.band[0].rows[0].c = 0;
+    s.band[0].rows[0].d = 0;
+    s.band[0].rows[0].q = 20;
+    s.no_go_box[0][0] = (130, 2_000_000);
+    s.recovery[0] = (-100, 100);
+    s
+}
+
+fn bytes_a() -> Vec<u8> {
+    write(&sheet_a()).unwrap()
+}
+
+fn question(sides: &[(i32, i32)], command: i32, allowance: u32) -> Vec<u8> {
+    let mut out = b"QS".to_vec();
+    out.extend(allowance.to_be_bytes());
+    out.extend(command.to_be_bytes());
+    for (lower, upper) in sides {
+        out.extend(lower.to_be_bytes());
+        out.extend(upper.to_be_bytes());
+    }
+    out
+}
+
+fn questions_a() -> Vec<Vec<u8>> {
+    vec![
+        question(&[(0, 0)], 25, 100),
+        question(&[(95, 100)], 25, 100),
+        question(&[(95, 100)], 25, 4),
+        question(&[(131, 131)], 0, 100),
+        question(&[(0, 0)], 26, 100),
+    ]
+}
+
+const LINES_A: &str = "sheet pass 4 1
+1 keep 4 4
+2 keep 4 5
+3 over spent 4 4
+4 over finest 1 5
+5 refused 14
+";
+
+// ---- The paper's checks ----
+
+#[test]
+fn six_lines() {
+    let asks = questions_a().concat();
+    let out = listing(Some(&bytes_a()), Some(&asks));
+    assert_eq!(String::from_utf8(out).unwrap(), LINES_A);
+}
+
+#[test]
+fn six_cases_packed() {
+    let a = bytes_a();
+    let q = questions_a();
+    assert_eq!(recovery(&a), pack(0, 4, 1));
+    assert_eq!(decide(&a, &q[0]), pack(0, 4, 4));
+    assert_eq!(decide(&a, &q[1]), pack(0, 4, 5));
+    assert_eq!(decide(&a, &q[2]), pack(2, 4, 4));
+    assert_eq!(decide(&a, &q[3]), pack(1, 1, 5));
+    assert_eq!(decide(&a, &q[4]), pack(3, 14, 0));
+    assert_eq!(
+        decide(&a, &q[3]),
+        281_474_976_710_656 + 4_294_967_296 + 5,
+        "2^48 + 2^32 + 5"
+    );
+}
+
+#[test]
+fn rounding_and_cap() {
+    assert_eq!(floor_div(-131, 20), -7);
+    assert_eq!(ceil_div(-131, 20), -6);
+    assert_eq!(least_change(-131, 0, 20, 5), -5);
+    assert_eq!(greatest_change(-131, 0, 20, 5), -5);
+    assert_eq!(floor_div(-7, 2), -4);
+    assert_eq!(ceil_div(-7, 2), -3);
+    for p in -50..=50 {
+        for q in 1..=9 {
+            let f = floor_div(p, q);
+            assert!(f * q <= p && p < (f + 1) * q);
+            let c = ceil_div(p, q);
+            assert!((c - 1) * q < p && p <= c * q);
+        }
+    }
+}
+
+#[test]
+fn first_question_boxes() {
+    let a = sheet_a();
+    let (end, swept, rounds) = reach(&a, 4, 4, Some(25), &[(0, 0)]).unwrap();
+    assert_eq!(
+        (end.clone(), swept, rounds),
+        (vec![(16, 20)], vec![(0, 20)], 2)
+    );
+    // The plain reach starts from that end box.
+    let (end, swept, rounds) = reach(&a, 4, 4, None, &end).unwrap();
+    assert_eq!((end, swept, rounds), (vec![(12, 20)], vec![(12, 20)], 2));
+}
+
+#[test]
+fn allowance_zero() {
+    let q = question(&[(0, 0)], 25, 0);
+    assert_eq!(decide(&bytes_a(), &q), pack(2, 4, 0));
+}
+
+#[test]
+fn swept_and_no_go() {
+    let no_go = vec![(130, 2_000_000)];
+    assert!(!shares_a_state(&vec![(100, 129)], &no_go));
+    assert!(shares_a_state(&vec![(100, 130)], &no_go));
+}
+
+#[test]
+fn bands_at_an_edge() {
+    let mut s = sheet_a();
+    s.bands = 2;
+    s.band[1] = s.band[0];
+    s.band[1].edge = 0;
+    assert_eq!(band_of(&s, -1), Some(0));
+    assert_eq!(band_of(&s, 0), Some(1));
+    assert_eq!(band_of(&s, -2_000_000), Some(0));
+    assert_eq!(band_of(&s, 3_000_000), Some(1));
+    assert_eq!(band_of(&s, -2_000_001), None);
+}
+
+#[test]
+fn delta_and_alpha() {
+    let mut s = sheet_a();
+    s.delta = 400;
+    s.alpha = 600;
+    let good = write(&s).unwrap();
+    assert_eq!(read(&good).unwrap(), s);
+    s.alpha = 601;
+    assert_eq!(write(&s), Err(3));
+    let mut bad = good.clone();
+    bad[8..10].copy_from_slice(&601u16.to_be_bytes());
+    assert_eq!(read(&bad), Err(3));
+}
+
+#[test]
+fn lengths() {
+    let a = bytes_a();
+    assert_eq!(a.len(), 70);
+    assert_eq!(sheet_length(1, 1, 1), 70);
+    assert_eq!(question_length(1), 18);
+    assert_eq!(read(&a[..19]), Err(1));
+    assert_eq!(read(&a[..69]), Err(5));
+    let mut long = a.clone();
+    long.push(0);
+    assert_eq!(read(&long), Err(5));
+    assert_eq!(read(&a).unwrap(), sheet_a());
+}
+
+#[test]
+fn whole_box_rates_do_not_contract() {
+    // Over the whole recovery box A's rates are -5 and 5: nothing contracts.
+    let a = sheet_a();
+    assert_eq!(rates(&a, 0, &vec![(-100, 100)], None), (-5, 5));
+    // Over the slabs they are 3 and -3.
+    assert_eq!(rates(&a, 0, &vec![(-100, -75)], None).0, 3);
+    assert_eq!(rates(&a, 0, &vec![(75, 100)], None).1, -3);
+    let (end, swept, rounds) = reach(&a, 4, 4, None, &[(-100, 100)]).unwrap();
+    assert_eq!(
+        (end, swept, rounds),
+        (vec![(-88, 88)], vec![(-100, 100)], 1)
+    );
+}
+
+// ---- Refusals, one after another ----
+
+#[test]
+fn reader_refusals() {
+    // (place, new bytes, number) on sheet A.
+    let cases: Vec<(usize, Vec<u8>, u8)> = vec![
+        (0, b"SG".to_vec(), 1),
+        (2, vec![0], 2),
+        (2, vec![5], 2),
+        (3, vec![0], 2),
+        (3, vec![9], 2),
+        (4, vec![0], 2),
+        (4, vec![9], 2),
+        (5, vec![1], 2),
+        (6, vec![0, 0], 3),
+        (8, vec![0, 0], 3),
+        (10, vec![0, 0], 3),
+        (10, 1_001u16.to_be_bytes().to_vec(), 3),
+        (12, 26i32.to_be_bytes().to_vec(), 4),
+        (12, (-10_001i32).to_be_bytes().to_vec(), 4),
+        (16, 10_001i32.to_be_bytes().to_vec(), 4),
+        (2, vec![2], 5),
+        (3, vec![2], 5),
+        (4, vec![2], 5),
+        (20, vec![0, 0], 6),
+        (20, 1_001u16.to_be_bytes().to_vec(), 6),
+        (22, b"BE".to_vec(), 7),
+        (24, (-1_999_999i32).to_be_bytes().to_vec(), 8),
+        (28, 1i32.to_be_bytes().to_vec(), 9),
+        (28, (-26i32).to_be_bytes().to_vec(), 9),
+        (32, 26i32.to_be_bytes().to_vec(), 9),
+        (36, 1_001i16.to_be_bytes().to_vec(), 10),
+        (38, (-1_001i16).to_be_bytes().to_vec(), 10),
+        (40, 100_000_001i32.to_be_bytes().to_vec(), 10),
+        (44, (-1i32).to_be_bytes().to_vec(), 10),
+        (44, 100_000_001i32.to_be_bytes().to_vec(), 10),
+        (48, vec![0, 0], 10),
+        (48, 4_097u16.to_be_bytes().to_vec(), 10),
+        (50, b"RC".to_vec(), 7),
+        (52, 2_000_001i32.to_be_bytes().to_vec(), 11),
+        (56, 129i32.to_be_bytes().to_vec(), 11),
+        (56, 2_000_001i32.to_be_bytes().to_vec(), 11),
+        (60, b"NG".to_vec(), 7),
+        (62, (-1_000_001i32).to_be_bytes().to_vec(), 11),
+        (62, 101i32.to_be_bytes().to_vec(), 11),
+        (66, 1_000_001i32.to_be_bytes().to_vec(), 11),
+    ];
+    let a = bytes_a();
+    for (place, new, number) in &cases {
+        let mut b = a.clone();
+        b[*place..place + new.len()].copy_from_slice(new);
+        assert_eq!(read(&b), Err(*number), "place {place}");
+        assert_eq!(recovery(&b), pack(3, *number as u64, 0));
+        assert_eq!(decide(&b, &[]), pack(3, *number as u64, 0));
+        let line = format!("sheet refused {number}\n");
+        assert_eq!(listing(Some(&b), Some(b"QS")), line.into_bytes());
+        // With a second fault later in the file the first one is named.
+        if *number >= 6 {
+            for (later, other, _) in cases.iter().filter(|c| c.0 > *place + 3) {
+                let mut c = b.clone();
+                c[*later..later + other.len()].copy_from_slice(other);
+                assert_eq!(read(&c), Err(*number), "places {place} and {later}");
+            }
+        }
+    }
+}
+
+#[test]
+fn writer_refusals_and_buffer() {
+    let a = sheet_a();
+    let mut s = a;
+    s.n = 200;
+    s.delta = 0;
+    assert_eq!(write(&s), Err(2));
+    s.n = 1;
+    assert_eq!(write(&s), Err(3));
+    let mut s = a;
+    s.recovery[0] = (1, 0);
+    s.band[0].rows[0].q = 0;
+    assert_eq!(write(&s), Err(10));
+    s.band[0].rows[0].q = 1;
+    let mut small = [7u8; 3];
+    assert_eq!(write_at(&s, &mut small, 0), Err(11));
+
+    let mut buffer = vec![7u8; 80];
+    assert_eq!(write_at(&a, &mut buffer, 11), Err(17));
+    assert_eq!(write_at(&a, &mut buffer, usize::MAX), Err(17));
+    assert_eq!(buffer, vec![7u8; 80]);
+    assert_eq!(write_at(&a, &mut buffer, 6), Ok(70));
+    assert_eq!(buffer[..6], [7u8; 6]);
+    assert_eq!(buffer[6..76], bytes_a());
+    assert_eq!(buffer[76..], [7u8; 4]);
+    assert_eq!(write_at(&a, &mut buffer, 10), Ok(70));
+}
+
+#[test]
+fn same_up_to_the_counts() {
+    let a = sheet_a();
+    let mut s = a;
+    s.caps[1] = 9;
+    s.band[1].edge = 4;
+    s.band[0].rows[0].a[1] = 3;
+    s.band[0].rows[1].q = 3;
+    s.no_go_box[1][0] = (3, 2);
+    s.recovery[3] = (3, 2);
+    assert_eq!(s, a);
+    assert_eq!(write(&s), write(&a));
+    s.caps[0] = 9;
+    assert_ne!(s, a);
+}
+
+#[test]
+fn question_refusals() {
+    let a = bytes_a();
+    let refused = |q: &[u8]| {
+        let (code, w, rounds) = unpack(decide(&a, q));
+        assert_eq!((code, rounds), (3, 0));
+        w
+    };
+    let good = question(&[(0, 0)], 25, 100);
+    assert_eq!(refused(&good[..17]), 12);
+    assert_eq!(refused(&[good.clone(), vec![0]].concat()), 12);
+    assert_eq!(refused(&[]), 12);
+    let mut mark = question(&[(1, 0)], 26, 1_000_001);
+    assert_eq!(refused(&mark), 13);
+    mark[1] = b'T';
+    assert_eq!(refused(&mark), 12);
+    assert_eq!(refused(&question(&[(1, 0)], 26, 1_000_000)), 14);
+    assert_eq!(refused(&question(&[(1, 0)], -26, 0)), 14);
+    assert_eq!(refused(&question(&[(1, 0)], -25, 0)), 15);
+    assert_eq!(refused(&question(&[(-1_000_001, 0)], 0, 0)), 15);
+    assert_eq!(refused(&question(&[(0, 1_000_001)], 0, 0)), 15);
+}
+
+#[test]
+fn reach_refusals() {
+    let a = sheet_a();
+    let mut bad = a;
+    bad.caps[0] = 0;
+    assert_eq!(reach(&bad, 1_001, 0, Some(26), &[(1, 0)]), Err(6));
+    assert_eq!(reach(&a, 1_001, 1, Some(26), &[(1, 0)]), Err(16));
+    assert_eq!(reach(&a, 0, 0, Some(26), &[(1, 0)]), Err(16));
+    assert_eq!(reach(&a, 0, 1_001, Some(26), &[(1, 0)]), Err(16));
+    assert_eq!(reach(&a, 0, 1_000, Some(26), &[(1, 0)]), Err(14));
+    assert_eq!(reach(&a, 0, 1_000, None, &[(1, 0)]), Err(15));
+    assert_eq!(reach(&a, 0, 1_000, None, &[(0, 1_000_001)]), Err(15));
+    assert_eq!(
+        reach(&a, 0, 1_000, None, &[(3, 5)]),
+        Ok((vec![(3, 5)], vec![(3, 5)], 0))
+    );
+}
+
+#[test]
+fn listing_ends() {
+    assert_eq!(listing(None, None), b"sheet refused 1\n");
+    assert_eq!(listing(None, Some(b"QS")), b"sheet refused 1\n");
+    assert_eq!(listing(Some(&bytes_a()), None), b"sheet pass 4 1\n");
+    let mut asks = question(&[(0, 0)], 25, 100);
+    asks.push(b'Q');
+    assert_eq!(
+        listing(Some(&bytes_a()), Some(&asks)),
+        b"sheet pass 4 1\n1 keep 4 4\n2 refused 12\n"
+    );
+    // A recovery box that meets the no-go box fails at every width.
+    let mut s = sheet_a();
+    s.no_go_box[0][0] = (0, 0);
+    assert_eq!(
+        listing(Some(&write(&s).unwrap()), Some(&asks)),
+        b"sheet fail 1 3\n"
+    );
+}
+
+// ---- Cases worked by hand ----
+
+#[test]
+fn allowance_around_the_count() {
+    let a = bytes_a();
+    // Keep with the last allowed round.
+    assert_eq!(decide(&a, &question(&[(0, 0)], 25, 4)), pack(0, 4, 4));
+    assert_eq!(decide(&a, &question(&[(0, 0)], 25, 3)), pack(2, 4, 3));
+    // 2 rounds at width 4, 2 at 2, 1 at 1; the width is the one of the due round.
+    let at = |allowance| decide(&a, &question(&[(131, 131)], 0, allowance));
+    assert_eq!(at(0), pack(2, 4, 0));
+    assert_eq!(at(1), pack(2, 4, 1));
+    assert_eq!(at(2), pack(2, 2, 2));
+    assert_eq!(at(3), pack(2, 2, 3));
+    assert_eq!(at(4), pack(2, 1, 4));
+    assert_eq!(at(5), pack(1, 1, 5));
+}
+
+#[test]
+fn halving() {
+    // N = x, q = 4, from 50. k = 8: upper sides 141, 302, 582, 1072, 1926,
+    // 3424, 6042, 7050, unsettled. k = 4: 89, 119, 140, 155, 167, 176, 182,
+    // 188, unsettled. k = 2: 63, 66, 67, settled in the fourth round with
+    // rates 12 and 17.
+    let mut s = sheet_a();
+    s.caps[0] = 1_000;
+    s.band[0].rows[0].a[0] = 1;
+    s.band[0].rows[0].q = 4;
+    let mut count = Count {
+        rounds: 0,
+        allowance: None,
+    };
+    let settled = step(&s, &vec![(50, 50)], 8, None, &mut count).unwrap();
+    assert_eq!(settled.k, 2);
+    assert_eq!(settled.end, vec![(74, 84)]);
+    assert_eq!(settled.swept, vec![(50, 84)]);
+    assert_eq!(count.rounds, 20);
+    // The next step begins with the smaller of the width and the ticks left.
+    let whole = reach(&s, 8, 8, None, &[(50, 50)]).unwrap();
+    let rest = reach(&s, 6, 8, None, &[(74, 84)]).unwrap();
+    assert_eq!(whole.0, rest.0);
+    assert_eq!(whole.2, 20 + rest.2);
+}
+
+#[test]
+fn slab_from_the_start_face() {
+    // Start 0..100, N = 2 - x, q = 1, cap 1, k = 2. Round one: lower slab 0..3,
+    // N from -1, rate -1; upper slab 97..100, rate -1; M = -1..100, unsettled.
+    // Round two: lower slab -1..3, still rate -1, settled. From E's face the
+    // slab would be -1..2 with rate 0 and the end's lower side 0.
+    let mut s = sheet_a();
+    s.caps[0] = 1;
+    s.band[0].rows[0].c = 2;
+    s.band[0].rows[0].q = 1;
+    let (end, swept, rounds) = reach(&s, 2, 2, None, &[(0, 100)]).unwrap();
+    assert_eq!((end, swept, rounds), (vec![(-2, 98)], vec![(-2, 100)], 2));
+}
+
+#[test]
+fn each_band_row_over_the_whole_slab() {
+    // Bands from -2,000,000 and 0; slab -10..10 meets both. Band one: N = x,
+    // bounded over -10..10. Band two: N = 3 and commands 2..4 with b = 1.
+    let mut s = sheet_a();
+    s.caps[0] = 1_000;
+    s.bands = 2;
+    s.band[0].rows[0] = Row {
+        a: [1, 0, 0, 0],
+        b: 0,
+        c: 0,
+        d: 0,
+        q: 1,
+    };
+    s.band[1] = Band {
+        edge: 0,
+        safety_least: 2,
+        safety_greatest: 4,
+        rows: s.band[0].rows,
+    };
+    s.band[1].rows[0] = Row {
+        a: [0; 4],
+        b: 1,
+        c: 3,
+        d: 5,
+        q: 1,
+    };
+    assert_eq!(rates(&s, 0, &vec![(-10, 10)], None), (-10, 12));
+    assert_eq!(rates(&s, 0, &vec![(-10, 10)], Some(20)), (-10, 28));
+    assert_eq!(rates(&s, 0, &vec![(-10, -1)], None), (-10, -1));
+    assert_eq!(rates(&s, 0, &vec![(0, 10)], None), (0, 12));
+}
+
+// ---- The boxes hold every run of the machine ----
+
+struct Dice(u64);
+
+impl Dice {
+    fn from_to(&mut self, lower: i64, upper: i64) -> i64 {
+        self.0 = self
+            .0
+            .wrapping_mul(6_364_136_223_846_793_005)
+            .wrapping_add(1_442_695_040_888_963_407);
+        lower + ((self.0 >> 33) % (upper - lower + 1) as u64) as i64
+    }
+}
+
+fn random_sheet(dice: &mut Dice) -> Sheet {
+    let mut s = Sheet {
+        n: dice.from_to(1, 4) as u8,
+        bands: dice.from_to(1, 8) as u8,
+        no_go: dice.from_to(1, 8) as u8,
+        delta: dice.from_to(1, 12) as u16,
+        alpha: dice.from_to(1, 12) as u16,
+        rho: dice.from_to(1, 12) as u16,
+        least: dice.from_to(-30, 0) as i32,
+        greatest: dice.from_to(0, 30) as i32,
+        ..Sheet::default()
+    };
+    s.band_variable = dice.from_to(0, s.n as i64 - 1) as u8;
+    let n = s.n as usize;
+    for i in 0..n {
+        s.caps[i] = dice.from_to(1, 20) as u16;
+        let lower = dice.from_to(-200, -50) as i32;
+        s.recovery[i] = (lower, dice.from_to(50, 200) as i32);
+    }
+    let mut edge = -2_000_000;
+    for k in 0..s.bands as usize {
+        s.band[k].edge = edge;
+        edge = edge.max(-150) + dice.from_to(1, 60) as i32;
+        s.band[k].safety_least = dice.from_to(s.least as i64, 0) as i32;
+        s.band[k].safety_greatest = dice.from_to(0, s.greatest as i64) as i32;
+        for i in 0..n {
+            let row = &mut s.band[k].rows[i];
+            for j in 0..n {
+                row.a[j] = dice.from_to(-4, 4) as i16;
+            }
+            row.a[i] = dice.from_to(-30, 2) as i16;
+            row.b = dice.from_to(-20, 20) as i16;
+            row.c = dice.from_to(-50, 50) as i32;
+            row.d = dice.from_to(0, 30) as i32;
+            row.q = dice.from_to(1, 200) as u16;
+        }
+    }
+    for k in 0..s.no_go as usize {
+        for i in 0..n {
+            let lower = dice.from_to(-400, 400) as i32;
+            s.no_go_box[k][i] = (lower, lower + dice.from_to(0, 100) as i32);
+        }
+    }
+    s
+}
+
+#[test]
+fn boxes_hold_random_runs() {
+    let mut dice = Dice(1);
+    for _ in 0..1_000 {
+        let s = random_sheet(&mut dice);
+        let n = s.n as usize;
+        assert_eq!(read(&write(&s).unwrap()).unwrap(), s);
+        let mut start = Vec::new();
+        for _ in 0..n {
+            let lower = dice.from_to(-150, 150);
+            start.push((lower, lower + dice.from_to(0, 40)));
+        }
+        let ticks = dice.from_to(0, 25);
+        let width = dice.from_to(1, 30);
+        let command = match dice.from_to(0, 1) {
+            0 => None,
+            _ => Some(dice.from_to(s.least as i64, s.greatest as i64) as i32),
+        };
+        let (end, swept, _) = reach(&s, ticks as u32, width as u32, command, &start).unwrap();
+        assert!(lies_in(&end, &swept));
+        for _ in 0..20 {
+            let mut state: Vec<i64> = start.iter().map(|p| dice.from_to(p.0, p.1)).collect();
+            let inside = |state: &[i64], sides: &[(i64, i64)]| {
+                (0..n).all(|i| sides[i].0 <= state[i] && state[i] <= sides[i].1)
+            };
+            // Some runs lean on the least or the greatest changes.
+            let lean = dice.from_to(0, 2);
+            for _ in 0..ticks {
+                assert!(inside(&state, &swept));
+                let band = &s.band[band_of(&s, state[s.band_variable as usize]).unwrap()];
+                let u = match command {
+                    Some(u) => u as i64,
+                    None => dice.from_to(band.safety_least as i64, band.safety_greatest as i64),
+                };
+                let mut next = state.clone();
+                for i in 0..n {
+                    let (lower, upper) = allowed_change(&s, &state, i, u).unwrap();
+                    next[i] += match lean {
+                        0 => lower,
+                        1 => upper,
+                        _ => dice.from_to(lower, upper),
+                    };
+                }
+                state = next;
+            }
+            assert!(inside(&state, &end));
+        }
+    }
+}
+
+#[test]
+fn any_bytes_have_an_answer() {
+    let mut dice = Dice(2);
+    for _ in 0..2_000 {
+        let s = random_sheet(&mut dice);
+        let mut sheet = write(&s).unwrap();
+        let mut sides = Vec::new();
+        for _ in 0..s.n {
+            let lower = dice.from_to(-150, 150) as i32;
+            sides.push((lower, lower + dice.from_to(0, 40) as i32));
+        }
+        let u = dice.from_to(s.least as i64, s.greatest as i64) as i32;
+        let mut q = question(&sides, u, dice.from_to(0, 300) as u32);
+        if dice.from_to(0, 2) == 0 {
+            let at = dice.from_to(0, sheet.len() as i64 - 1) as usize;
+            sheet[at] = dice.from_to(0, 255) as u8;
+        }
+        if dice.from_to(0, 2) == 0 {
+            let at = dice.from_to(0, q.len() as i64 - 1) as usize;
+            q[at] = dice.from_to(0, 255) as u8;
+        }
+        let (code, w, rounds) = unpack(decide(&sheet, &q));
+        match code {
+            0..=2 => assert!(w >= 1 && w <= 999 && rounds <= 1_000_000),
+            _ => assert!(w >= 1 && w <= 15 && rounds == 0),
+        }
+        if let Ok(again) = read(&sheet) {
+            assert_eq!(write(&again).unwrap(), sheet);
+        }
+        let cut = dice.from_to(0, sheet.len() as i64) as usize;
+        let _ = listing(Some(&sheet[..cut]), Some(&q));
+        let _ = listing(Some(&sheet), Some(&q));
+    }
+}
