@@ -8,9 +8,11 @@ use native.Mathlib.Nat.{le-refl}
 use borrow.Author.Tests.{le-leb, lt-leb}
 use lib.Dec.{leb}
 use lib.IntN.{ℤ}
-use Rattle.rates.specs.Box.{hull, within, moved}
+use Rattle.sheet.specs.Slots.{N}
+use Rattle.rates.specs.Box.{hull, within, moved, trim}
 use Rattle.rates.specs.Machine.{Machine}
 use Rattle.rates.specs.Rate.{rates}
+use Rattle.rates.proofs.InPlace.{trim-hull, trim-moved}
 use Rattle.boxes.specs.declared.step.Stepped.{Stepped}
 use Rattle.boxes.specs.declared.step.Stepped.the-variants.{Settled, Unsettled, Out}
 use Rattle.boxes.specs.declared.walk.Walked.{Walked}
@@ -30,24 +32,40 @@ pick-no {A} b x y e = subst (λ (t : Bool). (elim t as (λ _. A) [ true ↦ x | 
 suc-of : (n : ℕ) → 0 < n → n ≡ suc (n - 1)
 suc-of n h = omega arith
 
--- ---- a round, as the code works it out
+-- ---- a round, as the code works it out: r are the rates, and F is the working box E
 
-module _ (m : Machine) (S : List ℤ) (k : ℕ) (E : List ℤ) where
-  pub lifted-is : {r t M : List ℤ} → M ≡ hull (m .n) S t → t ≡ moved (m .n) S (k - 1) r → r ≡ rates m S k E → M ≡ lifted m S k E
+module _ (m : Machine) (S : List ℤ) (k : ℕ) (E : List ℤ) {r F : List ℤ} (e : r ≡ rates m S k E) (f : F ≡ E) where
+  abbrev M : List ℤ
+  M = hull (m .n) S (moved (m .n) S (k - 1) r)
+
+  lifted-is : M ≡ lifted m S k E
   unfolding lifted
-  lifted-is p q e = p ∙ ap (hull (m .n) S) (q ∙ ap (moved (m .n) S (k - 1)) e)
+  lifted-is = ap (λ (q : List ℤ). hull (m .n) S (moved (m .n) S (k - 1) q)) e
 
-  pub settles-is : {t : Bool} {M : List ℤ} → t ≡ within (m .n) M E → M ≡ lifted m S k E → t ≡ settles m S k E
+  pub settles-is : {t : Bool} → t ≡ within (m .n) M F → t ≡ settles m S k E
   unfolding settles
-  settles-is p e = p ∙ ap (λ (X : List ℤ). within (m .n) X E) e
+  settles-is p = p ∙ ap (within (m .n) M) f ∙ ap (λ (X : List ℤ). within (m .n) X E) lifted-is
 
-  pub round-ends : {r B : List ℤ} → settles m S k E ≡ true → B ≡ moved (m .n) S k r → r ≡ rates m S k E → B ≡ roundBox m S k E
+  pub round-ends : {B : List ℤ} → settles m S k E ≡ true → B ≡ moved (m .n) S k r → B ≡ roundBox m S k E
   unfolding roundBox endBox
-  round-ends t p e = p ∙ ap (moved (m .n) S k) e ∙ sym (pick-yes (settles m S k E) _ _ t)
+  round-ends t p = p ∙ ap (moved (m .n) S k) e ∙ sym (pick-yes (settles m S k E) _ _ t)
 
-  pub round-grows : {M B : List ℤ} → settles m S k E ≡ false → B ≡ hull (m .n) E M → M ≡ lifted m S k E → B ≡ roundBox m S k E
+  pub round-grows : {B : List ℤ} → settles m S k E ≡ false → B ≡ hull (m .n) F M → B ≡ roundBox m S k E
   unfolding roundBox grown
-  round-grows t p e = p ∙ ap (hull (m .n) E) e ∙ sym (pick-no (settles m S k E) _ _ t)
+  round-grows t p = p ∙ ap (λ (X : List ℤ). hull (m .n) X M) f ∙ ap (hull (m .n) E) lifted-is ∙ sym (pick-no (settles m S k E) _ _ t)
+
+-- a box that equals a trimmed box is trimmed
+pub trim-as : (n : ℕ) {A B : List ℤ} → A ≡ B → trim n B ≡ B → trim n A ≡ A
+trim-as n e h = subst (λ (X : List ℤ). trim n X ≡ X) (sym e) h
+
+-- what a round leaves has nothing beyond its sides
+pub round-trimmed : (m : Machine) (S : List ℤ) (k : ℕ) (E : List ℤ) → m .n ≤ N → trim (m .n) (roundBox m S k E) ≡ roundBox m S k E
+unfolding roundBox endBox grown
+round-trimmed m S k E h = either (settles m S k E)
+  where
+    either : (t : Bool) → let B : List ℤ = elim t [ true ↦ endBox m S k E | false ↦ grown m S k E ] in trim (m .n) B ≡ B
+    either true = trim-moved (m .n) h S k (rates m S k E)
+    either false = trim-hull (m .n) h E (lifted m S k E)
 
 -- ---- rounds
 
@@ -55,6 +73,9 @@ module _ (m : Machine) (S : List ℤ) (k : ℕ) (E : List ℤ) where
 pub record Rounding (l : Bool) (a : ℕ) (m : Machine) (S : List ℤ) (k c left : ℕ) (E : List ℤ) (d : ℕ) : Type 0 where
   pub few : left ≤ 8
   pub same : rounds l a m S k 8 S c ≡ rounds l a m S k left E d
+
+pub rounding-starts : (l : Bool) (a : ℕ) (m : Machine) {S : List ℤ} (k c : ℕ) {E : List ℤ} → E ≡ S → Rounding l a m S k c 8 E c
+rounding-starts l a m {S} k c e = record { few = omega arith; same = ap (λ (F : List ℤ). rounds l a m S k 8 F c) (sym e) }
 
 module _ {l : Bool} {a : ℕ} {m : Machine} {S : List ℤ} {k c left : ℕ} {E : List ℤ} {d : ℕ} (h : Rounding l a m S k c left E d) where
   pub rounding-ends : left ≡ 0 → stepped E (Unsettled d) ≡ rounds l a m S k 8 S c

@@ -1,14 +1,14 @@
 // One lifted step: rounds, settling, halving.
 ghost use mathlib.Core.Path.{_≡_};
 ghost use Prim.Native.Nat.{_+_, _*_, _≤_, _<_};
+ghost use Rattle.rates.specs.Box.{trim};
 ghost use Rattle.rates.specs.Plant.{Sides, Usable, limit, machineOf};
 ghost use Rattle.boxes.specs.Step.{isOut, rounds, settles, step};
 ghost use Rattle.boxes.specs.Code.{countLimit, roundBox, stepLimit, stepped};
 use rates::Plant;
 use rates::rate::rates;
-use rates::shape::hull;
+use rates::shape::grow;
 use rates::shape::moved;
-use rates::shape::within;
 use sheet::slots::BOX_SIZE;
 use sheet::slots::SLOTS;
 
@@ -36,19 +36,17 @@ fn round(
     e: &mut [i64; BOX_SIZE],
 ) -> bool
     requires { ⌜ Usable (machineOf p (now sheet)) ⌝ }
-    requires { ⌜ ((0 < k) × (k ≤ 1000)) × (Sides limit (now start) × Sides limit (now e)) ⌝ }
+    requires { ⌜ ((0 < k) × (k ≤ 1000)) × (Sides limit (now start) × (Sides limit (now e) × (trim (p .n) (now e) ≡ now e))) ⌝ }
     ensures { λ r. ⌜ r ≡ settles (machineOf p (now (sheet .entry))) (now (start .entry)) k (now (e .entry)) ⌝ }
     ensures { λ r. ⌜ now (e .exit) ≡ roundBox (machineOf p (now (sheet .entry))) (now (start .entry)) k (now (e .entry)) ⌝ }
 {
     let n = p.n;
-    let r = rates(p, sheet, start, k, e);
-    let t = moved(n, start, k - 1, &r);
-    let m = hull(n, start, &t);
-    if within(n, &m, e) {
-        *e = moved(n, start, k, &r);
+    let mut r: [i64; BOX_SIZE] = [0; BOX_SIZE];
+    rates(p, sheet, start, k, e, &mut r);
+    if grow(n, start, k - 1, &r, e) {
+        moved(n, start, k, &r, e);
         return true;
     }
-    *e = hull(n, e, &m);
     false
 }
 
@@ -62,7 +60,7 @@ fn is_out(b: Budget, count: u32) -> bool
     }
 }
 
-// Up to eight rounds of length k.
+// Up to eight rounds of length k. The first working box is `start`, which `end` is at first.
 fn rounds(
     b: Budget,
     p: Plant,
@@ -74,9 +72,10 @@ fn rounds(
 ) -> Stepped
     requires { ⌜ Usable (machineOf p (now sheet)) ⌝ }
     requires { ⌜ ((0 < k) × (k ≤ 1000)) × (Sides stepLimit (now start) × (count + 8 ≤ countLimit)) ⌝ }
+    requires { ⌜ (now end ≡ now start) × (trim (p .n) (now start) ≡ now start) ⌝ }
     ensures { λ r. ⌜ stepped (now (end .exit)) r ≡ rounds (b .limited) (b .allowance) (machineOf p (now (sheet .entry))) (now (start .entry)) k 8 (now (start .entry)) count ⌝ }
+    ensures { λ r. ⌜ trim (p .n) (now (end .exit)) ≡ now (end .exit) ⌝ }
 {
-    *end = *start;
     let mut c = count;
     let mut left: usize = 8;
     while left > 0 {
@@ -93,7 +92,8 @@ fn rounds(
     Stepped::Unsettled { count: c }
 }
 
-// A step of at most `width` ticks from `start`, after `count` rounds. Where it settles, `end` becomes its end box.
+// A step of at most `width` ticks from `start`, after `count` rounds. `end` is `start` at first; where the step settles, it
+// becomes the end box.
 pub fn step(
     b: Budget,
     p: Plant,
@@ -105,7 +105,9 @@ pub fn step(
 ) -> Stepped
     requires { ⌜ Usable (machineOf p (now sheet)) ⌝ }
     requires { ⌜ ((0 < width) × (width ≤ 1000)) × (Sides stepLimit (now start) × (count + 8 * width ≤ countLimit)) ⌝ }
+    requires { ⌜ (now end ≡ now start) × (trim (p .n) (now start) ≡ now start) ⌝ }
     ensures { λ r. ⌜ stepped (now (end .exit)) r ≡ step (b .limited) (b .allowance) (machineOf p (now (sheet .entry))) (now (start .entry)) width count ⌝ }
+    ensures { λ r. ⌜ trim (p .n) (now (end .exit)) ≡ now (end .exit) ⌝ }
 {
     let mut k = width;
     let mut c = count;
@@ -117,6 +119,7 @@ pub fn step(
         if k <= 1 {
             return r;
         }
+        *end = *start;
         k = k / 2;
         c = d;
     }

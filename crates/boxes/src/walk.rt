@@ -10,7 +10,8 @@ use crate::step::Budget;
 use crate::step::Stepped;
 use crate::step::step;
 use rates::Plant;
-use rates::shape::hull;
+use rates::shape::arrive;
+use rates::shape::join;
 use rates::shape::meets_unsafe;
 use sheet::slots::BOX_SIZE;
 use sheet::slots::SLOTS;
@@ -33,27 +34,29 @@ fn smaller(a: usize, b: usize) -> usize
     if a < b { a } else { b }
 }
 
-// A step from `start` with `left` ticks left, and the test of its swept box against the first `boxes` no-go boxes. `end` and
-// `swept` become the step's.
+// A step from `at` with `left` ticks left, and the test of its swept box against the first `boxes` no-go boxes. `end` is `at`
+// at first; both become the end box, and `swept` the swept box.
 fn leg(
     b: Budget,
     p: Plant,
     sheet: &[i32; SLOTS],
     boxes: usize,
     width: usize,
-    start: &[i64; BOX_SIZE],
     left: usize,
     count: u32,
+    at: &mut [i64; BOX_SIZE],
     end: &mut [i64; BOX_SIZE],
     swept: &mut [i64; BOX_SIZE],
 ) -> Walked
     requires { ⌜ Usable (machineOf p (now sheet)) × (boxes ≤ slots.maxBoxes) ⌝ }
-    requires { ⌜ ((0 < width) × (width ≤ 1000)) × ((0 < left) × (Sides stepLimit (now start) × (count + 8 * width ≤ countLimit))) ⌝ }
-    ensures { λ r. ⌜ legged (now (end .exit)) (now (swept .exit)) r ≡ leg (b .limited) (b .allowance) (machineOf p (now (sheet .entry))) (clear (p .n) (now (sheet .entry)) boxes) width (now (start .entry)) left count ⌝ }
-    ensures { λ r. ⌜ now (swept .exit) ≡ spec.hull (p .n) (now (start .entry)) (now (end .exit)) ⌝ }
+    requires { ⌜ ((0 < width) × (width ≤ 1000)) × ((0 < left) × (Sides stepLimit (now at) × (count + 8 * width ≤ countLimit))) ⌝ }
+    requires { ⌜ (now end ≡ now at) × (spec.trim (p .n) (now at) ≡ now at) ⌝ }
+    ensures { λ r. ⌜ legged (now (end .exit)) (now (swept .exit)) r ≡ leg (b .limited) (b .allowance) (machineOf p (now (sheet .entry))) (clear (p .n) (now (sheet .entry)) boxes) width (now (at .entry)) left count ⌝ }
+    ensures { λ r. ⌜ now (swept .exit) ≡ spec.hull (p .n) (now (at .entry)) (now (end .exit)) ⌝ }
+    ensures { λ r. ⌜ (now (at .exit) ≡ now (end .exit)) × (spec.trim (p .n) (now (end .exit)) ≡ now (end .exit)) ⌝ }
 {
-    let r = step(b, p, sheet, start, smaller(width, left), count, end);
-    *swept = hull(p.n, start, end);
+    let r = step(b, p, sheet, at, smaller(width, left), count, end);
+    arrive(p.n, end, at, swept);
     match r {
         Stepped::Settled { ticks, count: c } => {
             if meets_unsafe(p.n, swept, sheet, boxes) {
@@ -87,20 +90,33 @@ pub fn walk(
 ) -> Walked
     requires { ⌜ Usable (machineOf p (now sheet)) × (boxes ≤ slots.maxBoxes) ⌝ }
     requires { ⌜ ((0 < width) × (width ≤ 1000)) × ((ticks ≤ 1000) × (Sides walkLimit (now end) × (count + 73 * ticks + 8 * width ≤ countLimit))) ⌝ }
+    requires { ⌜ spec.trim (p .n) (now end) ≡ now end ⌝ }
     ensures { λ r. ⌜ walked (now (end .exit)) (now (swept .exit)) r ≡ reach (b .limited) (b .allowance) (machineOf p (now (sheet .entry))) (clear (p .n) (now (sheet .entry)) boxes) width (now (end .entry)) ticks count ⌝ }
+    ensures { λ r. ⌜ spec.trim (p .n) (now (end .exit)) ≡ now (end .exit) ⌝ }
 {
     *swept = *end;
+    let mut work = *end;
+    let mut path = *end;
     let mut left = ticks;
     let mut c = count;
     while left > 0 {
-        let start = *end;
-        let mut path = start;
-        let r = leg(b, p, sheet, boxes, width, &start, left, c, end, &mut path);
+        let r = leg(
+            b,
+            p,
+            sheet,
+            boxes,
+            width,
+            left,
+            c,
+            end,
+            &mut work,
+            &mut path,
+        );
         let Walked::Ended { ticks: t, count: d } = r else {
             *swept = path;
             return r;
         };
-        *swept = hull(p.n, swept, &path);
+        join(p.n, &path, swept);
         left -= t;
         c = d;
     }

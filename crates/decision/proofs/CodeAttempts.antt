@@ -48,6 +48,13 @@ module _ {v : List ℤ} (p : Plant) (k : Law) (e : machineOf p v ≡ machine v k
   pub plant-vars : p .n ≡ vars v
   plant-vars = ap (λ (m : Machine). m .n) e
 
+  -- a box is trimmed to the plant's variables where it is to the sheet's
+  pub plant-trimmed : {S : List ℤ} → trim (vars v) S ≡ S → trim (p .n) S ≡ S
+  plant-trimmed {S} h = subst (λ (n : ℕ). trim n S ≡ S) (sym plant-vars) h
+
+  pub vars-trimmed : {S : List ℤ} → trim (p .n) S ≡ S → trim (vars v) S ≡ S
+  vars-trimmed {S} h = subst (λ (n : ℕ). trim n S ≡ S) plant-vars h
+
   pub plant-reach : (l : Bool) (a b w : ℕ) (S : List ℤ) (T c : ℕ) → b ≡ boxes v
       → reach l a (machineOf p v) (clear (p .n) v b) w S T c ≡ reached l a v w (phase k T) S c
   plant-reach l a b w S T c q = ap (λ (m : Machine). reach l a m (clear (m .n) v b) w S T c) e ∙ ap (λ (i : ℕ). reach l a (machine v k) (clear (vars v) v i) w S T c) q

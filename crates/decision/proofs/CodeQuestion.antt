@@ -1,18 +1,19 @@
 -- Why a question is refused, one law for each way out of the code; and what holds of one that is not. Assumes nothing.
-use mathlib.Core.Path.{_≡_, refl, sym, _∙_, subst}
-use mathlib.Core.Bool.{Bool, true, _&&_}
+use mathlib.Core.Path.{_≡_, refl, _∙_, subst}
+use mathlib.Core.Bool.{_&&_}
 use mathlib.Core.List.{List}
-use Prim.Native.Nat.{ℕ, zero, suc, _≤_, _<_}
+use Prim.Native.Nat.{ℕ, _≤_, _<_}
 use native.Mathlib.Omega.{arith}
 use borrow.Author.Tests.{eqb-true, le-leb, lt-leb}
 use lib.Dec.{eqb}
 use lib.IntN.{ℤ}
 use lib.ListN.{length, getD}
 use Rattle.sheet.specs.Slots.{N, vars}
-use Rattle.rates.specs.Box.{lo, hi, sides, trim}
+use Rattle.rates.specs.Box.{trim}
 use Rattle.rates.specs.Machine.{command}
 use Rattle.rates.specs.Plant.{Sides}
-use Rattle.rates.proofs.Box.{and-both, sides-lo, sides-hi}
+use Rattle.rates.proofs.Box.{and-both}
+use Rattle.rates.proofs.InPlace.{trim-sides}
 use Rattle.boxes.specs.Reach.{lawRefusal, sidesRefusal, orNext}
 use Rattle.boxes.proofs.Count.{cond-zero}
 use Rattle.boxes.proofs.CodeRefusals.{or-stop, or-go, or-none, sides-near}
@@ -53,14 +54,10 @@ module _ (v : List ℤ) (g : List ℕ) {a : ℕ} (p : a ≡ formRefusal (vars v)
 
 -- ---- a question that is not refused
 
--- a box of n sides has nothing beyond them
-trim-sides : (n : ℕ) (f g : ℕ → ℤ) → n ≤ N → trim n (sides n f g) ≡ sides n f g
-unfolding trim sides
-trim-sides n f g k = same n (λ i h. sides-lo f g n i k h) (λ i h. sides-hi f g n i k h)
-  where
-    same : (m : ℕ) {a b c d : ℕ → ℤ} → ((i : ℕ) → i < m → a i ≡ c i) → ((i : ℕ) → i < m → b i ≡ d i) → sides m a b ≡ sides m c d
-    same zero h k = refl
-    same (suc m) h k = rw (same m (λ i l. h i (omega arith)) (λ i l. k i (omega arith)), h m (omega arith), k m (omega arith)) refl
+-- the measured box has nothing beyond its sides
+pub measured-trimmed : (n : ℕ) (g : List ℕ) → n ≤ N → trim n (measured n g) ≡ measured n g
+unfolding measured pairs
+measured-trimmed n g k = trim-sides n k _ _
 
 module _ (v : List ℤ) (g : List ℕ) (e : questionRefusal v g ≡ 0) where
   pub asked-length : length g ≡ questionLength (vars v)
@@ -68,9 +65,9 @@ module _ (v : List ℤ) (g : List ℕ) (e : questionRefusal v g ≡ 0) where
   asked-length = form-length (vars v) g (or-none (formRefusal (vars v) g) _ e .0)
 
   pub measured-near : vars v ≤ N → Sides startLimit (measured (vars v) g)
-  unfolding questionRefusal measured pairs
+  unfolding questionRefusal
   measured-near k =
       let a = or-none (formRefusal (vars v) g) _ e in
       let b = or-none (allowanceRefusal g) _ (a .1) in
       let c = or-none (lawRefusal v (command (commandOf g))) _ (b .1) in
-      subst (Sides startLimit) (trim-sides (vars v) _ _ k) (sides-near (vars v) (measured (vars v) g) (c .1))
+      subst (Sides startLimit) (measured-trimmed (vars v) g k) (sides-near (vars v) (measured (vars v) g) (c .1))

@@ -3,7 +3,9 @@ ghost use mathlib.Core.Path.{_≡_};
 ghost use mathlib.Core.List.{List};
 ghost use Prim.Native.Nat.{_+_, _*_, _≤_, _<_};
 ghost use lib.IntN.{ℤ};
+ghost use Rattle.sheet.specs.Slots.{vars};
 ghost use Rattle.sheet.specs.Valid.{Valid};
+ghost use Rattle.rates.specs.Box.{trim};
 ghost use Rattle.rates.specs.Plant.{Sides};
 ghost use Rattle.boxes.specs.Code.{countLimit, walked};
 ghost use Rattle.decision.specs.Decision.{tries};
@@ -56,7 +58,7 @@ fn attempt(
     width: usize,
     count: u32,
 ) -> Attempted
-    requires { ⌜ Valid (now sheet) × Sides startLimit (now start) ⌝ }
+    requires { ⌜ Valid (now sheet) × (Sides startLimit (now start) × (trim (vars (now sheet)) (now start) ≡ now start)) ⌝ }
     requires { ⌜ (t .first + t .then ≤ 1000) × ((0 < width) × ((width ≤ 1000) × (count + 73 * (t .first + t .then) + 8 * width ≤ countLimit))) ⌝ }
     ensures { λ r. ⌜ r ≡ summary (attemptOf t (now (sheet .entry)) (now (start .entry)) width count) ⌝ }
 {
@@ -104,7 +106,7 @@ fn attempt(
 
 // Attempts at a width, then at half of it, and so on to 1.
 pub fn tries(t: Trial, sheet: &[i32; SLOTS], start: &[i64; BOX_SIZE], width: usize) -> Decision
-    requires { ⌜ Valid (now sheet) × Sides startLimit (now start) ⌝ }
+    requires { ⌜ Valid (now sheet) × (Sides startLimit (now start) × (trim (vars (now sheet)) (now start) ≡ now start)) ⌝ }
     requires { ⌜ (t .first + t .then ≤ 1000) × ((0 < width) × (width ≤ 1000)) ⌝ }
     ensures { λ r. ⌜ decided r ≡ tries (attemptOf t (now (sheet .entry)) (now (start .entry))) width width 0 ⌝ }
 {

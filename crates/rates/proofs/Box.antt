@@ -1,5 +1,5 @@
 -- Laws about boxes, and about what is said of each variable below n. Assumes nothing.
-use mathlib.Core.Path.{_≡_, refl, sym, _∙_, subst}
+use mathlib.Core.Path.{_≡_, refl, sym, ap, _∙_, subst}
 use mathlib.Core.Logic.{⊎-elim}
 use mathlib.Core.Bool.{Bool, true, false, _&&_, _||_}
 use mathlib.Core.List.{List}
@@ -13,7 +13,7 @@ use lib.Signed.{leZ, _≤ℤ_, _<ℤ_}
 use lib.ListN.{set, drop, length, length-set, length-replicate}
 use lib.Seq.{getD-set-same, getD-set-other, getD-take, getD-drop}
 use Rattle.integers.specs.Order.{minZ, maxZ}
-use Rattle.integers.proofs.Z.{ints, flat, le-true, min-is, max-is}
+use Rattle.integers.proofs.Z.{ints, flat, le-true}
 use Rattle.sheet.specs.Slots.{_!_, N, boxSize, boxAt}
 use Rattle.rates.specs.Box.{lo, hi, sum, all, any, sides, trim, hull, within, meets, moved}
 
@@ -47,9 +47,16 @@ module _ (n : ℕ) where
   unfolding sum
   sum-more f = rw add-one refl
 
-  pub all-more : (f : ℕ → Bool) → all n f ≡ true → f n ≡ true → all (n + 1) f ≡ true
+  pub all-last : (f : ℕ → Bool) → all n f ≡ true → all (n + 1) f ≡ f n
   unfolding all
-  all-more f e g = rw add-one (rw (e, g) refl)
+  all-last f e = rw add-one (rw e refl)
+
+  pub all-more : (f : ℕ → Bool) → all n f ≡ true → f n ≡ true → all (n + 1) f ≡ true
+  all-more f e g = all-last f e ∙ g
+
+  pub all-false : (f : ℕ → Bool) → all n f ≡ false → all (n + 1) f ≡ false
+  unfolding all
+  all-false f e = rw add-one (rw e refl)
 
   pub any-more : (f : ℕ → Bool) → any n f ≡ false → f n ≡ false → any (n + 1) f ≡ false
   unfolding any
@@ -144,6 +151,13 @@ module _ (n i : ℕ) (k : n ≤ N) (h : i < n) where
   unfolding moved
   moved-hi A t r = sides-hi _ _ n i k h
 
+  -- of the hull of A and of A moved
+  pub swept-lo : (A : List ℤ) (t : ℕ) (r : List ℤ) → lo (hull n A (moved n A t r)) i ≡ minZ (lo A i) (lo A i +ℤ pos t *ℤ lo r i)
+  swept-lo A t r = hull-lo A (moved n A t r) ∙ ap (minZ (lo A i)) (moved-lo A t r)
+
+  pub swept-hi : (A : List ℤ) (t : ℕ) (r : List ℤ) → hi (hull n A (moved n A t r)) i ≡ maxZ (hi A i) (hi A i +ℤ pos t *ℤ hi r i)
+  swept-hi A t r = hull-hi A (moved n A t r) ∙ ap (maxZ (hi A i)) (moved-hi A t r)
+
   pub trim-lo : (B : List ℤ) → lo (trim n B) i ≡ lo B i
   unfolding trim
   trim-lo B = sides-lo _ _ n i k h
@@ -151,17 +165,6 @@ module _ (n i : ℕ) (k : n ≤ N) (h : i < n) where
   pub trim-hi : (B : List ℤ) → hi (trim n B) i ≡ hi B i
   unfolding trim
   trim-hi B = sides-hi _ _ n i k h
-
--- a box without what no variable has is its hull with itself
-pub hull-same : (n : ℕ) (B : List ℤ) → hull n B B ≡ trim n B
-unfolding hull trim
-hull-same n B = simp (min-same, max-same)
-  where
-    min-same : (z : ℤ) → minZ z z ≡ z
-    min-same z = omega (ints, min-is z z)
-
-    max-same : (z : ℤ) → maxZ z z ≡ z
-    max-same z = omega (ints, max-is z z)
 
 -- of a box in a sheet's value
 pub box-at : (v : List ℤ) (at j : ℕ) → j < boxSize → boxAt v at ! j ≡ v ! (at + j)

@@ -1,6 +1,8 @@
 pub mod Everything
 pub mod Numbers
+pub mod Quotient
 pub mod Box
+pub mod InPlace
 pub mod Face
 pub mod Inside
 pub mod Neighborhood

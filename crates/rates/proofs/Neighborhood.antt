@@ -1,5 +1,5 @@
 -- The neighborhood of a face: it holds the working box's states near the face, it is a part of that box, wider in a wider one, and
--- never empty. Assumes nothing.
+-- never empty; and the working box is had back from it by one side. Assumes nothing.
 use mathlib.Core.Path.{_≡_, refl, ap}
 use mathlib.Core.Bool.{Bool, true, false, not}
 use mathlib.Core.List.{List, [], _∷_}
@@ -9,9 +9,10 @@ use lib.IntN.{ℤ, pos, _+ℤ_, _-ℤ_}
 use lib.ListN.{length, set}
 use lib.Signed.{_≤ℤ_}
 use Rattle.integers.proofs.Z.{ints, flat}
-use Rattle.sheet.specs.Slots.{_!_, N}
+use Rattle.sheet.specs.Slots.{_!_, N, boxSize}
 use Rattle.rates.specs.Box.{In}
 use Rattle.rates.specs.Rate.{outer, neighborhood}
+use Rattle.rates.specs.Plant.{cutAt}
 use Rattle.rates.proofs.Box.{differ}
 use Rattle.rates.proofs.Face.{Beyond, beyond-refl, beyond-trans, beyond-flip, beyond-back, outer-left, outer-in, outer-mono}
 use Rattle.rates.proofs.Inside.{side, in-side, in-by, Inside, Ordered, ordered-side, ordered-by}
@@ -42,6 +43,29 @@ set-both R (x ∷ k) (y ∷ l) zero zero v w e h f = f refl
 set-both R (x ∷ k) (y ∷ l) zero (suc j) v w e h f = h
 set-both R (x ∷ k) (y ∷ l) (suc i) zero v w e h f = h
 set-both R (x ∷ k) (y ∷ l) (suc i) (suc j) v w e h f = set-both R k l i j v w (omega arith) h (λ q. f (ap suc q))
+
+-- ---- the side that is cut can be put back
+
+pub cut-below : (up : Bool) (i : ℕ) → i < N → cutAt up i < boxSize
+unfolding cutAt
+cut-below false i h = omega arith
+cut-below true i h = omega arith
+
+put-back : (l : List ℤ) (j : ℕ) (v : ℤ) → set (set l j v) j (l ! j) ≡ l
+put-back [] j v = refl
+put-back (x ∷ l) zero v = refl
+put-back (x ∷ l) (suc j) v = ap (λ (k : List ℤ). x ∷ k) (put-back l j v)
+
+cut-own : (up : Bool) (S : List ℤ) (reach : ℤ) (E : List ℤ) (i : ℕ) → set (neighborhood up S reach E i) (cutAt up i) (E ! cutAt up i) ≡ E
+unfolding neighborhood cutAt
+cut-own false S reach E i = put-back E (i + N) _
+cut-own true S reach E i = put-back E i _
+
+-- as the code does it: B is the neighborhood, j the place and v what stood there
+pub cut-back : (up : Bool) (S : List ℤ) (reach : ℤ) (E : List ℤ) (i : ℕ) {B : List ℤ} {j : ℕ} {v : ℤ} → B ≡ neighborhood up S reach E i → j ≡ cutAt up i → v ≡ E ! j → set B j v ≡ E
+cut-back up S reach E i b e x = rw (b, x, e) (cut-own up S reach E i)
+
+-- ---- its states and its sides
 
 module _ {n : ℕ} (room : n ≤ N) (S : List ℤ) (reach : ℤ) (i : ℕ) (h : i < n) where
   -- what relates a side of two working boxes, and the two cut sides if it is that one, relates it in their neighborhoods

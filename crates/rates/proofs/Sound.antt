@@ -14,8 +14,8 @@ use Rattle.sheet.specs.Slots.{_!_, N, Row}
 use Rattle.sheet.specs.Valid.{Between, Valid}
 use Rattle.rates.specs.Box.{lo, hi, In}
 use Rattle.rates.specs.Machine.{Law, Machine, machine, cap, rowOf, least, greatest, bandMeets, clamp, numerator, change, Tick}
-use Rattle.rates.specs.Rate.{weighted, bound, part, neutral, bandRate, rate}
-use Rattle.rates.proofs.Face.{Beyond, beyond-refl, beyond-trans, beyond-sum, sum-beyond, span, change-mono, cond-one, outermost-one, outermost-at}
+use Rattle.rates.specs.Rate.{outer, outermost, weighted, bound, part, neutral, bandRate, rate}
+use Rattle.rates.proofs.Face.{Beyond, beyond-refl, beyond-trans, beyond-sum, sum-beyond, span, change-mono, cond-one, outer-one, outermost-one, outermost-at}
 use Rattle.rates.proofs.Bands.{meets-read, meets-show, meets-wider}
 
 -- what the argument asks of a machine
@@ -98,6 +98,15 @@ unfolding neutral
 beyond-neutral h false = record { order = h .high }
 beyond-neutral h true = record { order = h .low }
 
+-- so it is the outer one of itself and the neutral value; and the outer one of it and a change lies within the cap too
+pub outer-neutral : {c z : ℤ} → Between (negℤ c) c z → (up : Bool) → outer up z (neutral up c) ≡ z
+unfolding outer neutral
+outer-neutral {c} {z} h false = omega (ints, min-is z c, h .high)
+outer-neutral {c} {z} h true = omega (ints, max-is z (negℤ c), h .low)
+
+pub outer-within : {c z : ℤ} → Between (negℤ c) c z → (up : Bool) (r : Row) (n : ℤ) → Between (negℤ c) c (outer up z (change up c r n))
+outer-within {c} h up r n = outer-one (Between (negℤ c) c) up h (change-within up c r n (omega (ints, h .low, h .high, neg c)))
+
 module _ {m : Machine} {x y : List ℤ} (ok : Proper m) (t : Tick m x y) (i : ℕ) (h : i < m .n) where
   allowed : (up : Bool) → Beyond up (change up (cap m i) (rowOf m (t .band) i) (numerator (m .n) (rowOf m (t .band) i) x (t .used))) (y ! i -ℤ x ! i)
   allowed false = record { order = t .change i h .above }
@@ -120,9 +129,14 @@ unfolding neutral
 neutral-within false c h = record { low = omega (ints, neg c); high = ≤ℤ-refl c }
 neutral-within true c h = record { low = ≤ℤ-refl (negℤ c); high = omega (ints, neg c) }
 
-pub rate-within : (up : Bool) (m : Machine) (B : List ℤ) (i : ℕ) → pos 0 ≤ℤ cap m i → Between (negℤ (cap m i)) (cap m i) (rate up m B i)
-unfolding rate bandRate
-rate-within up m B i h =
+-- the outermost of some bands' shares, and so a rate
+pub outermost-within : (up : Bool) (m : Machine) (B : List ℤ) (i n : ℕ) → pos 0 ≤ℤ cap m i → Between (negℤ (cap m i)) (cap m i) (outermost up (neutral up (cap m i)) n (bandRate up m B i))
+unfolding bandRate
+outermost-within up m B i n h =
     let z = neutral-within up (cap m i) h in
-    outermost-one (Between (negℤ (cap m i)) (cap m i)) up (m .bands) (bandRate up m B i) z
+    outermost-one (Between (negℤ (cap m i)) (cap m i)) up n (bandRate up m B i) z
     (λ k g. cond-one (Between (negℤ (cap m i)) (cap m i)) (bandMeets (m .sheet) (m .bands) k (lo B (m .var)) (hi B (m .var))) (change-within up (cap m i) (rowOf m k i) _ h) z)
+
+pub rate-within : (up : Bool) (m : Machine) (B : List ℤ) (i : ℕ) → pos 0 ≤ℤ cap m i → Between (negℤ (cap m i)) (cap m i) (rate up m B i)
+unfolding rate
+rate-within up m B i h = outermost-within up m B i (m .bands) h

@@ -1,7 +1,7 @@
 -- What the code is given: a machine as some numbers beside the sheet's value, and how far its numbers go.
 use mathlib.Core.Bool.{Bool, true, false}
 use mathlib.Core.List.{List}
-use Prim.Native.Nat.{ℕ, _≤_, _<_}
+use Prim.Native.Nat.{ℕ, _+_, _≤_, _<_}
 use lib.IntN.{ℤ, pos}
 use lib.Signed.{_≤ℤ_}
 use Rattle.integers.specs.Bound.{Bound}
@@ -28,6 +28,11 @@ pub record Usable (m : Machine) : Type 0 where
 -- each number of the box is at most b, without its sign
 pub record Sides (b : ℕ) (B : List ℤ) : Type 0 where
   pub at : (i : ℕ) → Bound (B ! i) b
+
+-- the place of the side that the neighborhood of a face of variable i cuts: that of the other face
+unfoldable pub cutAt : Bool → ℕ → ℕ
+cutAt false i = i + N
+cutAt true i = i
 
 -- no side that the code takes is greater
 abbrev pub limit : ℕ

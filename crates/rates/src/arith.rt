@@ -1,12 +1,13 @@
-// The lesser and the greater, clamping, and division rounded outward.
+// The lesser and the greater, and division rounded outward, with the clamp.
 ghost use mathlib.Core.Path.{_≡_};
-ghost use lib.IntN.{pos, natAbs};
+ghost use lib.IntN.{pos, natAbs, negℤ};
 ghost use lib.Signed.{_≤ℤ_};
 ghost use Rattle.integers.specs.Order.{minZ, maxZ};
 ghost use Rattle.integers.specs.Bound.{Bound};
-ghost use Rattle.integers.specs.Division.{floorDiv, ceilDiv};
+ghost use Rattle.integers.specs.Division.{ceilDiv, floorDiv};
 ghost use Rattle.rates.specs.Machine.{clamp};
 ghost use Rattle.rates.specs.Rate.{outer};
+ghost use Rattle.rates.specs.Plant.{word};
 
 pub fn min(a: i64, b: i64) -> i64
     ensures { λ r. ⌜ r ≡ minZ a b ⌝ }
@@ -27,14 +28,6 @@ pub fn outer(up: bool, a: i64, b: i64) -> i64
     if up { max(a, b) } else { min(a, b) }
 }
 
-pub fn clamp(cap: i64, x: i64) -> i64
-    requires { ⌜ Bound cap 1000 ⌝ }
-    ensures { λ r. ⌜ r ≡ clamp cap x ⌝ }
-{
-    let low = -cap;
-    max(low, min(x, cap))
-}
-
 pub fn floor_div(n: i64, q: i64) -> i64
     requires { ⌜ Bound n 9223372036854775807 × (pos 1 ≤ℤ q) ⌝ }
     ensures { λ r. ⌜ r ≡ floorDiv n (natAbs q) ⌝ }
@@ -43,10 +36,24 @@ pub fn floor_div(n: i64, q: i64) -> i64
     if n % q < 0 { d - 1 } else { d }
 }
 
-pub fn ceil_div(n: i64, q: i64) -> i64
-    requires { ⌜ Bound n 9223372036854775807 × (pos 1 ≤ℤ q) ⌝ }
-    ensures { λ r. ⌜ r ≡ ceilDiv n (natAbs q) ⌝ }
+// The lesser of z and of n / q rounded down and clamped by the cap. It divides only where the quotient is the answer.
+pub fn lowest(cap: i64, n: i64, q: i64, z: i64) -> i64
+    requires { ⌜ Bound n 9223372036854775807 × ((pos 1 ≤ℤ q) × Bound q word) ⌝ }
+    requires { ⌜ Bound cap 1000 × ((negℤ cap ≤ℤ z) × (z ≤ℤ cap)) ⌝ }
+    ensures { λ r. ⌜ r ≡ minZ z (clamp cap (floorDiv n (natAbs q))) ⌝ }
 {
-    let f = floor_div(-n, q);
-    -f
+    if z * q <= n {
+        return z;
+    }
+    let low = -cap;
+    if n <= low * q { low } else { floor_div(n, q) }
+}
+
+// The greater of z and of n / q rounded up and clamped by the cap: `lowest` of the negatives.
+pub fn highest(cap: i64, n: i64, q: i64, z: i64) -> i64
+    requires { ⌜ Bound n 9223372036854775807 × ((pos 1 ≤ℤ q) × Bound q word) ⌝ }
+    requires { ⌜ Bound cap 1000 × ((negℤ cap ≤ℤ z) × (z ≤ℤ cap)) ⌝ }
+    ensures { λ r. ⌜ r ≡ maxZ z (clamp cap (ceilDiv n (natAbs q))) ⌝ }
+{
+    -lowest(cap, -n, q, -z)
 }

@@ -2,18 +2,17 @@
 ghost use mathlib.Core.Path.{_≡_};
 ghost use mathlib.Core.Bool.{cond, true};
 ghost use Prim.Native.Nat.{_+_, _*_, _≤_, _<_};
-ghost use lib.IntN.{pos, _*ℤ_};
+ghost use lib.IntN.{pos, negℤ, _*ℤ_};
 ghost use lib.Signed.{_≤ℤ_};
 ghost use Rattle.integers.specs.Bound.{Bound};
 ghost use Rattle.sheet.specs.Slots as slots;
 ghost use Rattle.rates.specs.Box.{hi, lo};
-ghost use Rattle.rates.specs.Machine.{bandMeets, change};
+ghost use Rattle.rates.specs.Machine.{bandMeets, cap, change};
 ghost use Rattle.rates.specs.Rate.{bandRate, bound, faceRate, neighborhood, neutral, outer, rate, rates, weighted};
-ghost use Rattle.rates.specs.Plant.{Sides, Usable, limit, machineOf, rowLimit, word};
+ghost use Rattle.rates.specs.Plant.{Sides, Usable, cutAt, limit, machineOf, rowLimit, word};
 use crate::Plant;
-use crate::arith::ceil_div;
-use crate::arith::clamp;
-use crate::arith::floor_div;
+use crate::arith::highest;
+use crate::arith::lowest;
 use crate::arith::max;
 use crate::arith::min;
 use crate::arith::outer;
@@ -82,20 +81,20 @@ fn bound(
     s + t + c
 }
 
-// The least or the greatest allowed change by the row at a slot, where m is the row's number N.
-fn change(up: bool, cap: i64, sheet: &[i32; SLOTS], at: usize, m: i64) -> i64
+// The outer one of z and of the allowed change by the row at a slot, where m is the row's number N.
+fn further(up: bool, cap: i64, sheet: &[i32; SLOTS], at: usize, m: i64, z: i64) -> i64
     requires { ⌜ (at + slots.rowSize ≤ slots.slots) × (pos 1 ≤ℤ slots.rowAt (now sheet) at .q) ⌝ }
-    requires { ⌜ Bound cap 1000 × Bound m rowLimit ⌝ }
-    ensures { λ r. ⌜ r ≡ change up cap (slots.rowAt (now (sheet .entry)) at) m ⌝ }
+    requires { ⌜ (Bound cap 1000 × Bound m rowLimit) × ((negℤ cap ≤ℤ z) × (z ≤ℤ cap)) ⌝ }
+    ensures { λ r. ⌜ r ≡ outer up z (change up cap (slots.rowAt (now (sheet .entry)) at) m) ⌝ }
 {
     let id = at + ROW_D;
     let iq = at + ROW_Q;
     let d = sheet[id] as i64;
     let q = sheet[iq] as i64;
     if up {
-        clamp(cap, ceil_div(m + d, q))
+        highest(cap, m + d, q, z)
     } else {
-        clamp(cap, floor_div(m - d, q))
+        lowest(cap, m - d, q, z)
     }
 }
 
@@ -130,7 +129,7 @@ fn choose(baseline: bool, safety: i32, command: i32) -> i32
     if baseline { safety } else { command }
 }
 
-// Band k's share in the rate of variable i over the box, where they meet.
+// The outer one of z and of band k's share in the rate of variable i over the box, where they meet.
 fn row_rate(
     up: bool,
     p: Plant,
@@ -138,11 +137,13 @@ fn row_rate(
     b: &[i64; BOX_SIZE],
     i: usize,
     k: usize,
+    z: i64,
 ) -> i64
     requires { ⌜ Usable (machineOf p (now sheet)) × Sides limit (now b) ⌝ }
     requires { ⌜ (i < p .n) × (k < p .bands) ⌝ }
     requires { ⌜ bandMeets (now sheet) (p .bands) k (lo (now b) (p .var)) (hi (now b) (p .var)) ≡ true ⌝ }
-    ensures { λ r. ⌜ r ≡ bandRate up (machineOf p (now (sheet .entry))) (now (b .entry)) i k ⌝ }
+    requires { ⌜ (negℤ (cap (machineOf p (now sheet)) i) ≤ℤ z) × (z ≤ℤ cap (machineOf p (now sheet)) i) ⌝ }
+    ensures { λ r. ⌜ r ≡ outer up z (bandRate up (machineOf p (now (sheet .entry))) (now (b .entry)) i k) ⌝ }
 {
     let band = FIRST_BAND + k * BAND_SIZE;
     let il = band + SAFETY_LEAST;
@@ -152,10 +153,10 @@ fn row_rate(
     let row = band + FIRST_ROW + i * ROW_SIZE;
     let m = bound(up, p.n, sheet, row, b, u, v);
     let ic = FIRST_CAP + i;
-    change(up, sheet[ic] as i64, sheet, row, m)
+    further(up, sheet[ic] as i64, sheet, row, m, z)
 }
 
-// Band k's share in the rate of variable i over the box.
+// The outer one of z and of band k's share in the rate of variable i over the box.
 fn band_rate(
     up: bool,
     p: Plant,
@@ -163,18 +164,19 @@ fn band_rate(
     b: &[i64; BOX_SIZE],
     i: usize,
     k: usize,
+    z: i64,
 ) -> i64
     requires { ⌜ Usable (machineOf p (now sheet)) × Sides limit (now b) ⌝ }
     requires { ⌜ (i < p .n) × (k < p .bands) ⌝ }
-    ensures { λ r. ⌜ r ≡ bandRate up (machineOf p (now (sheet .entry))) (now (b .entry)) i k ⌝ }
+    requires { ⌜ (negℤ (cap (machineOf p (now sheet)) i) ≤ℤ z) × (z ≤ℤ cap (machineOf p (now sheet)) i) ⌝ }
+    ensures { λ r. ⌜ r ≡ outer up z (bandRate up (machineOf p (now (sheet .entry))) (now (b .entry)) i k) ⌝ }
 {
     let l = p.var;
     let h = l + N;
     if band_meets(sheet, p.bands, k, b[l], b[h]) {
-        row_rate(up, p, sheet, b, i, k)
+        row_rate(up, p, sheet, b, i, k, z)
     } else {
-        let ic = FIRST_CAP + i;
-        neutral(up, sheet[ic] as i64)
+        z
     }
 }
 
@@ -188,68 +190,76 @@ fn rate(up: bool, p: Plant, sheet: &[i32; SLOTS], b: &[i64; BOX_SIZE], i: usize)
     let mut z = neutral(up, sheet[ic] as i64);
     let mut k: usize = 0;
     while k < p.bands {
-        z = outer(up, z, band_rate(up, p, sheet, b, i, k));
+        z = band_rate(up, p, sheet, b, i, k, z);
         k += 1;
     }
     z
 }
 
-// The part of e within `reach` of s's face.
-fn neighborhood(
-    up: bool,
-    s: &[i64; BOX_SIZE],
-    reach: i64,
-    e: &[i64; BOX_SIZE],
-    i: usize,
-) -> [i64; BOX_SIZE]
-    requires { ⌜ (i < slots.N) × Bound reach 1001000 ⌝ }
-    requires { ⌜ Sides limit (now s) ⌝ }
-    ensures { λ r. ⌜ r ≡ neighborhood up (now (s .entry)) reach (now (e .entry)) i ⌝ }
+// The place of the side that a face's neighborhood cuts: the other face's.
+fn cut_at(up: bool, i: usize) -> usize
+    requires { ⌜ i < slots.N ⌝ }
+    ensures { λ r. ⌜ r ≡ cutAt up i ⌝ }
 {
-    let mut b = *e;
-    let h = i + N;
-    if up {
-        b[i] = max(e[i], s[h] - reach);
-    } else {
-        b[h] = min(e[h], s[i] + reach);
-    }
-    b
+    if up { i } else { i + N }
 }
 
-// The rate of a face of variable i in a step of length k from s, with the working box e.
+// e becomes the part of it within `reach` of s's face.
+fn narrow(up: bool, s: &[i64; BOX_SIZE], reach: i64, e: &mut [i64; BOX_SIZE], i: usize)
+    requires { ⌜ (i < slots.N) × Bound reach 1001000 ⌝ }
+    requires { ⌜ Sides limit (now s) ⌝ }
+    ensures { λ _. ⌜ now (e .exit) ≡ neighborhood up (now (s .entry)) reach (now (e .entry)) i ⌝ }
+{
+    let h = i + N;
+    if up {
+        e[i] = max(e[i], s[h] - reach);
+    } else {
+        e[h] = min(e[h], s[i] + reach);
+    }
+}
+
+// The rate of a face of variable i in a step of length k from s, with the working box e. The neighborhood is made in e, which
+// is then as it was.
 fn face_rate(
     up: bool,
     p: Plant,
     sheet: &[i32; SLOTS],
     s: &[i64; BOX_SIZE],
     k: usize,
-    e: &[i64; BOX_SIZE],
+    e: &mut [i64; BOX_SIZE],
     i: usize,
 ) -> i64
     requires { ⌜ Usable (machineOf p (now sheet)) × (Sides limit (now s) × Sides limit (now e)) ⌝ }
     requires { ⌜ (i < p .n) × (k ≤ 1000) ⌝ }
     ensures { λ r. ⌜ r ≡ faceRate up (machineOf p (now (sheet .entry))) (now (s .entry)) k (now (e .entry)) i ⌝ }
+    ensures { λ r. ⌜ now (e .exit) ≡ now (e .entry) ⌝ }
 {
     let ic = FIRST_CAP + i;
     let ticks = k + 1;
     let reach = (ticks as i64) * (sheet[ic] as i64);
-    let b = neighborhood(up, s, reach, e, i);
-    rate(up, p, sheet, &b, i)
+    let side = cut_at(up, i);
+    let old = e[side];
+    narrow(up, s, reach, e, i);
+    let r = rate(up, p, sheet, e, i);
+    e[side] = old;
+    r
 }
 
-// The rates of all faces, as a box.
+// `r` becomes the rates of all faces, as a box. `e` is as it was.
 pub fn rates(
     p: Plant,
     sheet: &[i32; SLOTS],
     s: &[i64; BOX_SIZE],
     k: usize,
-    e: &[i64; BOX_SIZE],
-) -> [i64; BOX_SIZE]
+    e: &mut [i64; BOX_SIZE],
+    r: &mut [i64; BOX_SIZE],
+)
     requires { ⌜ Usable (machineOf p (now sheet)) × (Sides limit (now s) × Sides limit (now e)) ⌝ }
     requires { ⌜ k ≤ 1000 ⌝ }
-    ensures { λ r. ⌜ r ≡ rates (machineOf p (now (sheet .entry))) (now (s .entry)) k (now (e .entry)) ⌝ }
+    ensures { λ _. ⌜ now (r .exit) ≡ rates (machineOf p (now (sheet .entry))) (now (s .entry)) k (now (e .entry)) ⌝ }
+    ensures { λ _. ⌜ now (e .exit) ≡ now (e .entry) ⌝ }
 {
-    let mut r: [i64; BOX_SIZE] = [0; BOX_SIZE];
+    *r = [0; BOX_SIZE];
     let mut i: usize = 0;
     while i < p.n {
         let h = i + N;
@@ -257,5 +267,4 @@ pub fn rates(
         r[h] = face_rate(true, p, sheet, s, k, e, i);
         i += 1;
     }
-    r
 }

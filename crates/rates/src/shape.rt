@@ -15,27 +15,20 @@ use sheet::slots::FIRST_UNSAFE;
 use sheet::slots::N;
 use sheet::slots::SLOTS;
 
-pub fn hull(n: usize, a: &[i64; BOX_SIZE], b: &[i64; BOX_SIZE]) -> [i64; BOX_SIZE]
-    requires { ⌜ n ≤ slots.N ⌝ }
-    ensures { λ r. ⌜ r ≡ hull n (now (a .entry)) (now (b .entry)) ⌝ }
-{
-    let mut r: [i64; BOX_SIZE] = [0; BOX_SIZE];
-    let mut i: usize = 0;
-    while i < n {
-        let h = i + N;
-        r[i] = min(a[i], b[i]);
-        r[h] = max(a[h], b[h]);
-        i += 1;
-    }
-    r
-}
-
 // b, with what no variable has set to 0.
 pub fn trim(n: usize, b: &[i64; BOX_SIZE]) -> [i64; BOX_SIZE]
     requires { ⌜ n ≤ slots.N ⌝ }
     ensures { λ r. ⌜ r ≡ trim n (now (b .entry)) ⌝ }
 {
-    hull(n, b, b)
+    let mut r: [i64; BOX_SIZE] = [0; BOX_SIZE];
+    let mut i: usize = 0;
+    while i < n {
+        let h = i + N;
+        r[i] = b[i];
+        r[h] = b[h];
+        i += 1;
+    }
+    r
 }
 
 // The box whose sides start at a slot of the sheet's value, with what no variable has set to 0.
@@ -63,21 +56,85 @@ fn along(a: i64, k: usize, rate: i64) -> i64
     a + (k as i64) * rate
 }
 
-// a with each face moved by k of its rates.
-pub fn moved(n: usize, a: &[i64; BOX_SIZE], k: usize, rates: &[i64; BOX_SIZE]) -> [i64; BOX_SIZE]
+// `out` becomes a with each face moved by k of its rates.
+pub fn moved(
+    n: usize,
+    a: &[i64; BOX_SIZE],
+    k: usize,
+    rates: &[i64; BOX_SIZE],
+    out: &mut [i64; BOX_SIZE],
+)
     requires { ⌜ (n ≤ slots.N) × (k ≤ 1000) ⌝ }
     requires { ⌜ Sides limit (now a) × Sides 1000 (now rates) ⌝ }
-    ensures { λ r. ⌜ r ≡ moved n (now (a .entry)) k (now (rates .entry)) ⌝ }
+    ensures { λ _. ⌜ now (out .exit) ≡ moved n (now (a .entry)) k (now (rates .entry)) ⌝ }
 {
-    let mut r: [i64; BOX_SIZE] = [0; BOX_SIZE];
+    *out = [0; BOX_SIZE];
     let mut i: usize = 0;
     while i < n {
         let h = i + N;
-        r[i] = along(a[i], k, rates[i]);
-        r[h] = along(a[h], k, rates[h]);
+        out[i] = along(a[i], k, rates[i]);
+        out[h] = along(a[h], k, rates[h]);
         i += 1;
     }
-    r
+}
+
+// Whether the hull of a and of a moved by k rates lies in e, which becomes the hull of both.
+pub fn grow(
+    n: usize,
+    a: &[i64; BOX_SIZE],
+    k: usize,
+    rates: &[i64; BOX_SIZE],
+    e: &mut [i64; BOX_SIZE],
+) -> bool
+    requires { ⌜ (n ≤ slots.N) × (k ≤ 1000) ⌝ }
+    requires { ⌜ Sides limit (now a) × (Sides 1000 (now rates) × (trim n (now e) ≡ now e)) ⌝ }
+    ensures { λ r. ⌜ r ≡ within n (hull n (now (a .entry)) (moved n (now (a .entry)) k (now (rates .entry)))) (now (e .entry)) ⌝ }
+    ensures { λ r. ⌜ now (e .exit) ≡ hull n (now (e .entry)) (hull n (now (a .entry)) (moved n (now (a .entry)) k (now (rates .entry)))) ⌝ }
+{
+    let mut inside = true;
+    let mut i: usize = 0;
+    while i < n {
+        let h = i + N;
+        let low = min(a[i], along(a[i], k, rates[i]));
+        let high = max(a[h], along(a[h], k, rates[h]));
+        inside = inside && both_le(e[i], low, high, e[h]);
+        e[i] = min(e[i], low);
+        e[h] = max(e[h], high);
+        i += 1;
+    }
+    inside
+}
+
+// `path` becomes the hull of `at` and e, and `at` becomes e.
+pub fn arrive(n: usize, e: &[i64; BOX_SIZE], at: &mut [i64; BOX_SIZE], path: &mut [i64; BOX_SIZE])
+    requires { ⌜ (n ≤ slots.N) × ((trim n (now e) ≡ now e) × (trim n (now at) ≡ now at)) ⌝ }
+    ensures { λ _. ⌜ now (at .exit) ≡ now (e .entry) ⌝ }
+    ensures { λ _. ⌜ now (path .exit) ≡ hull n (now (at .entry)) (now (e .entry)) ⌝ }
+{
+    *path = [0; BOX_SIZE];
+    let mut i: usize = 0;
+    while i < n {
+        let h = i + N;
+        path[i] = min(at[i], e[i]);
+        path[h] = max(at[h], e[h]);
+        at[i] = e[i];
+        at[h] = e[h];
+        i += 1;
+    }
+}
+
+// `out` becomes the hull of itself and b.
+pub fn join(n: usize, b: &[i64; BOX_SIZE], out: &mut [i64; BOX_SIZE])
+    requires { ⌜ (n ≤ slots.N) × (trim n (now out) ≡ now out) ⌝ }
+    ensures { λ _. ⌜ now (out .exit) ≡ hull n (now (out .entry)) (now (b .entry)) ⌝ }
+{
+    let mut i: usize = 0;
+    while i < n {
+        let h = i + N;
+        out[i] = min(out[i], b[i]);
+        out[h] = max(out[h], b[h]);
+        i += 1;
+    }
 }
 
 fn both_le(a: i64, b: i64, c: i64, d: i64) -> bool

@@ -8,9 +8,11 @@ use borrow.Author.Needs.{needs}
 use denote.Enum.Declared.{tagOf}
 use Rattle.rates.specs.Machine.{Law, Machine, machine}
 use Rattle.rates.specs.Plant.{Usable, lawOf, machineOf}
+use Rattle.rates.proofs.InPlace.{trim-trim}
 use Rattle.rates.proofs.Rates.{usable}
 use Rattle.rates.proofs.Sides.{wider}
 use Rattle.boxes.proofs.CodeRefusals.{Refusal, reach-refused, walkable, reach-ended, reach-failed}
+use Rattle.boxes.proofs.CodeTurns.{trim-as}
 use Rattle.boxes.proofs.walk.Walked.{the-type}
 use Rattle.boxes.proofs.reach_of.Statement.{statement}
 use Rattle.boxes.proofs.reach_of.Tie as tie
@@ -41,8 +43,13 @@ walk-requires : tie.Need-walk-requires
 walk-requires c κs =
     let t = c .before .before in
     let r = t .before .before in
-    let w = walkable (refusal-is r) (t .before .if1 .left) (plant-is (r .before)) (t .trim .ensures) in
-    ((works (r .before), omega arith), (w .0, (w .1 .0, (wider (omega arith) (w .1 .1), omega (arith, w .0, w .1 .0)))))
+    let w = walkable (refusal-is r) (t .before .if1 .left) (plant-is (r .before)) (t .trim .ensures) in (
+      (works (r .before), omega arith),
+      (
+        (w .0, (w .1 .0, (wider (omega arith) (w .1 .1), omega (arith, w .0, w .1 .0)))),
+        trim-as (r .before .plant .result .n) (t .trim .ensures) (trim-trim (r .before .plant .result .n) (works (r .before) .vars) (r .before .before .args .start .now)),
+      ),
+    )
 
 returns-2 : tie.Need-returns-2
 returns-2 c =
@@ -50,7 +57,7 @@ returns-2 c =
     let t = w .before .before .before in
     let r = t .before .before in
     c .refused2 .ensures
-    ∙ reach-failed (refusal-is r) (t .before .if1 .left) (plant-is (r .before)) (t .trim .ensures) (w .walk .result) _ _ (w .walk .ensures)
+    ∙ reach-failed (refusal-is r) (t .before .if1 .left) (plant-is (r .before)) (t .trim .ensures) (w .walk .result) _ _ (w .walk .ensures .0)
     (λ i j q. let z : tagOf the-type (w .walk .result) ≡ 0 = ap (tagOf the-type) q in ⊎-elim (λ o. omega arith) (⊎-elim (λ o. omega arith) (λ o. omega arith)) (c .before .match .keys2))
 
 returns-3 : tie.Need-returns-3
@@ -59,7 +66,7 @@ returns-3 c =
     let w = k .before .before in
     let t = w .before .before .before in
     let r = t .before .before in
-    reach-ended (refusal-is r) (t .before .if1 .left) (plant-is (r .before)) (t .trim .ensures) (w .walk .result) _ _ (w .walk .ensures) (k .r .given .0 .0) (k .r .given .0 .1 .0) (k .r .given .1)
+    reach-ended (refusal-is r) (t .before .if1 .left) (plant-is (r .before)) (t .trim .ensures) (w .walk .result) _ _ (w .walk .ensures .0) (k .r .given .0 .0) (k .r .given .0 .1 .0) (k .r .given .1)
 
 pub reach-of-spec : {M : Type 1} → statement M
 reach-of-spec =

@@ -1,13 +1,11 @@
 -- `check_on` is the recovery check of the definitions on an accepted sheet's value. Assumes nothing.
 use mathlib.Core.Path.{_≡_, sym, ap, _∙_, subst}
-use mathlib.Core.List.{List}
 use Prim.Native.Nat.{ℕ}
 use native.Mathlib.Omega.{arith}
-use lib.IntN.{ℤ}
-use borrow.Author.Needs.{needs}
 use Rattle.sheet.specs.Slots.{vars, recoveryBox}
 use Rattle.rates.specs.Box.{trim}
 use Rattle.rates.specs.Plant.{Sides}
+use Rattle.boxes.proofs.CodeTurns.{trim-as}
 use Rattle.decision.specs.Decision.{recoveryOf}
 use Rattle.decision.specs.Code.{decided, startLimit}
 use Rattle.decision.proofs.Allowance.{recoveryOf-unspent}
@@ -42,7 +40,8 @@ tries-requires c κs =
     let b = c .before .before in
     let ok = b .before .before .pre .0 in
     let e = c .before .count2 .ensures in
-    ((ok, subst (Sides startLimit) (sym (home b)) (recovery-near ok)), (omega (arith, e, ok .ρ-high), (omega (arith, e, ok .ρ-low), omega (arith, e, ok .ρ-high))))
+    let t = b .before .before .pre .1 in
+    ((ok, (subst (Sides startLimit) (sym (home b)) (recovery-near ok), trim-as _ (home b ∙ t) t)), (omega (arith, e, ok .ρ-high), (omega (arith, e, ok .ρ-low), omega (arith, e, ok .ρ-high))))
 
 pub check-on-spec : {M : Type 1} → statement M
 check-on-spec =

@@ -11,9 +11,10 @@ use mir.Val.{SFits}
 use borrow.Author.Needs.{needs}
 use Rattle.sheet.specs.Slots.{N, vars}
 use Rattle.rates.specs.Plant.{Sides}
+use Rattle.boxes.proofs.CodeTurns.{trim-as}
 use Rattle.decision.specs.Question.{questionLength, measured, questionRefusal}
 use Rattle.decision.specs.Code.{decided, startLimit}
-use Rattle.decision.proofs.CodeQuestion.{asked-length, measured-near}
+use Rattle.decision.proofs.CodeQuestion.{asked-length, measured-near, measured-trimmed}
 use Rattle.decision.proofs.CodeAnswers.{unless-refused, unless-passed, trial-decides}
 use Rattle.decision.proofs.decide_on.Statement.{statement}
 use Rattle.decision.proofs.decide_on.Tie as tie
@@ -80,11 +81,12 @@ tries-requires : tie.Need-tries-requires
 tries-requires c κs =
     let t = c .before .before .before .before in
     let m = t .before .before in
-    let ok = s (n (e m)) .pre in
+    let x = n (e m) in
+    let ok = s x .pre in
     let d = t .before .count2 .ensures in
     let a = t .count3 .ensures in
     let w = c .larger .ensures in (
-      (ok, subst (Sides startLimit) (sym (start m)) (measured-near (v (n (e m))) (g (n (e m))) (passed (e m)) (room (n (e m))))),
+      (ok, (subst (Sides startLimit) (sym (start m)) (measured-near (v x) (g x) (passed (e m)) (room x)), trim-as (vars (v x)) (start m) (measured-trimmed (vars (v x)) (g x) (room x)))),
       (omega (arith, d, a, ok .sum-high), (omega (arith, d, a, w, ok .δ-low), omega (arith, d, a, w, ok .sum-high))),
     )
 

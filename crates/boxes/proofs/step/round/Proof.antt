@@ -1,70 +1,83 @@
 -- `round` settles as the definition does, and leaves the end box or the next working box. Assumes nothing.
 use mathlib.Core.Path.{_≡_, sym, _∙_}
+use mathlib.Core.List.{List}
 use native.Mathlib.Omega.{arith}
+use lib.IntN.{ℤ}
 use borrow.Author.Needs.{needs}
+use Rattle.rates.specs.Box.{trim}
 use Rattle.rates.specs.Machine.{Machine}
 use Rattle.rates.specs.Plant.{Sides, machineOf}
 use Rattle.rates.proofs.Sides.{rates-bound}
-use Rattle.boxes.specs.Step.{lifted, settles}
-use Rattle.boxes.proofs.CodeTurns.{lifted-is, settles-is, round-ends, round-grows}
+use Rattle.boxes.specs.Step.{settles}
+use Rattle.boxes.proofs.CodeTurns.{trim-as, settles-is, round-ends, round-grows}
 use Rattle.boxes.proofs.step.round.Statement.{statement}
 use Rattle.boxes.proofs.step.round.Tie as tie
 
-abbrev M : tie.Start → Machine
-M s = machineOf (s .args .p) (s .args .sheet .now)
+-- what is known once the rates are there
+module _ (c : tie.After-rates) where
+  abbrev s : tie.Start
+  s = c .before .before .before
 
--- a rate is at most 1,000
-slow : (c : tie.After-rates) → Sides 1000 (c .rates .result)
-slow c = let s = c .before .before in rw (c .rates .ensures) (rates-bound (s .pre .0) (s .args .start .now) (s .args .k) (s .args .e .now))
+  abbrev M : Machine
+  M = machineOf (s .args .p) (s .args .sheet .now)
+
+  abbrev E : List ℤ
+  E = c .rates .last .1 .1 .1 .1 .0
+
+  abbrev R : List ℤ
+  R = c .rates .last .1 .1 .1 .1 .1 .0
+
+  -- a rate is at most 1,000
+  slow : Sides 1000 R
+  slow = rw (c .rates .ensures .0) (rates-bound (s .pre .0) (s .args .start .now) (s .args .k) (s .args .e .now))
+
+  trimmed : trim (s .args .p .n) E ≡ E
+  trimmed = trim-as (s .args .p .n) (c .rates .ensures .1) (s .pre .1 .1 .1 .1)
 
 -- what is known once M is tested
-module _ (c : tie.After-within) where
-  abbrev h : tie.After-hull
-  h = c .before .before .before
+module _ (c : tie.After-grow) where
+  abbrev rated : tie.After-rates
+  rated = c .before .before .before
 
-  abbrev r : tie.After-rates
-  r = h .before .before .before .before
+  tested : c .grow .result ≡ settles (M rated) (s rated .args .start .now) (s rated .args .k) (s rated .args .e .now)
+  tested =
+      let s = s rated in
+      let e = rated .rates .ensures in
+      settles-is (M rated) (s .args .start .now) (s .args .k) (s .args .e .now) (e .0) (e .1) (c .grow .ensures .0)
 
-  abbrev s : tie.Start
-  s = r .before .before
-
-  m-is : h .hull .result ≡ lifted (M s) (s .args .start .now) (s .args .k) (s .args .e .now)
-  m-is = lifted-is (M s) (s .args .start .now) (s .args .k) (s .args .e .now) (h .hull .ensures) (h .before .before .moved .ensures) (r .rates .ensures)
-
-  tested : c .within .result ≡ settles (M s) (s .args .start .now) (s .args .k) (s .args .e .now)
-  tested = settles-is (M s) (s .args .start .now) (s .args .k) (s .args .e .now) (c .within .ensures) m-is
-
-rates-requires : tie.Need-rates-requires
-rates-requires c κs = let s = c .before in ((s .pre .0, s .pre .1 .1), s .pre .1 .0 .1)
+grow-requires : tie.Need-grow-requires
+grow-requires c κs =
+    let r = c .before .before in
+    let p = s r .pre in
+    ((p .0 .vars, omega (arith, p .1 .0)), (p .1 .1 .0, (slow r, trimmed r)))
 
 moved-requires : tie.Need-moved-requires
-moved-requires c κs = let s = c .before .before .before in ((s .pre .0 .vars, omega arith), (s .pre .1 .1 .0, slow (c .before)))
-
-moved-requires-2 : tie.Need-moved-requires-2
-moved-requires-2 c κs = let w = c .before .before in let p = s w .pre in ((p .0 .vars, p .1 .0 .1), (p .1 .1 .0, slow (r w)))
+moved-requires c κs =
+    let r = rated (c .before .before .before) in
+    let p = s r .pre in
+    ((p .0 .vars, p .1 .0 .1), (p .1 .1 .0, slow r))
 
 returns : tie.Need-returns
 returns c =
-    let w = c .before .before .before in
-    let e = sym (c .before .before .if1 .taken) ∙ tested w in
-    (e, round-ends (M (s w)) (s w .args .start .now) (s w .args .k) (s w .args .e .now) (sym e) (c .moved2 .ensures) (r w .rates .ensures))
+    let g = c .before .before .before .before in
+    let r = rated g in
+    let e = sym (c .before .before .before .if1 .taken) ∙ tested g in
+    (e, round-ends (M r) (s r .args .start .now) (s r .args .k) (s r .args .e .now) (r .rates .ensures .0) (r .rates .ensures .1) (sym e) (c .moved .ensures))
 
 returns-2 : tie.Need-returns-2
 returns-2 c =
-    let w = c .before .before .before .before in
-    let e = sym (c .before .before .before .if1 .left) ∙ tested w in
-    (e, round-grows (M (s w)) (s w .args .start .now) (s w .args .k) (s w .args .e .now) (sym e) (c .hull2 .ensures) (m-is w))
+    let g = c .before in
+    let r = rated g in
+    let e = sym (c .if1 .left) ∙ tested g in
+    (e, round-grows (M r) (s r .args .start .now) (s r .args .k) (s r .args .e .now) (r .rates .ensures .0) (r .rates .ensures .1) (sym e) (g .grow .ensures .1))
 
 pub round-spec : {M : Type 1} → statement M
 round-spec =
     tie.close
     (tie.spec
-    rates-requires
+    (λ c κs. let p = c .before .before .pre in ((p .0, (p .1 .1 .0, p .1 .1 .1 .0)), p .1 .0 .1))
     (λ c. search needs)
+    grow-requires
     moved-requires
-    (λ c κs. search needs)
-    (λ c κs. search needs)
-    moved-requires-2
     returns
-    (λ c κs. search needs)
     returns-2)

@@ -1,51 +1,73 @@
 -- `rounds` does what eight rounds of the definition do. Assumes nothing.
-use mathlib.Core.Path.{refl}
+use mathlib.Core.Path.{_≡_, sym, subst}
 use Prim.Native.Nat.{_≤_, _+_, _*_}
 use native.Mathlib.Omega.{arith}
+use Rattle.rates.specs.Box.{trim}
 use Rattle.rates.specs.Plant.{Sides, machineOf}
 use Rattle.rates.proofs.Sides.{wider}
 use Rattle.boxes.specs.Code.{stepLimit}
 use Rattle.boxes.proofs.CodeBounds.{round-bound}
-use Rattle.boxes.proofs.CodeTurns.{Rounding, rounding-ends, rounding-out, rounding-settles, rounding-on}
+use Rattle.boxes.proofs.CodeTurns.{trim-as, round-trimmed, Rounding, rounding-starts, rounding-ends, rounding-out, rounding-settles, rounding-on}
 use Rattle.boxes.proofs.step.rounds.Statement.{statement}
 use Rattle.boxes.proofs.step.rounds.Tie as tie
 
 abbrev Inv-loop : tie.InvT-loop
 Inv-loop b p sheet start k count end₀ c₀ left₀ end c left =
-    (c + left ≤ count + 8) × (Sides (stepLimit + k * 1000) end × Rounding (b .limited) (b .allowance) (machineOf p sheet) start k count left end c)
+    ((c + left ≤ count + 8) × (trim (p .n) end ≡ end)) × (Sides (stepLimit + k * 1000) end
+    × Rounding (b .limited) (b .allowance) (machineOf p sheet) start k count left end c)
 
 abbrev μ-loop : tie.MeasureT-loop
 μ-loop b p sheet start k count end₀ c₀ left₀ end c left = left
 
 loop-holds : tie.Need-loop-holds Inv-loop μ-loop
-loop-holds c = (omega arith, (wider (omega arith) (c .before .pre .1 .1 .0), record { few = omega arith; same = refl }))
+loop-holds c =
+    let p = c .pre .1 in
+    let e = p .1 .0 in (
+      (omega arith, trim-as (c .args .p .n) e (p .1 .1)),
+      (subst (Sides (stepLimit + c .args .k * 1000)) (sym e) (wider (omega arith) (p .0 .1 .0)), rounding-starts (c .args .b .limited) (c .args .b .allowance) _ (c .args .k) (c .args .count) e),
+    )
 
 returns : tie.Need-returns Inv-loop μ-loop
-returns c = rounding-out (c .before .before .before .loop .inv .1 .1) (omega arith) _ (c .before .is-out .ensures) (c .if1 .taken)
+returns c =
+    let i = c .before .before .before .loop .inv in
+    (rounding-out (i .1 .1) (omega arith) _ (c .before .is-out .ensures) (c .if1 .taken), i .0 .1)
 
 round-requires : tie.Need-round-requires Inv-loop μ-loop
 round-requires c κs =
     let d = c .before .before .before .before in
-    let p = d .before .before .pre in
-    (p .0, (p .1 .0, (wider (omega arith) (p .1 .1 .0), wider (omega (arith, p .1 .0)) (d .loop .inv .1 .0))))
+    let p = d .before .pre in
+    (p .0, (p .1 .0 .0, (wider (omega arith) (p .1 .0 .1 .0), (wider (omega (arith, p .1 .0 .0)) (d .loop .inv .1 .0), d .loop .inv .0 .1))))
+
+-- behind a round
+module _ (r : tie.After-round Inv-loop μ-loop) where
+  abbrev f : tie.Else1 Inv-loop μ-loop
+  f = r .before .before
+
+  abbrev d : tie.At-loop Inv-loop μ-loop
+  d = f .before .before .before
+
+  abbrev s : tie.Start Inv-loop μ-loop
+  s = d .before
+
+  trimmed : trim (s .args .p .n) (r .round .last .1 .1 .1 .1 .0) ≡ r .round .last .1 .1 .1 .1 .0
+  trimmed = trim-as (s .args .p .n) (r .round .ensures .1) (round-trimmed _ (s .args .start .now) (s .args .k) (d .loop .end) (s .pre .0 .vars))
 
 returns-2 : tie.Need-returns-2 Inv-loop μ-loop
 returns-2 c =
     let r = c .before in
-    let f = r .before .before in
-    rounding-settles (f .before .before .before .loop .inv .1 .1) (omega arith) _ (f .before .is-out .ensures) (f .if1 .left) _ (r .round .ensures .1) _ (r .round .ensures .0) (c .if2 .taken)
+    (rounding-settles (d r .loop .inv .1 .1) (omega arith) _ (f r .before .is-out .ensures) (f r .if1 .left) _ (r .round .ensures .1) _ (r .round .ensures .0) (c .if2 .taken), trimmed r)
 
 loop-again : tie.Need-loop-again Inv-loop μ-loop
 loop-again c =
     let r = c .before in
-    let f = r .before .before in
-    let d = f .before .before .before in
-    let s = d .before .before in
-    let near = round-bound (s .pre .0) (s .args .start .now) (s .args .k) stepLimit (s .pre .1 .1 .0) (d .loop .end) (d .loop .inv .1 .0) in
-    (omega arith, (rw (r .round .ensures .1) near, rounding-on (d .loop .inv .1 .1) (omega arith) _ (f .before .is-out .ensures) (f .if1 .left) _ (r .round .ensures .1) _ (r .round .ensures .0) (c .if2 .left)))
+    let p = s r .pre in
+    let near = round-bound (p .0) (s r .args .start .now) (s r .args .k) stepLimit (p .1 .0 .1 .0) (d r .loop .end) (d r .loop .inv .1 .0) in (
+      (omega arith, trimmed r),
+      (rw (r .round .ensures .1) near, rounding-on (d r .loop .inv .1 .1) (omega arith) _ (f r .before .is-out .ensures) (f r .if1 .left) _ (r .round .ensures .1) _ (r .round .ensures .0) (c .if2 .left)),
+    )
 
 returns-3 : tie.Need-returns-3 Inv-loop μ-loop
-returns-3 c = rounding-ends (c .before .loop .inv .1 .1) (omega arith)
+returns-3 c = let i = c .before .loop .inv in (rounding-ends (i .1 .1) (omega arith), i .0 .1)
 
 pub rounds-spec : {M : Type 1} → statement M
 rounds-spec =

@@ -1,9 +1,9 @@
 -- `attempt` does what the definition's attempt does, but for the box and why it fails. Assumes nothing.
-use mathlib.Core.Path.{_≡_, refl, sym, ap, _∙_}
+use mathlib.Core.Path.{_≡_, sym, ap, _∙_}
 use mathlib.Core.Logic.{_⊎_, ⊎-elim}
 use mathlib.Core.Bool.{Bool}
 use mathlib.Core.List.{List, [], _∷_}
-use Prim.Native.Nat.{ℕ, _+_, _*_, _≤_, _<_}
+use Prim.Native.Nat.{ℕ, _+_, _*_, _≤_}
 use native.Mathlib.Omega.{arith}
 use lib.IntN.{ℤ}
 use mir.Syntax.{w32}
@@ -11,11 +11,10 @@ use mir.Val.{SFits}
 use mir.Facts.{toZ-ofZ}
 use borrow.Author.Needs.{needs}
 use denote.Enum.Declared.{tagOf}
-use Rattle.sheet.specs.Slots.{N, vars, boxes, recoveryBox}
-use Rattle.rates.specs.Box.{within}
-use Rattle.rates.specs.Machine.{Law, baseline, command, machine}
-use Rattle.rates.specs.Plant.{Sides, Usable, lawOf, machineOf}
-use Rattle.rates.proofs.Rates.{usable}
+use Rattle.sheet.specs.Slots.{vars, recoveryBox}
+use Rattle.rates.specs.Box.{trim, within}
+use Rattle.rates.specs.Machine.{baseline, command, machine}
+use Rattle.rates.specs.Plant.{Sides, lawOf, machineOf}
 use Rattle.rates.proofs.Sides.{wider}
 use Rattle.boxes.specs.declared.walk.Walked.{Walked}
 use Rattle.boxes.specs.declared.walk.Walked.the-variants.{Ended}
@@ -24,7 +23,7 @@ use Rattle.boxes.specs.Code.{walked}
 use Rattle.boxes.proofs.walk.Walked.{the-type}
 use Rattle.decision.specs.Decision.{Phase, phase, attempt}
 use Rattle.decision.specs.Code.{summary, startLimit}
-use Rattle.decision.proofs.CodeAttempts.{reached, plant-usable, plant-vars, plant-reach, phase-near, phase-on, phase-stops, attempt-succeeds, attempt-fails, within-trim}
+use Rattle.decision.proofs.CodeAttempts.{reached, plant-usable, plant-vars, plant-trimmed, vars-trimmed, plant-reach, phase-near, phase-on, phase-stops, attempt-succeeds, attempt-fails, within-trim}
 use Rattle.decision.proofs.attempts.attempt.Statement.{statement}
 use Rattle.decision.proofs.attempts.attempt.Tie as tie
 
@@ -70,7 +69,10 @@ module _ (c : tie.After-walk) where
   W = c .walk .last .1 .1 .1 .1 .1 .1 .1 .1 .0
 
   walk-first : walked E W (c .walk .result) ≡ reached (l p) (a p) (v p) (s p .args .width) (first p) (s p .args .start .now) (s p .args .count)
-  walk-first = c .walk .ensures ∙ plant-reach (p .plant .result) _ (under p) _ _ _ _ _ _ _ (c .before .before .before .before .count .ensures)
+  walk-first = c .walk .ensures .0 ∙ plant-reach (p .plant .result) _ (under p) _ _ _ _ _ _ _ (c .before .before .before .before .count .ensures)
+
+  trimmed : trim (vars (v p)) E ≡ E
+  trimmed = vars-trimmed (p .plant .result) _ (under p) (c .walk .ensures .1)
 
 -- where it ended
 module _ (c : tie.After-r) where
@@ -84,7 +86,7 @@ module _ (c : tie.After-r) where
   d = c .r .given .0 .1 .0
 
   near : Sides (startLimit + s (p g) .args .t .first * 1000) (E g) × (d ≤ s (p g) .args .count + 73 * s (p g) .args .t .first)
-  near = phase-near _ _ _ _ (first (p g)) [] _ _ _ (E g) (W g) (walk-first g) t d (c .r .given .1) (s (p g) .pre .0 .0) (s (p g) .pre .1 .1 .0) (s (p g) .pre .1 .1 .1 .0) (s (p g) .pre .0 .1)
+  near = phase-near _ _ _ _ (first (p g)) [] _ _ _ (E g) (W g) (walk-first g) t d (c .r .given .1) (s (p g) .pre .0 .0) (s (p g) .pre .1 .1 .0) (s (p g) .pre .1 .1 .1 .0) (s (p g) .pre .0 .1 .0)
 
   first-on : tried (p g) (first (p g) ∷ last (p g) ∷ []) (s (p g) .args .start .now) (s (p g) .args .count) ≡ tried (p g) (last (p g) ∷ []) (E g) d
   first-on = phase-on _ _ _ _ (first (p g)) _ _ _ _ (E g) (W g) (walk-first g) t d (c .r .given .1)
@@ -105,7 +107,7 @@ module _ (c : tie.After-walk2) where
 
   walk-last : walked F X (c .walk2 .result) ≡ reached (l h) (a h) (v h) (s h .args .width) (last h) (E (g k)) (d k)
   unfolding lawOf
-  walk-last = c .walk2 .ensures ∙ plant-reach (c .before .before .before .plant2 .result) _ (c .before .before .before .plant2 .ensures) _ _ _ _ _ _ _ (g k .before .before .before .before .count .ensures)
+  walk-last = c .walk2 .ensures .0 ∙ plant-reach (c .before .before .before .plant2 .result) _ (c .before .before .before .plant2 .ensures) _ _ _ _ _ _ _ (g k .before .before .before .before .count .ensures)
 
 -- where it ended
 module _ (c : tie.After-q) where
@@ -144,7 +146,10 @@ walk-requires c κs =
     let r = b .before in
     let q = s r .pre in (
       (plant-usable (r .plant .result) _ (under r) (q .0 .0), omega (arith, b .count .ensures, q .0 .0 .boxes-high)),
-      ((q .1 .1 .0, q .1 .1 .1 .0), (omega (arith, q .1 .0), (wider (omega arith) (q .0 .1), omega (arith, q .1 .1 .1 .1)))),
+      (
+        ((q .1 .1 .0, q .1 .1 .1 .0), (omega (arith, q .1 .0), (wider (omega arith) (q .0 .1 .0), omega (arith, q .1 .1 .1 .1)))),
+        plant-trimmed (r .plant .result) _ (under r) (q .0 .1 .1),
+      ),
     )
 
 returns : tie.Need-returns
@@ -158,7 +163,10 @@ walk-requires-2 c κs =
     let q = s (p (g z)) .pre in
     let n = near z in (
       (plant-usable (c .before .before .plant2 .result) _ (c .before .before .plant2 .ensures) (q .0 .0), omega (arith, g z .before .before .before .before .count .ensures, q .0 .0 .boxes-high)),
-      ((q .1 .1 .0, q .1 .1 .1 .0), (omega (arith, q .1 .0), (wider (omega (arith, q .1 .0)) (n .0), omega (arith, q .1 .1 .1 .1, q .1 .0, n .1)))),
+      (
+        ((q .1 .1 .0, q .1 .1 .1 .0), (omega (arith, q .1 .0), (wider (omega (arith, q .1 .0)) (n .0), omega (arith, q .1 .1 .1 .1, q .1 .0, n .1)))),
+        plant-trimmed (c .before .before .plant2 .result) _ (c .before .before .plant2 .ensures) (trimmed (g z)),
+      ),
     )
 
 returns-2 : tie.Need-returns-2

@@ -6,13 +6,14 @@ use mir.Facts.{toZ-ofZ}
 use mir.Syntax.{w64}
 use mir.Val.{SFits, toZ}
 use borrow.Author.Needs.{needs}
-use Rattle.integers.proofs.Z.{up32}
+use Rattle.integers.proofs.Z.{ints, up32}
 use Rattle.rates.specs.Machine.{cap}
 use Rattle.rates.specs.Rate.{outermost, neutral, bandRate, rate}
 use Rattle.rates.specs.Plant.{machineOf}
 use Rattle.rates.proofs.Numbers.{wide}
 use Rattle.rates.proofs.Rates.{outermost-more}
 use Rattle.rates.proofs.Sides.{cap-bound}
+use Rattle.rates.proofs.Sound.{outermost-within}
 use Rattle.rates.proofs.rate.rate.Statement.{statement}
 use Rattle.rates.proofs.rate.rate.Tie as tie
 
@@ -33,14 +34,16 @@ loop-holds c =
 
 band-rate-requires : tie.Need-band-rate-requires Inv-loop μ-loop
 band-rate-requires c κs =
-    let p = c .before .before .before .before .before .pre in
-    (p .0, (p .1, omega arith))
+    let d = c .before .before in
+    let s = d .before .before .before in
+    let p = s .pre in
+    let w = outermost-within (s .args .up) (machineOf (s .args .p) (s .args .sheet .now)) (s .args .b .now) (s .args .i) (d .loop .k) (omega (ints, p .0 .0 .caps (s .args .i) (p .1) .low)) in
+    (p .0, ((p .1, omega arith), rw (d .loop .inv .1) (w .low, w .high)))
 
 loop-again : tie.Need-loop-again Inv-loop μ-loop
 loop-again c =
-    let f : SFits w64 (c .outer .result) = search needs in
-    let g : SFits w64 (c .before .band-rate .result) = search needs in
-    (omega arith, rw outermost-more (toZ-ofZ f ∙ (c .outer .ensures ∙ rw (toZ-ofZ g, c .before .band-rate .ensures, c .before .before .before .before .loop .inv .1) refl)))
+    let f : SFits w64 (c .band-rate .result) = search needs in
+    (omega arith, rw outermost-more (toZ-ofZ f ∙ (c .band-rate .ensures ∙ rw (c .before .before .before .loop .inv .1) refl)))
 
 returns : tie.Need-returns Inv-loop μ-loop
 unfolding rate
@@ -62,7 +65,6 @@ rate-spec =
     neutral-requires
     loop-holds
     band-rate-requires
-    (λ c κs. tt)
     (λ c. omega arith)
     (λ c. omega arith)
     loop-again

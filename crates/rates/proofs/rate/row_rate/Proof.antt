@@ -1,4 +1,5 @@
--- `row_rate` gives a band's share in a rate where it is met: its row bounded, then the allowed change. Assumes nothing.
+-- `row_rate` gives the outer one of z and of a band's share in a rate where it is met: its row bounded, then the allowed
+-- change. Assumes nothing.
 use mathlib.Core.Path.{_≡_, _∙_}
 use Prim.Native.Nat.{_+_, _≤_}
 use native.Mathlib.Omega.{arith}
@@ -40,25 +41,28 @@ bound-requires c κs =
     let s = c .before .before .before .before .before .before in
     ((s .pre .0 .0 .vars, row-fits s), s .pre .0 .1)
 
-change-requires : tie.Need-change-requires
-change-requires c κs =
+further-requires : tie.Need-further-requires
+further-requires c κs =
     let s = c .before .before .before .before .before .before .before .before in
     let g = s .pre .0 .0 in
     let h = s .pre .1 .0 in
     let b = c .before .bound .ensures .1 in
-    ((row-fits s, g .divisors (s .args .k) (s .args .i) (h .1) (h .0)), (simp (wide, c .change-arg .given) (cap-bound g (h .0)), rw (toZ-ofZ (fits64 b tt)) b))
+    let z = s .pre .1 .1 .1 in (
+      (row-fits s, g .divisors (s .args .k) (s .args .i) (h .1) (h .0)),
+      ((simp (wide, c .further-arg .given) (cap-bound g (h .0)), rw (toZ-ofZ (fits64 b tt)) b), simp (wide, c .further-arg .given, toZ-ofZ, s .fits .z) z),
+    )
 
 returns : tie.Need-returns
 unfolding bandRate
 returns c =
     let b = c .before .before in
     let s = b .before .before .before .before .before .before .before in
-    let f : SFits w64 (c .change .result) = search needs in
+    let f : SFits w64 (c .further .result) = search needs in
     let g : SFits w32 (b .before .choose2 .result) = search needs in
     let h : SFits w32 (b .before .before .before .before .choose .result) = search needs in
     toZ-ofZ f
-    ∙ (c .change .ensures
-    ∙ rw (s .pre .1 .1, toZ-ofZ (fits64 (b .bound .ensures .1) tt), b .bound .ensures .0, toZ-ofZ g, toZ-ofZ h, u-is (b .before .before .before .before), v-is (b .before)) (simp (wide, c .before .change-arg .given)))
+    ∙ (c .further .ensures
+    ∙ rw (s .pre .1 .1 .0, toZ-ofZ (fits64 (b .bound .ensures .1) tt), b .bound .ensures .0, toZ-ofZ g, toZ-ofZ h, u-is (b .before .before .before .before), v-is (b .before)) (simp (wide, c .before .further-arg .given, toZ-ofZ, s .fits .z)))
 
 pub row-rate-spec : {M : Type 1} → statement M
 row-rate-spec =
@@ -82,5 +86,5 @@ row-rate-spec =
     (λ c. search needs)
     (λ c. search needs)
     (λ c. search (needs, up32))
-    change-requires
+    further-requires
     returns)

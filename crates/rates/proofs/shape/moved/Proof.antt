@@ -1,4 +1,4 @@
--- `moved` gives the moved box: after i turns, that of the first i variables. Assumes nothing.
+-- `moved` makes the moved box in `out`: after i turns, that of the first i variables. Assumes nothing.
 use mathlib.Core.Path.{_≡_, refl, _∙_}
 use Prim.Native.Nat.{_≤_, _-_, _+_}
 use native.Mathlib.Omega.{arith}
@@ -14,10 +14,10 @@ use Rattle.rates.proofs.shape.moved.Statement.{statement}
 use Rattle.rates.proofs.shape.moved.Tie as tie
 
 abbrev Inv-loop : tie.InvT-loop
-Inv-loop n a k rates r₀ i₀ r i = (i ≤ n) × (r ≡ moved i a k rates)
+Inv-loop n a k rates out₀ i₀ out i = (i ≤ n) × (out ≡ moved i a k rates)
 
 abbrev μ-loop : tie.MeasureT-loop
-μ-loop n a k rates r₀ i₀ r i = n - i
+μ-loop n a k rates out₀ i₀ out i = n - i
 
 loop-holds : tie.Need-loop-holds Inv-loop μ-loop
 unfolding moved sides
@@ -25,13 +25,13 @@ loop-holds c = (omega arith, refl)
 
 along-requires : tie.Need-along-requires Inv-loop μ-loop
 along-requires c κs =
-    let s = c .before .before .before .before in
+    let s = c .before .before .before .before .before in
     let i = c .before .before .before .loop .i in
     (bound-read (sfits-of (c .before .along-arg .given)) (s .pre .1 .0 .at i), (bound-read (sfits-of (c .along-arg2 .given)) (s .pre .1 .1 .at i), s .pre .0 .1))
 
 along-requires-2 : tie.Need-along-requires-2 Inv-loop μ-loop
 along-requires-2 c κs =
-    let s = c .before .before .before .before .before .before .before in
+    let s = c .before .before .before .before .before .before .before .before in
     let h = c .before .before .before .before .before .before .loop .i + N in
     (bound-read (sfits-of (c .before .along-arg3 .given)) (s .pre .1 .0 .at h), (bound-read (sfits-of (c .along-arg4 .given)) (s .pre .1 .1 .at h), s .pre .0 .1))
 
@@ -49,7 +49,7 @@ loop-again c =
     )
 
 returns : tie.Need-returns Inv-loop μ-loop
-returns c = let e : c .before .loop .i ≡ c .before .before .args .n = omega arith in rw e at (c .before .loop .inv .1)
+returns c = let e : c .before .loop .i ≡ c .before .before .before .args .n = omega arith in rw e at (c .before .loop .inv .1)
 
 pub moved-spec : {M : Type 1} → statement M
 moved-spec =
