@@ -8,7 +8,7 @@ use lib.IntN.{ℤ, pos, negℤ}
 use lib.Signed.{leZ}
 use Rattle.integers.specs.Bound.{Bound}
 use Rattle.integers.proofs.Z.{bound-in, ints, le-true}
-use Rattle.sheet.specs.Slots.{vars}
+use Rattle.layout.specs.Slots.{vars}
 use Rattle.rates.specs.Box.{lo, hi, all, trim}
 use Rattle.rates.specs.Machine.{Law, Machine, machine}
 use Rattle.rates.specs.Plant.{Sides}

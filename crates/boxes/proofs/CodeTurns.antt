@@ -8,7 +8,7 @@ use native.Mathlib.Nat.{le-refl}
 use borrow.Author.Tests.{le-leb, lt-leb}
 use lib.Dec.{leb}
 use lib.IntN.{ℤ}
-use Rattle.sheet.specs.Slots.{N}
+use Rattle.layout.specs.Slots.{N}
 use Rattle.rates.specs.Box.{hull, within, moved, trim}
 use Rattle.rates.specs.Machine.{Machine}
 use Rattle.rates.specs.Rate.{rates}

@@ -7,8 +7,8 @@ use native.Mathlib.Omega.{arith}
 use lib.Dec.{leb}
 use lib.IntN.{ℤ}
 use borrow.Author.Tests.{leb-true}
-use Rattle.sheet.specs.Slots.{N, vars}
-use Rattle.sheet.specs.Valid.{Valid}
+use Rattle.layout.specs.Slots.{N, vars}
+use Rattle.layout.specs.Valid.{Valid}
 use Rattle.rates.specs.Box.{any, trim}
 use Rattle.rates.specs.Machine.{Law, Machine, machine}
 use Rattle.rates.proofs.Box.{differ, and-both}

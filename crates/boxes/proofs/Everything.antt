@@ -1,6 +1,6 @@
 -- One name that opens every definition of this crate and of those below, where an example is computed. Assumes nothing.
 use Prim.Native.Nat.{ℕ}
-use Rattle.sheet.proofs.Everything as sheet
+use Rattle.layout.proofs.Everything as sheet
 use Rattle.rates.proofs.Everything as rates
 use Rattle.boxes.specs.Step.{lifted, settles, endBox, grown, andThen, orElse, isOut, rounds, halving, step, swept}
 use Rattle.boxes.specs.Reach.{leg, walk, reach, clear, lawRefusal, sidesRefusal, ticksRefusal, reachRefusal, answer, reachOf, reachFile}

@@ -5,9 +5,9 @@ use mathlib.Core.List.{List, _∷_, _++_}
 use Prim.Native.Nat.{ℕ, _-_}
 use lib.IntN.{ℤ, pos}
 use lib.ListN.{replicate}
-use Rattle.sheet.specs.Slots.{N}
-use Rattle.sheet.specs.Sheet.{values}
-use Rattle.sheet.specs.SheetA.{fileA}
+use Rattle.layout.specs.Slots.{N}
+use Rattle.layout.specs.Sheet.{values}
+use Rattle.layout.specs.SheetA.{fileA}
 use Rattle.rates.specs.Machine.{Law, baseline, command, machine}
 use Rattle.boxes.specs.Step.{Got, Step, got, failed, unsafe}
 use Rattle.boxes.specs.Reach.{Reached, leg, reach, clear, Answer, refused, reachFile}

@@ -8,7 +8,7 @@ use lib.IntN.{ℤ, pos, negℤ, _+ℤ_, _-ℤ_, _*ℤ_}
 use lib.ListN.{length}
 use lib.Signed.{_≤ℤ_}
 use Rattle.integers.proofs.Z.{ints, flat, prod, mul-mono, le-or-lt}
-use Rattle.sheet.specs.Slots.{N, boxSize, edge}
+use Rattle.layout.specs.Slots.{N, boxSize, edge}
 use Rattle.rates.specs.Box.{lo, hi, In, hull, moved}
 use Rattle.rates.specs.Machine.{Machine, cap}
 use Rattle.rates.specs.Rate.{neutral, neighborhood, faceRate, rates}

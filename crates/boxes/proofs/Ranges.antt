@@ -9,9 +9,9 @@ use lib.IntN.{ℤ, pos, negℤ, _+ℤ_, _-ℤ_, _*ℤ_}
 use lib.Signed.{leZ, _≤ℤ_}
 use Rattle.integers.specs.Bound.{Bound}
 use Rattle.integers.proofs.Z.{ints, le-true, bound-sum, bound-sub, bound-less, bound-in}
-use Rattle.sheet.specs.Slots.{N, vars, edge, leastCommand, greatestCommand, recoverySlot, recoveryBox}
+use Rattle.layout.specs.Slots.{N, vars, edge, leastCommand, greatestCommand, recoverySlot, recoveryBox}
 use Rattle.rates.specs.Box.{lo, hi, hull}
-use Rattle.sheet.specs.Valid.{Valid}
+use Rattle.layout.specs.Valid.{Valid}
 use Rattle.rates.specs.Machine.{Law, baseline, command, Machine, machine, cap, rowOf, least, greatest}
 use Rattle.rates.specs.Rate.{bound, part, neighborhood}
 use Rattle.rates.proofs.Box.{and-both, all-at, box-lo, box-hi}

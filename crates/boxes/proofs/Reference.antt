@@ -4,8 +4,8 @@ use mathlib.Core.Path.{_≡_, refl}
 use mathlib.Core.List.{List, [], _∷_}
 use Prim.Native.Nat.{ℕ}
 use lib.IntN.{ℤ, pos, negsuc}
-use Rattle.sheet.specs.Sheet.{values}
-use Rattle.sheet.proofs.Everything as sheet
+use Rattle.layout.specs.Sheet.{values}
+use Rattle.layout.proofs.Everything as sheet
 use Rattle.rates.specs.Machine.{baseline, command}
 use Rattle.boxes.specs.Reach.{Answer, refused, reachOf}
 use Rattle.boxes.proofs.Everything.{everything}

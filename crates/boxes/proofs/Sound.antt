@@ -10,7 +10,7 @@ use native.Mathlib.Decide.{decLe}
 use lib.IntN.{ℤ, pos, _+ℤ_, _-ℤ_, _*ℤ_}
 use lib.Signed.{_≤ℤ_}
 use Rattle.integers.proofs.Z.{ints, flat}
-use Rattle.sheet.specs.Slots.{_!_, N, unsafeBox}
+use Rattle.layout.specs.Slots.{_!_, N, unsafeBox}
 use Rattle.rates.specs.Box.{In, hull, moved}
 use Rattle.rates.specs.Machine.{Machine, cap, Tick}
 use Rattle.rates.specs.Rate.{outer, neutral, faceRate, rates}

@@ -6,8 +6,8 @@ use lib.Dec.{leb}
 use lib.IntN.{ℤ, pos, negℤ}
 use lib.Signed.{leZ}
 use lib.ListN.{replicate}
-use Rattle.sheet.specs.Slots.{boxSize, vars, leastCommand, greatestCommand, unsafeBox}
-use Rattle.sheet.specs.Sheet.{refusal, values}
+use Rattle.layout.specs.Slots.{boxSize, vars, leastCommand, greatestCommand, unsafeBox}
+use Rattle.layout.specs.Sheet.{refusal, values}
 use Rattle.rates.specs.Box.{lo, hi, all, any, hull, meets, trim}
 use Rattle.rates.specs.Machine.{Law, baseline, command, Machine, machine}
 use Rattle.boxes.specs.Step.{Got, got, failed, out, unsafe, unsettled, andThen, Step, step, swept}

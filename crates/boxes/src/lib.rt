@@ -2,7 +2,7 @@
 // and the step, `walk` the steps in a row that reach, recovery check and decision are made of, and `reach` is the public
 // operation. Boxes and the sheet's value are lent.
 ghost use mathlib.Core.Path.{_≡_};
-ghost use Rattle.sheet.specs.Valid.{Valid};
+ghost use Rattle.layout.specs.Valid.{Valid};
 ghost use Rattle.rates.specs.Machine.{machine};
 ghost use Rattle.rates.specs.Plant.{lawOf, machineOf};
 ghost use Rattle.boxes.specs.Reach as spec;
@@ -16,14 +16,14 @@ use crate::refusals::reach_refusal;
 use crate::step::Budget;
 use crate::walk::Walked;
 use crate::walk::walk;
+use layout::slots::BAND_VAR;
+use layout::slots::BANDS;
+use layout::slots::BOX_SIZE;
+use layout::slots::SLOTS;
+use layout::slots::VARS;
 use rates::Plant;
 use rates::shape::trim;
 use sheet::read_into;
-use sheet::slots::BAND_VAR;
-use sheet::slots::BANDS;
-use sheet::slots::BOX_SIZE;
-use sheet::slots::SLOTS;
-use sheet::slots::VARS;
 
 // The machine of an accepted sheet's value under a law: the baseline, or else one command.
 pub fn plant(sheet: &[i32; SLOTS], baseline: bool, command: i32) -> Plant

@@ -4,14 +4,14 @@ ghost use mathlib.Core.Bool.{_&&_};
 ghost use Prim.Native.Nat.{_≤_};
 ghost use lib.IntN.{pos, negℤ};
 ghost use lib.Signed.{leZ};
-ghost use Rattle.sheet.specs.Slots as slots;
+ghost use Rattle.layout.specs.Slots as slots;
 ghost use Rattle.rates.specs.Plant.{lawOf};
 ghost use Rattle.boxes.specs.Reach.{lawRefusal, reachRefusal, sidesRefusal, ticksRefusal};
-use sheet::slots::BOX_SIZE;
-use sheet::slots::GREATEST;
-use sheet::slots::LEAST;
-use sheet::slots::N;
-use sheet::slots::SLOTS;
+use layout::slots::BOX_SIZE;
+use layout::slots::GREATEST;
+use layout::slots::LEAST;
+use layout::slots::N;
+use layout::slots::SLOTS;
 
 // The numbers, as sheet's own refusals have theirs.
 pub const COMMAND: u8 = 14;

@@ -5,12 +5,12 @@ ghost use Rattle.rates.specs.Box.{trim};
 ghost use Rattle.rates.specs.Plant.{Sides, Usable, limit, machineOf};
 ghost use Rattle.boxes.specs.Step.{isOut, rounds, settles, step};
 ghost use Rattle.boxes.specs.Code.{countLimit, roundBox, stepLimit, stepped};
+use layout::slots::BOX_SIZE;
+use layout::slots::SLOTS;
 use rates::Plant;
 use rates::rate::rates;
 use rates::shape::grow;
 use rates::shape::moved;
-use sheet::slots::BOX_SIZE;
-use sheet::slots::SLOTS;
 
 // A round is due only while the count is not the allowance, if there is one.
 pub struct Budget {

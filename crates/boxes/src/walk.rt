@@ -1,7 +1,7 @@
 // A walk over many ticks: steps in a row, each swept box tested.
 ghost use mathlib.Core.Path.{_≡_};
 ghost use Prim.Native.Nat.{_+_, _*_, _≤_, _<_, min};
-ghost use Rattle.sheet.specs.Slots as slots;
+ghost use Rattle.layout.specs.Slots as slots;
 ghost use Rattle.rates.specs.Box as spec;
 ghost use Rattle.rates.specs.Plant.{Sides, Usable, machineOf};
 ghost use Rattle.boxes.specs.Reach.{clear, leg, reach};
@@ -9,12 +9,12 @@ ghost use Rattle.boxes.specs.Code.{countLimit, legged, stepLimit, walkLi
 use crate::step::Budget;
 use crate::step::Stepped;
 use crate::step::step;
+use layout::slots::BOX_SIZE;
+use layout::slots::SLOTS;
 use rates::Plant;
 use rates::shape::arrive;
 use rates::shape::join;
 use rates::shape::meets_unsafe;
-use sheet::slots::BOX_SIZE;
-use sheet::slots::SLOTS;
 
 // What a leg or a walk came to, with the count of rounds after it. The boxes are lent beside it.
 pub enum Walked {

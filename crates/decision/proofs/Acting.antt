@@ -6,8 +6,8 @@ use Prim.Native.Nat.{ℕ, zero, suc, _+_, _*_, _<_}
 use native.Mathlib.Omega.{arith}
 use lib.ListN.{length, getD, replicate, length-append, length-replicate, getD-replicate, List·getD-append}
 use lib.Seq.{getD-append-add}
-use Rattle.sheet.specs.Slots.{δ}
-use Rattle.sheet.specs.Sheet.{values}
+use Rattle.layout.specs.Slots.{δ}
+use Rattle.layout.specs.Sheet.{values}
 use Rattle.rates.specs.Machine.{baseline}
 use Rattle.decision.specs.Run.{Period, lawOf, acting, lawAt}
 

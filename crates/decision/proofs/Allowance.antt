@@ -11,11 +11,11 @@ use lib.IntN.{ℤ, pos, negℤ}
 use lib.Signed.{leZ}
 use lib.ListN.{getD, length}
 use borrow.Author.Tests.{leb-true, leb-false}
-use Rattle.sheet.specs.Slots.{vars, boxes, δ, α, ρ, leastCommand, greatestCommand, recoveryBox}
-use Rattle.sheet.specs.Sheet.{refusal, values}
-use Rattle.sheet.specs.Valid.{Valid}
-use Rattle.sheet.proofs.Valid.{valid}
-use Rattle.sheet.proofs.Causes.{refusal-most}
+use Rattle.layout.specs.Slots.{vars, boxes, δ, α, ρ, leastCommand, greatestCommand, recoveryBox}
+use Rattle.layout.specs.Sheet.{refusal, values}
+use Rattle.layout.specs.Valid.{Valid}
+use Rattle.layout.proofs.Valid.{valid}
+use Rattle.layout.proofs.Causes.{refusal-most}
 use Rattle.rates.specs.Box.{lo, hi, all, within}
 use Rattle.rates.specs.Machine.{machine}
 use Rattle.rates.proofs.Box.{differ}

@@ -8,9 +8,9 @@ use native.Mathlib.Omega.{arith}
 use lib.Dec.{T, leb}
 use lib.IntN.{ℤ}
 use lib.ListN.{replicate}
-use Rattle.sheet.specs.Slots.{vars, boxes, δ, α, ρ, recoveryBox}
-use Rattle.sheet.specs.Sheet.{refusal, values}
-use Rattle.sheet.specs.Valid.{Valid}
+use Rattle.layout.specs.Slots.{vars, boxes, δ, α, ρ, recoveryBox}
+use Rattle.layout.specs.Sheet.{refusal, values}
+use Rattle.layout.specs.Valid.{Valid}
 use Rattle.rates.specs.Box.{In}
 use Rattle.rates.specs.Machine.{Law, baseline, command}
 use Rattle.rates.proofs.Inside.{inside-in, within-inside}

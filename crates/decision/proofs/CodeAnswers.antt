@@ -5,7 +5,7 @@ use mathlib.Core.List.{List}
 use Prim.Native.Nat.{ℕ, zero, suc, max}
 use native.Mathlib.Omega.{arith}
 use lib.IntN.{ℤ, pos}
-use Rattle.sheet.specs.Slots.{δ, α, ρ, recoveryBox}
+use Rattle.layout.specs.Slots.{δ, α, ρ, recoveryBox}
 use Rattle.boxes.specs.Step.{andThen}
 use Rattle.boxes.specs.Reach.{reach, walk}
 use Rattle.decision.specs.Decision.{follow, attempt, Reply, refused, tries, decisionPhases, decisionOf, recoveryPhases, recoveryOf, unless}

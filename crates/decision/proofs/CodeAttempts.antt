@@ -8,8 +8,8 @@ use native.Mathlib.Nat.{le-refl}
 use borrow.Author.Tests.{le-leb, lt-leb}
 use lib.Dec.{leb}
 use lib.IntN.{ℤ}
-use Rattle.sheet.specs.Slots.{N, vars, boxes, recoveryBox}
-use Rattle.sheet.specs.Valid.{Valid}
+use Rattle.layout.specs.Slots.{N, vars, boxes, recoveryBox}
+use Rattle.layout.specs.Valid.{Valid}
 use Rattle.rates.specs.Box.{all, trim, within}
 use Rattle.rates.specs.declared.Plant.{Plant}
 use Rattle.rates.specs.Machine.{Law, Machine, machine}

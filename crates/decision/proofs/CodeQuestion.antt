@@ -8,7 +8,7 @@ use borrow.Author.Tests.{eqb-true, le-leb, lt-leb}
 use lib.Dec.{eqb}
 use lib.IntN.{ℤ}
 use lib.ListN.{length, getD}
-use Rattle.sheet.specs.Slots.{N, vars}
+use Rattle.layout.specs.Slots.{N, vars}
 use Rattle.rates.specs.Box.{trim}
 use Rattle.rates.specs.Machine.{command}
 use Rattle.rates.specs.Plant.{Sides}

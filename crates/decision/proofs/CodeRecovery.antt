@@ -9,11 +9,11 @@ use lib.ListN.{set, drop, length, length-take, length-drop, getD-replicate}
 use lib.Seq.{ext-getD, getD-set-other}
 use Rattle.integers.specs.Bound.{Bound}
 use Rattle.integers.proofs.Z.{ints, bound-in}
-use Rattle.sheet.specs.Slots.{_!_, N, boxSize, vars, recoverySlot, recoveryBox}
-use Rattle.sheet.specs.Sheet.{refusal, values}
-use Rattle.sheet.specs.Valid.{Valid}
-use Rattle.sheet.proofs.Streams.{lt-or-le}
-use Rattle.sheet.proofs.Valid.{valid, recovery-beyond}
+use Rattle.layout.specs.Slots.{_!_, N, boxSize, vars, recoverySlot, recoveryBox}
+use Rattle.layout.specs.Sheet.{refusal, values}
+use Rattle.layout.specs.Valid.{Valid}
+use Rattle.layout.proofs.Streams.{lt-or-le}
+use Rattle.layout.proofs.Valid.{valid, recovery-beyond}
 use Rattle.rates.specs.Box.{lo, hi, sides, trim}
 use Rattle.rates.specs.Plant.{Sides}
 use Rattle.rates.proofs.Box.{sides-length, sides-lo, sides-hi, box-lo, box-hi}

@@ -6,7 +6,7 @@ use Prim.Native.Nat.{ℕ, zero, suc, _<_}
 use native.Mathlib.Omega.{arith}
 use lib.IntN.{ℤ}
 use lib.ListN.{replicate}
-use Rattle.sheet.specs.Slots.{vars, boxes, recoveryBox, unsafeBox}
+use Rattle.layout.specs.Slots.{vars, boxes, recoveryBox, unsafeBox}
 use Rattle.rates.specs.Box.{In}
 use Rattle.rates.specs.Machine.{Law, Machine, machine, Tick}
 use Rattle.boxes.proofs.Sound.{Ticks}

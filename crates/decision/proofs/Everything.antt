@@ -1,6 +1,6 @@
 -- One name that opens every definition of this crate and of those below, where an example is computed. Assumes nothing.
 use Prim.Native.Nat.{ℕ}
-use Rattle.sheet.proofs.Everything as sheet
+use Rattle.layout.proofs.Everything as sheet
 use Rattle.boxes.proofs.Everything as boxes
 use Rattle.decision.specs.Question.{allowanceOf, commandOf, pairs, measured, formRefusal, allowanceRefusal, questionRefusal}
 use Rattle.decision.specs.Decision.{follow, attempt, outcome, tries, decisionPhases, decisionOf, recoveryPhases, recoveryOf, unless, checkRecovery, decide, codeOf, widthOf, roundsOf, packed}

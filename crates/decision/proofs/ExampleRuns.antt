@@ -10,9 +10,9 @@ use lib.IntN.{ℤ, pos, negsuc}
 use lib.Seq.{sets}
 use mir.Syntax.{w32}
 use Rattle.integers.specs.Bytes.{beBytes, encode}
-use Rattle.sheet.specs.Slots.{N, bandSlot, rowSlot, recoverySlot, unsafeSlot, recoveryBox}
-use Rattle.sheet.specs.Sheet.{zeros, values, bytesOf}
-use Rattle.sheet.specs.SheetA.{fileA}
+use Rattle.layout.specs.Slots.{N, bandSlot, rowSlot, recoverySlot, unsafeSlot, recoveryBox}
+use Rattle.layout.specs.Sheet.{zeros, values, bytesOf}
+use Rattle.layout.specs.SheetA.{fileA}
 use Rattle.rates.specs.Box.{In}
 use Rattle.rates.specs.Machine.{Law, baseline, command}
 use Rattle.rates.proofs.Box.{differ, all-at}

@@ -11,8 +11,8 @@ use lib.Signed.{_≤ℤ_}
 use lib.ListN.{length, replicate, length-append, length-replicate}
 use Rattle.integers.specs.Bound.{size}
 use Rattle.integers.proofs.Z.{ints, sub, neg}
-use Rattle.sheet.specs.Slots.{_!_, vars, δ, α, ρ, recoveryBox}
-use Rattle.sheet.specs.Valid.{Valid}
+use Rattle.layout.specs.Slots.{_!_, vars, δ, α, ρ, recoveryBox}
+use Rattle.layout.specs.Valid.{Valid}
 use Rattle.rates.specs.Box.{In}
 use Rattle.rates.specs.Machine.{Law, baseline, command, machine, Tick}
 use Rattle.rates.specs.Rate.{neutral}

@@ -12,9 +12,9 @@ use lib.ListN.{length, getD, length-append, List·getD-append}
 use lib.Seq.{getD-append-add}
 use Rattle.integers.specs.Bound.{Bound}
 use Rattle.integers.proofs.Z.{ints}
-use Rattle.sheet.specs.Slots.{_!_, vars, bands, bandVar, δ, recoveryBox}
-use Rattle.sheet.specs.Sheet.{values}
-use Rattle.sheet.specs.Valid.{Valid}
+use Rattle.layout.specs.Slots.{_!_, vars, bands, bandVar, δ, recoveryBox}
+use Rattle.layout.specs.Sheet.{values}
+use Rattle.layout.specs.Valid.{Valid}
 use Rattle.rates.specs.Box.{In}
 use Rattle.rates.specs.Machine.{Law, Machine, machine, Tick}
 use Rattle.rates.proofs.Bands.{Band, has-band}

@@ -11,10 +11,10 @@ use native.Mathlib.Omega.{arith}
 use lib.Dec.{T, T-not}
 use lib.IntN.{ℤ}
 use lib.ListN.{length, getD, replicate}
-use Rattle.sheet.specs.Slots.{vars, δ, α, recoveryBox}
-use Rattle.sheet.specs.Sheet.{values}
-use Rattle.sheet.specs.Valid.{Valid}
-use Rattle.sheet.proofs.Valid.{valid}
+use Rattle.layout.specs.Slots.{vars, δ, α, recoveryBox}
+use Rattle.layout.specs.Sheet.{values}
+use Rattle.layout.specs.Valid.{Valid}
+use Rattle.layout.proofs.Valid.{valid}
 use Rattle.rates.specs.Box.{In}
 use Rattle.rates.specs.Machine.{Law, baseline, command, machine, Tick}
 use Rattle.decision.specs.Decision.{checkRecovery, decide}

@@ -10,8 +10,8 @@ use lib.IntN.{ℤ, _-ℤ_}
 use lib.Signed.{leZ}
 use lib.ListN.{length, getD}
 use Rattle.integers.proofs.Z.{le-true}
-use Rattle.sheet.specs.Slots.{_!_, vars, δ}
-use Rattle.sheet.specs.Sheet.{values}
+use Rattle.layout.specs.Slots.{_!_, vars, δ}
+use Rattle.layout.specs.Sheet.{values}
 use Rattle.rates.specs.Box.{lo, hi, In, all}
 use Rattle.rates.specs.Machine.{Law, baseline, Machine, machine, cap, rowOf, least, greatest, bandMeets, numerator, change, Tick}
 use Rattle.rates.proofs.Box.{differ, and-both, all-at}

@@ -1,7 +1,7 @@
 -- The starred checks hold: the two columns of the table are equal. Each row is computed by itself; both columns at once take much longer. Assumes nothing.
 use mathlib.Core.Path.{_≡_, refl}
 use mathlib.Core.List.{List, [], _∷_, map}
-use Rattle.sheet.specs.SheetA.{fileA}
+use Rattle.layout.specs.SheetA.{fileA}
 use Rattle.decision.specs.Starred.{Check, asksA, lines, others, table}
 use Rattle.decision.proofs.Everything.{everything}
 

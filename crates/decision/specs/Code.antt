@@ -2,7 +2,7 @@
 use mathlib.Core.List.{List, [], _∷_}
 use Prim.Native.Nat.{ℕ}
 use lib.IntN.{ℤ}
-use Rattle.sheet.specs.Slots.{vars}
+use Rattle.layout.specs.Slots.{vars}
 use Rattle.rates.specs.Machine.{baseline, command}
 use Rattle.boxes.specs.Step.{Got, got, failed, out}
 use Rattle.decision.specs.declared.Decision.{Decision}

@@ -4,8 +4,8 @@ use mathlib.Core.List.{List, [], _∷_}
 use Prim.Native.Nat.{ℕ, zero, suc, _+_, _*_, _/_, _^_, max}
 use lib.Dec.{leb}
 use lib.IntN.{ℤ}
-use Rattle.sheet.specs.Slots.{vars, boxes, δ, α, ρ, recoveryBox}
-use Rattle.sheet.specs.Sheet.{refusal, values}
+use Rattle.layout.specs.Slots.{vars, boxes, δ, α, ρ, recoveryBox}
+use Rattle.layout.specs.Sheet.{refusal, values}
 use Rattle.rates.specs.Box.{within}
 use Rattle.rates.specs.Machine.{Law, baseline, command, machine}
 use Rattle.boxes.specs.Step.{Got, got, failed, out, unrecovered, andThen}

@@ -4,8 +4,8 @@ use mathlib.Core.List.{List, [], _∷_, _++_}
 use Prim.Native.Nat.{ℕ, zero, suc, _+_, _/_, _%_}
 use lib.Dec.{ltb, eqb}
 use lib.ListN.{length, take, drop}
-use Rattle.sheet.specs.Slots.{vars}
-use Rattle.sheet.specs.Sheet.{values}
+use Rattle.layout.specs.Slots.{vars}
+use Rattle.layout.specs.Sheet.{values}
 use Rattle.decision.specs.Question.{questionLength}
 use Rattle.decision.specs.Decision.{Verdict, keep, finest, spent, Reply, refused, answered, decide, checkRecovery}
 use Rattle.decision.specs.Run.{isKeep}

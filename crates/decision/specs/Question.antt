@@ -7,7 +7,7 @@ use lib.IntN.{ℤ, pos}
 use lib.ListN.{getD, length, take, drop}
 use mir.Syntax.{w32}
 use Rattle.integers.specs.Bytes.{be, decode}
-use Rattle.sheet.specs.Slots.{vars}
+use Rattle.layout.specs.Slots.{vars}
 use Rattle.rates.specs.Box.{sides}
 use Rattle.rates.specs.Machine.{command}
 use Rattle.boxes.specs.Reach.{orNext, lawRefusal, sidesRefusal}

@@ -7,8 +7,8 @@ use Prim.Native.Nat.{ℕ, suc, _+_, _*_, _≤_, _<_}
 use lib.Dec.{T}
 use lib.IntN.{ℤ}
 use lib.ListN.{getD, length, replicate}
-use Rattle.sheet.specs.Slots.{vars, boxes, δ, α, recoveryBox, unsafeBox}
-use Rattle.sheet.specs.Sheet.{values}
+use Rattle.layout.specs.Slots.{vars, boxes, δ, α, recoveryBox, unsafeBox}
+use Rattle.layout.specs.Sheet.{values}
 use Rattle.rates.specs.Box.{In}
 use Rattle.rates.specs.Machine.{Law, baseline, command, machine, Tick}
 use Rattle.decision.specs.Question.{commandOf, measured}

@@ -6,9 +6,9 @@ use Prim.Native.Nat.{ℕ, _+_, _*_, _-_, _^_}
 use lib.IntN.{ℤ, pos, negsuc}
 use lib.ListN.{replicate}
 use Rattle.integers.specs.Division.{floorDiv, ceilDiv}
-use Rattle.sheet.specs.Slots.{N, bandSlot, bandSize}
-use Rattle.sheet.specs.Sheet.{values}
-use Rattle.sheet.specs.SheetA.{fileA}
+use Rattle.layout.specs.Slots.{N, bandSlot, bandSize}
+use Rattle.layout.specs.Sheet.{values}
+use Rattle.layout.specs.SheetA.{fileA}
 use Rattle.rates.specs.Box.{lo, hi, meets}
 use Rattle.rates.specs.Machine.{Law, baseline, command, machine, bandMeets, clamp}
 use Rattle.boxes.specs.Step.{Got, got, failed, out}

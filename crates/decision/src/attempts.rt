@@ -3,8 +3,8 @@ ghost use mathlib.Core.Path.{_≡_};
 ghost use mathlib.Core.List.{List};
 ghost use Prim.Native.Nat.{_+_, _*_, _≤_, _<_};
 ghost use lib.IntN.{ℤ};
-ghost use Rattle.sheet.specs.Slots.{vars};
-ghost use Rattle.sheet.specs.Valid.{Valid};
+ghost use Rattle.layout.specs.Slots.{vars};
+ghost use Rattle.layout.specs.Valid.{Valid};
 ghost use Rattle.rates.specs.Box.{trim};
 ghost use Rattle.rates.specs.Plant.{Sides};
 ghost use Rattle.boxes.specs.Code.{countLimit, walked};
@@ -15,12 +15,12 @@ use boxes::plant;
 use boxes::step::Budget;
 use boxes::walk::Walked;
 use boxes::walk::walk;
+use layout::slots::BOX_SIZE;
+use layout::slots::BOXES;
+use layout::slots::RECOVERY;
+use layout::slots::SLOTS;
 use rates::shape::box_at;
 use rates::shape::within;
-use sheet::slots::BOX_SIZE;
-use sheet::slots::BOXES;
-use sheet::slots::RECOVERY;
-use sheet::slots::SLOTS;
 
 // What is tried: `first` ticks under the command, then `then` ticks under the baseline, within a budget of rounds.
 pub struct Trial {
@@ -64,7 +64,7 @@ fn attempt(
 {
     let b = t.budget;
     let p = plant(sheet, false, t.command);
-    let boxes = sheet::count(sheet, BOXES);
+    let boxes = layout::count(sheet, BOXES);
     let mut end = *start;
     let mut swept = end;
     let r = walk(

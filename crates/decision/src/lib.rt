@@ -3,8 +3,8 @@
 // run of the machine is safe, and proofs/Run.antt proves it.
 ghost use mathlib.Core.Path.{_≡_};
 ghost use Prim.Native.Nat.{ℕ, _≤_, max};
-ghost use Rattle.sheet.specs.Slots.{recoveryBox, vars};
-ghost use Rattle.sheet.specs.Valid.{Valid};
+ghost use Rattle.layout.specs.Slots.{recoveryBox, vars};
+ghost use Rattle.layout.specs.Valid.{Valid};
 ghost use Rattle.rates.specs.Box.{trim};
 ghost use Rattle.decision.specs.Question.{allowanceOf};
 ghost use Rattle.decision.specs.Decision.{answered, checkRecovery, decide, recoveryOf, roundsOf, spent};
@@ -16,15 +16,15 @@ pub mod question;
 use attempts::Trial;
 use attempts::tries;
 use boxes::step::Budget;
+use layout::count;
+use layout::slots::ALPHA;
+use layout::slots::DELTA;
+use layout::slots::RECOVERY;
+use layout::slots::RHO;
+use layout::slots::SLOTS;
+use layout::slots::VARS;
 use rates::shape::box_at;
-use sheet::count;
 use sheet::read_into;
-use sheet::slots::ALPHA;
-use sheet::slots::DELTA;
-use sheet::slots::RECOVERY;
-use sheet::slots::RHO;
-use sheet::slots::SLOTS;
-use sheet::slots::VARS;
 
 // A decision: a verdict with the width and the rounds over all widths, or the number of a refusal.
 pub enum Decision {

@@ -2,16 +2,16 @@
 ghost use mathlib.Core.Path.{_≡_};
 ghost use Prim.Native.Nat.{_+_, _*_, _≤_};
 ghost use lib.ListN.{length};
-ghost use Rattle.sheet.specs.Slots as slots;
+ghost use Rattle.layout.specs.Slots as slots;
 ghost use Rattle.decision.specs.Question.{allowanceOf, commandOf, formRefusal, measured, pairs, questionLength, questionRefusal};
 use boxes::refusals::law_refusal;
 use boxes::refusals::sides_refusal;
-use sheet::bytes::I32;
-use sheet::bytes::four;
-use sheet::bytes::get_i32;
-use sheet::slots::BOX_SIZE;
-use sheet::slots::N;
-use sheet::slots::SLOTS;
+use encoding::bytes::four;
+use encoding::bytes::get_i32;
+use layout::sizes::I32;
+use layout::slots::BOX_SIZE;
+use layout::slots::N;
+use layout::slots::SLOTS;
 
 // The places of the numbers: a mark, the allowance, the command, pairs of sides.
 const ALLOWANCE_AT: usize = 2;

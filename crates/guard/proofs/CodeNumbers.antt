@@ -14,8 +14,8 @@ use mir.Facts.{toZ-ofZ}
 use Rattle.integers.specs.Bound.{Bound}
 use Rattle.integers.specs.Bytes.{beBytes}
 use Rattle.integers.proofs.Z.{fits, fits64}
-use Rattle.sheet.specs.Slots.{_!_}
-use Rattle.sheet.specs.Fields.{i32, encoded}
+use Rattle.layout.specs.Slots.{_!_}
+use Rattle.layout.specs.Fields.{i32, encoded}
 use Rattle.rates.specs.Box.{lo, hi}
 use Rattle.guard.specs.Calls.{numberBytes, numberAt, numbersIn, sidesOf}
 

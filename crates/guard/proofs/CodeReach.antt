@@ -9,10 +9,10 @@ use lib.Dec.{eqb}
 use lib.IntN.{ℤ, pos}
 use lib.ListN.{length, length-append, List·getD-append}
 use lib.Seq.{sets, sets-eq}
-use Rattle.sheet.specs.Slots.{_!_, vars}
-use Rattle.sheet.specs.Fields.{i32, encoded}
-use Rattle.sheet.specs.Sheet.{refusal, values}
-use Rattle.sheet.specs.Valid.{Valid}
+use Rattle.layout.specs.Slots.{_!_, vars}
+use Rattle.layout.specs.Fields.{i32, encoded}
+use Rattle.layout.specs.Sheet.{refusal, values}
+use Rattle.layout.specs.Valid.{Valid}
 use Rattle.rates.specs.Box.{sides, trim}
 use Rattle.rates.specs.Machine.{Law, Machine, machine}
 use Rattle.rates.specs.Plant.{Sides, Usable, lawOf}

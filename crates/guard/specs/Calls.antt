@@ -8,10 +8,10 @@ use lib.ListN.{set, getD, length}
 use lib.Seq.{sets}
 use mir.Syntax.{w32}
 use Rattle.integers.specs.Bytes.{decode}
-use Rattle.sheet.specs.Slots.{_!_, slots, vars}
-use Rattle.sheet.specs.Refusals.{Cause, unless}
-use Rattle.sheet.specs.Fields.{i32, encoded}
-use Rattle.sheet.specs.Sheet.{zeros, refusal, values, length-of, writeRefusal, written}
+use Rattle.layout.specs.Slots.{_!_, slots, vars}
+use Rattle.layout.specs.Refusals.{Cause, unless}
+use Rattle.layout.specs.Fields.{i32, encoded}
+use Rattle.layout.specs.Sheet.{zeros, refusal, values, length-of, writeRefusal, written}
 use Rattle.rates.specs.Box.{lo, hi}
 use Rattle.rates.specs.Plant.{lawOf}
 use Rattle.boxes.specs.Reach.{orNext, Answer, noBox, reachFile}

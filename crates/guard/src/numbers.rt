@@ -3,16 +3,16 @@ ghost use mathlib.Core.Path.{_≡_};
 ghost use Prim.Native.Nat.{_+_, _*_, _≤_};
 ghost use lib.ListN.{getD, length};
 ghost use lib.Seq.{sets};
-ghost use Rattle.sheet.specs.Slots as slots;
-ghost use Rattle.sheet.specs.Sheet.{zeros};
+ghost use Rattle.layout.specs.Slots as slots;
+ghost use Rattle.layout.specs.Sheet.{zeros};
 ghost use Rattle.rates.specs.Plant.{Sides};
 ghost use Rattle.guard.specs.Calls.{numberAt, numberBytes, sheetIn, sidesOf};
-use sheet::bytes::I32;
-use sheet::bytes::get_i32;
-use sheet::bytes::put_i32;
-use sheet::slots::BOX_SIZE;
-use sheet::slots::N;
-use sheet::slots::SLOTS;
+use encoding::bytes::get_i32;
+use encoding::bytes::put_i32;
+use layout::sizes::I32;
+use layout::slots::BOX_SIZE;
+use layout::slots::N;
+use layout::slots::SLOTS;
 
 // The byte at a place, 0 where it is missing.
 fn byte(bytes: &[u8], at: usize) -> u8

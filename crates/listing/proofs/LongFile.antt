@@ -11,17 +11,17 @@ use lib.IntN.{ℤ}
 use lib.ListN.{length, take, drop, set, length-take}
 use lib.Seq.{take-all, take-take, take-nil, getD-take}
 use borrow.Author.Tests.{le-leb}
-use Rattle.sheet.specs.Slots.{headSize, vars}
-use Rattle.sheet.specs.Fields.{Field, width, numberOf, decoded, offset, filled, bad}
-use Rattle.sheet.specs.Layout.{head, headFields}
-use Rattle.sheet.specs.File.{Shape, records, start, marked}
-use Rattle.sheet.specs.Sheet.{headOf, shapeOf, refusal, values, zeros}
-use Rattle.sheet.proofs.Laws.{bad-ranges}
-use Rattle.sheet.proofs.Streams.{lt-or-le}
-use Rattle.sheet.proofs.Places.{Small}
-use Rattle.sheet.proofs.Ranges.{small}
-use Rattle.sheet.proofs.Length.{cap-offset, file-length}
-use Rattle.sheet.proofs.Answers.{refused-beginning, refused-head, refused-size}
+use Rattle.layout.specs.Slots.{headSize, vars}
+use Rattle.layout.specs.Fields.{Field, width, numberOf, decoded, offset, filled, bad}
+use Rattle.layout.specs.Layout.{head, headFields}
+use Rattle.layout.specs.File.{Shape, records, start, marked}
+use Rattle.layout.specs.Sheet.{headOf, shapeOf, refusal, values, zeros}
+use Rattle.layout.proofs.Laws.{bad-ranges}
+use Rattle.layout.proofs.Streams.{lt-or-le}
+use Rattle.layout.proofs.Places.{Small}
+use Rattle.layout.proofs.Ranges.{small}
+use Rattle.layout.proofs.Length.{cap-offset, file-length}
+use Rattle.layout.proofs.Answers.{refused-beginning, refused-head, refused-size}
 use Rattle.decision.specs.Question.{questionLength}
 use Rattle.decision.specs.Decision.{Reply, recoveryOf, unless, checkRecovery}
 use Rattle.decision.specs.Run.{isKeep}

@@ -6,10 +6,9 @@ use native.Mathlib.Omega.{arith}
 use lib.IntN.{ℤ, pos}
 use lib.Signed.{_≤ℤ_}
 use Rattle.integers.proofs.Z.{ints}
-use Rattle.sheet.specs.Slots.{_!_, N, vars}
-use Rattle.sheet.specs.Layout.{varsSlot}
-use Rattle.sheet.specs.Sheet.{refusal, values, zeros}
-use Rattle.sheet.proofs.Valid.{valid, values-zero}
+use Rattle.layout.specs.Slots.{_!_, N, vars, varsSlot}
+use Rattle.layout.specs.Sheet.{refusal, values, zeros}
+use Rattle.layout.proofs.Valid.{valid, values-zero}
 
 -- v's number of variables is one for which there is room
 pub record Counted (v : List ℤ) : Type 0 where

@@ -4,8 +4,8 @@ use mathlib.Core.List.{List}
 use Prim.Native.Nat.{ℕ, _+_, _*_}
 use lib.ListN.{length}
 use lib.Seq.{sets}
-use Rattle.sheet.specs.Slots.{maxBands, maxBoxes}
-use Rattle.sheet.specs.Layout.{maxVars}
+use Rattle.layout.specs.Slots.{maxBands, maxBoxes}
+use Rattle.layout.specs.Layout.{maxVars}
 
 -- `text` was put into a buffer from the place `at` on and ends before `end`; the other bytes are as they were
 pub record Put (text before : List ℕ) (at : ℕ) (after : List ℕ) (end : ℕ) : Type 0 where

@@ -10,7 +10,7 @@ use lib.IntN.{ℤ}
 use lib.Signed.{leZ, ltZ, _≤ℤ_, _<ℤ_, leZ-yes, ltZ-yes}
 use mir.Facts.{and-yes, or-yes}
 use Rattle.integers.proofs.Z.{ints, le-or-lt}
-use Rattle.sheet.specs.Slots.{edge}
+use Rattle.layout.specs.Slots.{edge}
 use Rattle.rates.specs.Machine.{bandMeets}
 
 both : (a b : Bool) → T a → T b → T (a && b)

@@ -14,7 +14,7 @@ use lib.ListN.{set, drop, length, length-set, length-replicate}
 use lib.Seq.{getD-set-same, getD-set-other, getD-take, getD-drop}
 use Rattle.integers.specs.Order.{minZ, maxZ}
 use Rattle.integers.proofs.Z.{ints, flat, le-true}
-use Rattle.sheet.specs.Slots.{_!_, N, boxSize, boxAt}
+use Rattle.layout.specs.Slots.{_!_, N, boxSize, boxAt}
 use Rattle.rates.specs.Box.{lo, hi, sum, all, any, sides, trim, hull, within, meets, moved}
 
 -- ---- tests

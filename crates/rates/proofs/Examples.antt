@@ -6,7 +6,7 @@ use mathlib.Core.List.{List, [], _∷_, _++_}
 use Prim.Native.Nat.{ℕ, _+_, _-_, _*_}
 use lib.IntN.{ℤ, pos, negsuc}
 use lib.ListN.{replicate}
-use Rattle.sheet.specs.Slots.{N, rowSize, rowAt}
+use Rattle.layout.specs.Slots.{N, rowSize, rowAt}
 use Rattle.rates.specs.Box.{meets}
 use Rattle.rates.specs.Machine.{baseline, command, machine, bandMeets, change}
 use Rattle.rates.specs.Rate.{rates}

@@ -10,7 +10,7 @@ use lib.Signed.{leZ, _≤ℤ_, ≤ℤ-refl}
 use Rattle.integers.specs.Order.{minZ, maxZ}
 use Rattle.integers.proofs.Z.{ints, flat, min-is, max-is, prod, span-lo, span-hi, mul-mono, mul-anti, le-or-lt}
 use Rattle.integers.proofs.Division.{floor-mono, ceil-mono}
-use Rattle.sheet.specs.Slots.{N, Row}
+use Rattle.layout.specs.Slots.{N, Row}
 use Rattle.rates.specs.Box.{sum}
 use Rattle.rates.specs.Machine.{clamp, change}
 use Rattle.rates.specs.Rate.{outer, outermost}

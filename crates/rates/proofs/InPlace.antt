@@ -7,7 +7,7 @@ use native.Mathlib.Omega.{arith}
 use lib.IntN.{ℤ, pos}
 use lib.ListN.{set}
 use lib.Seq.{getD-set-other, set-set, set-comm}
-use Rattle.sheet.specs.Slots.{N}
+use Rattle.layout.specs.Slots.{N}
 use Rattle.rates.specs.Box.{lo, hi, sides, trim, hull, moved}
 use Rattle.rates.proofs.Box.{sides-lo, sides-hi}
 

@@ -8,7 +8,7 @@ use lib.IntN.{ℤ, pos, _+ℤ_, _*ℤ_}
 use lib.Signed.{_≤ℤ_, ≤ℤ-refl}
 use Rattle.integers.specs.Order.{minZ, maxZ}
 use Rattle.integers.proofs.Z.{ints, min-is, max-is}
-use Rattle.sheet.specs.Slots.{_!_, N}
+use Rattle.layout.specs.Slots.{_!_, N}
 use Rattle.rates.specs.Box.{lo, hi, In, sides, trim, hull, within, meets, moved}
 use Rattle.rates.specs.Machine.{Machine}
 use Rattle.rates.specs.Rate.{outer, faceRate, rates}

@@ -9,7 +9,7 @@ use lib.IntN.{ℤ, pos, _+ℤ_, _-ℤ_}
 use lib.ListN.{length, set}
 use lib.Signed.{_≤ℤ_}
 use Rattle.integers.proofs.Z.{ints, flat}
-use Rattle.sheet.specs.Slots.{_!_, N, boxSize}
+use Rattle.layout.specs.Slots.{_!_, N, boxSize}
 use Rattle.rates.specs.Box.{In}
 use Rattle.rates.specs.Rate.{outer, neighborhood}
 use Rattle.rates.specs.Plant.{cutAt}

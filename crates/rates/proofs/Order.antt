@@ -7,7 +7,7 @@ use lib.Dec.{T}
 use lib.IntN.{ℤ, _*ℤ_}
 use lib.Signed.{_≤ℤ_}
 use Rattle.integers.proofs.Z.{ints}
-use Rattle.sheet.specs.Slots.{_!_, Row}
+use Rattle.layout.specs.Slots.{_!_, Row}
 use Rattle.rates.specs.Box.{lo, hi, In}
 use Rattle.rates.specs.Machine.{Machine, cap, rowOf, least, greatest, bandMeets}
 use Rattle.rates.specs.Rate.{outer, outermost, weighted, bound, part, bandRate, rate}

@@ -10,8 +10,8 @@ use lib.Seq.{getD-take}
 use lib.Signed.{_≤ℤ_, ≤ℤ-refl}
 use Rattle.integers.proofs.Z.{ints, flat}
 use Rattle.integers.proofs.Division.{floor-le-ceil, ceil-mono}
-use Rattle.sheet.specs.Slots.{_!_, N, Row, bands}
-use Rattle.sheet.specs.Valid.{Valid}
+use Rattle.layout.specs.Slots.{_!_, N, Row, bands}
+use Rattle.layout.specs.Valid.{Valid}
 use Rattle.rates.specs.Box.{sides}
 use Rattle.rates.specs.Machine.{Law, baseline, command, Machine, machine, cap, rowOf, least, greatest, leastOf, greatestOf, numerator, change, Tick}
 use Rattle.rates.proofs.Box.{sides-lo, sides-length}

@@ -7,8 +7,8 @@ use lib.IntN.{ℤ, pos, negℤ, _*ℤ_}
 use lib.Signed.{_≤ℤ_}
 use Rattle.integers.specs.Bound.{Bound}
 use Rattle.integers.proofs.Z.{ints, neg, bound-in, bound-less, bound-sum, bound-sub, bound-mul}
-use Rattle.sheet.specs.Slots.{N, Row, bands, leastCommand, greatestCommand}
-use Rattle.sheet.specs.Valid.{Between, ValidRow, Valid}
+use Rattle.layout.specs.Slots.{N, Row, bands, leastCommand, greatestCommand}
+use Rattle.layout.specs.Valid.{Between, ValidRow, Valid}
 use Rattle.rates.specs.Box.{sum, hull, moved}
 use Rattle.rates.specs.Machine.{Law, baseline, command, Machine, machine, cap, rowOf, least, greatest, leastOf, greatestOf}
 use Rattle.rates.specs.Rate.{weighted, bound, rate, rates, faceRate}

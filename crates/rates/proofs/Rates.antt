@@ -13,8 +13,8 @@ use borrow.Author.Needs.{sfits-of}
 use borrow.Author.Tests.{le-leb, lt-leb}
 use Rattle.integers.specs.Bound.{Bound}
 use Rattle.integers.proofs.Z.{bound-of}
-use Rattle.sheet.specs.Slots.{_!_, N, edge, safetyLeast, safetyGreatest}
-use Rattle.sheet.specs.Valid.{Valid}
+use Rattle.layout.specs.Slots.{_!_, N, edge, safetyLeast, safetyGreatest}
+use Rattle.layout.specs.Valid.{Valid}
 use Rattle.rates.specs.Machine.{Law, machine, leastOf, greatestOf, bandMeets}
 use Rattle.rates.specs.Rate.{outer, outermost}
 use Rattle.rates.specs.Plant.{Usable, lawOf, word}

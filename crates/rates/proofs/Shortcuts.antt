@@ -5,10 +5,10 @@ use mathlib.Core.List.{List, [], _∷_, _++_}
 use Prim.Native.Nat.{_-_}
 use lib.IntN.{ℤ, pos, negsuc}
 use lib.ListN.{replicate}
-use Rattle.sheet.specs.Slots.{N}
-use Rattle.sheet.specs.Sheet.{values}
-use Rattle.sheet.specs.SheetA.{fileA}
-use Rattle.sheet.proofs.Everything as sheet
+use Rattle.layout.specs.Slots.{N}
+use Rattle.layout.specs.Sheet.{values}
+use Rattle.layout.specs.SheetA.{fileA}
+use Rattle.layout.proofs.Everything as sheet
 use Rattle.rates.specs.Machine.{baseline, machine}
 use Rattle.rates.specs.Rate.{rates}
 use Rattle.rates.proofs.Everything.{everything}

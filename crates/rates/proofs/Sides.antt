@@ -8,7 +8,7 @@ use lib.Signed.{_≤ℤ_}
 use lib.ListN.{set, replicate}
 use Rattle.integers.specs.Bound.{Bound}
 use Rattle.integers.proofs.Z.{ints, min-is, max-is, sum, sub, neg, bound-sum, bound-mul, bound-lit, bound-less, bound-in}
-use Rattle.sheet.specs.Slots.{_!_, N, boxSize}
+use Rattle.layout.specs.Slots.{_!_, N, boxSize}
 use Rattle.rates.specs.Box.{lo, hi, sides, trim, hull, moved}
 use Rattle.rates.specs.Machine.{Machine, cap}
 use Rattle.rates.specs.Rate.{outer, rate, neighborhood, faceRate, rates}

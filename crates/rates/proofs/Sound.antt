@@ -10,8 +10,8 @@ use lib.IntN.{ℤ, pos, negsuc, negℤ, natAbs, _-ℤ_}
 use lib.Signed.{_≤ℤ_, ≤ℤ-refl}
 use Rattle.integers.specs.Order.{minZ}
 use Rattle.integers.proofs.Z.{ints, min-is, max-is, neg}
-use Rattle.sheet.specs.Slots.{_!_, N, Row}
-use Rattle.sheet.specs.Valid.{Between, Valid}
+use Rattle.layout.specs.Slots.{_!_, N, Row}
+use Rattle.layout.specs.Valid.{Between, Valid}
 use Rattle.rates.specs.Box.{lo, hi, In}
 use Rattle.rates.specs.Machine.{Law, Machine, machine, cap, rowOf, least, greatest, bandMeets, clamp, numerator, change, Tick}
 use Rattle.rates.specs.Rate.{outer, outermost, weighted, bound, part, neutral, bandRate, rate}

@@ -7,7 +7,7 @@ use lib.IntN.{ℤ, pos, _+ℤ_, _*ℤ_}
 use lib.Signed.{leZ, _≤ℤ_}
 use lib.ListN.{set, replicate}
 use Rattle.integers.specs.Order.{minZ, maxZ}
-use Rattle.sheet.specs.Slots.{_!_, N, boxSize}
+use Rattle.layout.specs.Slots.{_!_, N, boxSize}
 
 abbrev pub lo : List ℤ → ℕ → ℤ
 lo B i = B ! i

@@ -9,8 +9,8 @@ use lib.Signed.{leZ, ltZ, _≤ℤ_}
 use lib.ListN.{length}
 use Rattle.integers.specs.Order.{minZ, maxZ}
 use Rattle.integers.specs.Division.{floorDiv, ceilDiv}
-use Rattle.sheet.specs.Slots.{_!_, Row, vars, bands, bandVar, row}
-use Rattle.sheet.specs.Slots as sheet
+use Rattle.layout.specs.Slots.{_!_, Row, vars, bands, bandVar, row}
+use Rattle.layout.specs.Slots as sheet
 use Rattle.rates.specs.Box.{sum}
 
 -- what acts on the motor: the plain law, or one command

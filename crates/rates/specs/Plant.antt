@@ -5,8 +5,8 @@ use Prim.Native.Nat.{ℕ, _+_, _≤_, _<_}
 use lib.IntN.{ℤ, pos}
 use lib.Signed.{_≤ℤ_}
 use Rattle.integers.specs.Bound.{Bound}
-use Rattle.sheet.specs.Slots.{_!_, N, maxBands}
-use Rattle.sheet.specs.Valid.{Between}
+use Rattle.layout.specs.Slots.{_!_, N, maxBands}
+use Rattle.layout.specs.Valid.{Between}
 use Rattle.rates.specs.declared.Plant.{Plant}
 use Rattle.rates.specs.Machine.{Law, baseline, command, Machine, cap, rowOf}
 

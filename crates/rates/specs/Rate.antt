@@ -6,7 +6,7 @@ use Prim.Native.Nat.{ℕ, zero, suc, _+_}
 use lib.IntN.{ℤ, pos, negℤ, _+ℤ_, _-ℤ_, _*ℤ_}
 use lib.ListN.{set}
 use Rattle.integers.specs.Order.{minZ, maxZ}
-use Rattle.sheet.specs.Slots.{N, Row}
+use Rattle.layout.specs.Slots.{N, Row}
 use Rattle.rates.specs.Box.{lo, hi, sum, sides}
 use Rattle.rates.specs.Machine.{Machine, cap, rowOf, least, greatest, bandMeets, change}
 

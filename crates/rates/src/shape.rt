@@ -5,15 +5,15 @@ ghost use Prim.Native.Nat.{_+_, _≤_};
 ghost use lib.IntN.{pos, _+ℤ_, _*ℤ_};
 ghost use lib.Signed.{leZ};
 ghost use Rattle.integers.specs.Bound.{Bound};
-ghost use Rattle.sheet.specs.Slots as slots;
+ghost use Rattle.layout.specs.Slots as slots;
 ghost use Rattle.rates.specs.Box.{any, hull, meets, moved, trim, within};
 ghost use Rattle.rates.specs.Plant.{Sides, limit};
 use crate::arith::max;
 use crate::arith::min;
-use sheet::slots::BOX_SIZE;
-use sheet::slots::FIRST_UNSAFE;
-use sheet::slots::N;
-use sheet::slots::SLOTS;
+use layout::slots::BOX_SIZE;
+use layout::slots::FIRST_UNSAFE;
+use layout::slots::N;
+use layout::slots::SLOTS;
 
 // b, with what no variable has set to 0.
 pub fn trim(n: usize, b: &[i64; BOX_SIZE]) -> [i64; BOX_SIZE]

@@ -1,36 +1,29 @@
-// The sheet: its value, its reader and its writer, and the format as definitions (document 01, "Sheet layout").
-// A sheet's value is an array of numbers at named slots (slots). `read` and `write` take any input: what they answer,
-// and what they leave in a buffer, is equal to the definitions in specs/Sheet.antt.
+// Reading and writing a sheet (document 01, "Sheet layout"). A sheet's value is an array of numbers at named slots (slots).
+// `read` and `write` take any input: what they answer, and what they leave in a buffer, is equal to the definitions in
+// layout/specs/Sheet.antt.
 ghost use mathlib.Core.Path.{_≡_};
 ghost use mathlib.Core.Bool.{true, _&&_};
 ghost use lib.Dec.{leb};
 ghost use lib.ListN.{length};
-ghost use lib.IntN.{pos, natAbs};
-ghost use lib.Signed.{_≤ℤ_};
-ghost use Prim.Native.Nat.{_<_};
-ghost use Rattle.sheet.specs.Slots.{_!_, headSize, slots};
-ghost use Rattle.sheet.specs.Fields.{bad};
-ghost use Rattle.sheet.specs.Sizes.{capsAt};
-ghost use Rattle.sheet.specs.Layout.{head, headFields};
-ghost use Rattle.sheet.specs.File.{marked};
-ghost use Rattle.sheet.specs.Sheet.{zeros, headOf, contents, refusal, values};
-ghost use Rattle.sheet.specs.Written.{Wrote};
-
-pub mod bytes;
-mod marks;
-mod reader;
-pub mod refusals;
-pub mod sizes;
-pub mod slots;
-mod tests;
-mod writer;
-
-use refusals::BEGINNING;
-use refusals::SIZE;
-use slots::BANDS;
-use slots::BOXES;
-use slots::SLOTS;
-use slots::VARS;
+ghost use Rattle.layout.specs.Slots.{headSize};
+ghost use Rattle.layout.specs.Fields.{bad};
+ghost use Rattle.layout.specs.Sizes.{capsAt};
+ghost use Rattle.layout.specs.Layout.{head, headFields};
+ghost use Rattle.layout.specs.File.{marked};
+ghost use Rattle.layout.specs.Sheet.{zeros, headOf, contents, refusal, values};
+ghost use Rattle.layout.specs.Written.{Wrote};
+use encoding::marks;
+pub use layout::Written;
+use layout::count;
+pub use layout::refusals;
+use layout::refusals::BEGINNING;
+use layout::refusals::SIZE;
+use layout::sizes;
+pub use layout::slots;
+use layout::slots::BANDS;
+use layout::slots::BOXES;
+use layout::slots::SLOTS;
+use layout::slots::VARS;
 
 // A refusal, or 0 and a sheet's numbers.
 pub struct Parsed {
@@ -38,24 +31,10 @@ pub struct Parsed {
     pub value: [i32; SLOTS],
 }
 
-// A refusal, or 0 and how many bytes were written.
-pub struct Written {
-    pub refusal: u8,
-    pub length: usize,
-}
-
 fn clear(v: &mut [i32; SLOTS])
     ensures { λ _. ⌜ now (v .exit) ≡ zeros ⌝ }
 {
     *v = [0i32; SLOTS];
-}
-
-pub fn count(v: &[i32; SLOTS], slot: usize) -> usize
-    requires { ⌜ (slot < slots) × (pos 0 ≤ℤ now v ! slot) ⌝ }
-    ensures { λ r. ⌜ r ≡ natAbs (now (v .entry) ! slot) ⌝ }
-{
-    let x = v[slot];
-    x as usize
 }
 
 // What follows the head's numbers, once they were read and tested.
@@ -86,7 +65,7 @@ fn read_cleared(f: &[u8], v: &mut [i32; SLOTS]) -> u8
         return BEGINNING;
     }
     reader::read_head(f, v);
-    let x = tests::bad_head(v);
+    let x = validation::bad_head(v);
     if x != 0 {
         return x;
     }

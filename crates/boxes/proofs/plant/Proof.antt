@@ -9,8 +9,8 @@ use mir.Facts.{toZ-ofZ, fits-natAbs}
 use mir.Syntax.{w32, w64}
 use mir.Val.{Fits, toZ, ofZ}
 use borrow.Author.Needs.{needs}
-use Rattle.sheet.specs.Slots.{_!_}
-use Rattle.sheet.specs.Valid.{Valid}
+use Rattle.layout.specs.Slots.{_!_}
+use Rattle.layout.specs.Valid.{Valid}
 use Rattle.boxes.proofs.plant.Statement.{statement}
 use Rattle.boxes.proofs.plant.Tie as tie
 

@@ -3,8 +3,8 @@ use mathlib.Core.Path.{sym, ap, _∙_, subst}
 use mathlib.Core.List.{List}
 use lib.IntN.{ℤ}
 use mir.Facts.{toZ-ofZ}
-use Rattle.sheet.specs.Valid.{Valid}
-use Rattle.sheet.proofs.Valid.{valid}
+use Rattle.layout.specs.Valid.{Valid}
+use Rattle.layout.proofs.Valid.{valid}
 use Rattle.rates.specs.Plant.{lawOf}
 use Rattle.boxes.specs.Reach.{reachOf, reachFile}
 use Rattle.boxes.proofs.CodeRefusals.{if-refused, if-accepted}

@@ -2,7 +2,7 @@
 use mathlib.Core.Path.{_≡_, sym, ap, _∙_, subst}
 use Prim.Native.Nat.{ℕ}
 use native.Mathlib.Omega.{arith}
-use Rattle.sheet.specs.Slots.{vars, recoveryBox}
+use Rattle.layout.specs.Slots.{vars, recoveryBox}
 use Rattle.rates.specs.Box.{trim}
 use Rattle.rates.specs.Plant.{Sides}
 use Rattle.boxes.proofs.CodeTurns.{trim-as}

@@ -3,9 +3,9 @@ use mathlib.Core.Path.{_≡_, sym, ap, _∙_, subst}
 use mathlib.Core.List.{List}
 use lib.IntN.{ℤ}
 use borrow.Author.Needs.{needs}
-use Rattle.sheet.specs.Slots.{vars, recoveryBox}
-use Rattle.sheet.specs.Valid.{Valid}
-use Rattle.sheet.proofs.Valid.{valid}
+use Rattle.layout.specs.Slots.{vars, recoveryBox}
+use Rattle.layout.specs.Valid.{Valid}
+use Rattle.layout.proofs.Valid.{valid}
 use Rattle.rates.specs.Box.{trim}
 use Rattle.decision.specs.Decision.{recoveryOf, checkRecovery}
 use Rattle.decision.specs.Code.{checked}

@@ -4,8 +4,8 @@ use mathlib.Core.List.{List}
 use Prim.Native.Nat.{ℕ, _≤_}
 use lib.IntN.{ℤ}
 use borrow.Author.Needs.{needs}
-use Rattle.sheet.specs.Valid.{Valid}
-use Rattle.sheet.proofs.Valid.{valid}
+use Rattle.layout.specs.Valid.{Valid}
+use Rattle.layout.proofs.Valid.{valid}
 use Rattle.decision.specs.Decision.{decide}
 use Rattle.decision.specs.Code.{decided, decisionOn}
 use Rattle.decision.proofs.Allowance.{answer-allowed}

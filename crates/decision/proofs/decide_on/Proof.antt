@@ -9,7 +9,7 @@ use mir.Facts.{toZ-ofZ}
 use mir.Syntax.{w32}
 use mir.Val.{SFits}
 use borrow.Author.Needs.{needs}
-use Rattle.sheet.specs.Slots.{N, vars}
+use Rattle.layout.specs.Slots.{N, vars}
 use Rattle.rates.specs.Plant.{Sides}
 use Rattle.boxes.proofs.CodeTurns.{trim-as}
 use Rattle.decision.specs.Question.{questionLength, measured, questionRefusal}

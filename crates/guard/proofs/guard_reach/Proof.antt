@@ -7,10 +7,10 @@ use lib.Dec.{eqb}
 use lib.IntN.{ℤ}
 use mir.Facts.{toZ-ofZ}
 use borrow.Author.Needs.{needs}
-use Rattle.sheet.specs.Slots.{N, vars}
-use Rattle.sheet.specs.Sheet.{values}
-use Rattle.sheet.specs.Valid.{Valid}
-use Rattle.sheet.proofs.Valid.{valid}
+use Rattle.layout.specs.Slots.{N, vars}
+use Rattle.layout.specs.Sheet.{values}
+use Rattle.layout.specs.Valid.{Valid}
+use Rattle.layout.proofs.Valid.{valid}
 use Rattle.rates.specs.Plant.{Sides, lawOf}
 use Rattle.boxes.specs.Reach.{Answer, reachOf}
 use Rattle.boxes.specs.Code.{answered}

@@ -6,7 +6,7 @@ use native.Mathlib.Omega.{arith}
 use lib.IntN.{ℤ}
 use lib.Seq.{sets}
 use borrow.Author.Needs.{needs}
-use Rattle.sheet.specs.Slots.{slots}
+use Rattle.layout.specs.Slots.{slots}
 use Rattle.guard.specs.Calls.{numberBytes, numbersSize, readRefusal, readCall, readOut}
 use Rattle.guard.proofs.Answers.{or-refused, or-answered, or-unchanged, or-written, room-stop, room-short, room-enough}
 use Rattle.guard.proofs.guard_sheet_read.Statement.{statement}

@@ -4,8 +4,8 @@ use mathlib.Core.List.{List}
 use Prim.Native.Nat.{ℕ}
 use lib.IntN.{ℤ}
 use borrow.Author.Needs.{needs}
-use Rattle.sheet.specs.Sheet.{zeros, length-of, writeRefusal}
-use Rattle.sheet.specs.Written.{writtenLength, Wrote}
+use Rattle.layout.specs.Sheet.{zeros, length-of, writeRefusal}
+use Rattle.layout.specs.Written.{writtenLength, Wrote}
 use Rattle.guard.specs.Calls.{sheetIn, writeCall, writeOut}
 use Rattle.guard.proofs.Answers.{or-refused, or-answered}
 use Rattle.guard.proofs.guard_sheet_write.Statement.{statement}

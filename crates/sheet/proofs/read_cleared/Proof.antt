@@ -8,17 +8,16 @@ use lib.IntN.{ℤ}
 use lib.ListN.{length}
 use borrow.Author.Needs.{needs}
 use borrow.Author.Tests.{not-false, not-true}
-use Rattle.integers.specs.Bound.{m}
-use Rattle.sheet.proofs.Answers.{refused-head}
-use Rattle.sheet.proofs.CodeFile.{mark-is}
-use Rattle.sheet.proofs.CodeRead.{begins, begins-short, begins-wrong}
-use Rattle.sheet.specs.Fields.{bad, filled}
-use Rattle.sheet.specs.File.{marked, recordAt, start}
-use Rattle.sheet.specs.Layout.{_▸_, head, headFields}
-use Rattle.sheet.specs.Sheet.{headOf}
-use Rattle.sheet.specs.Slots.{headSize}
-use Rattle.sheet.specs.Steps.{sized}
-use Rattle.sheet.specs.Sizes.{letters, capsAt}
+use Rattle.layout.proofs.Answers.{refused-head}
+use Rattle.layout.proofs.CodeFile.{mark-is}
+use Rattle.layout.proofs.CodeRead.{begins, begins-short, begins-wrong}
+use Rattle.layout.specs.Fields.{bad, filled}
+use Rattle.layout.specs.File.{marked, recordAt, start}
+use Rattle.layout.specs.Layout.{_▸_, head, headFields}
+use Rattle.layout.specs.Sheet.{headOf}
+use Rattle.layout.specs.Slots.{headSize}
+use Rattle.layout.specs.Steps.{sized}
+use Rattle.layout.specs.Sizes.{letters, capsAt}
 use Rattle.sheet.proofs.read_cleared.Statement.{statement}
 use Rattle.sheet.proofs.read_cleared.Tie as tie
 

@@ -2,9 +2,8 @@
 use mathlib.Core.Path.{_≡_}
 use Prim.Native.Nat.{_≤_, ℕ}
 use native.Mathlib.Omega.{arith}
-use Rattle.integers.specs.Bound.{p}
-use Rattle.sheet.proofs.CodeRead.{counts, rest-read, rest-short}
-use Rattle.sheet.specs.Slots.{N, bands, boxes, maxBands, maxBoxes, vars}
+use Rattle.layout.proofs.CodeRead.{counts, rest-read, rest-short}
+use Rattle.layout.specs.Slots.{N, bands, boxes, maxBands, maxBoxes, vars}
 use Rattle.sheet.proofs.read_rest.Statement.{statement}
 use Rattle.sheet.proofs.read_rest.Tie as tie
 

@@ -7,7 +7,7 @@ use mir.Syntax.{w32}
 use mir.Val.{SFits}
 use borrow.Author.Needs.{needs, sfits-of}
 use Rattle.integers.proofs.Z.{ints}
-use Rattle.sheet.specs.Slots.{leastCommand, greatestCommand}
+use Rattle.layout.specs.Slots.{leastCommand, greatestCommand}
 use Rattle.rates.specs.Plant.{lawOf}
 use Rattle.rates.proofs.Box.{le-is, le-not}
 use Rattle.boxes.specs.Reach.{lawRefusal}

@@ -6,7 +6,7 @@ use Prim.Native.Nat.{ℕ}
 use native.Mathlib.Omega.{arith}
 use lib.IntN.{ℤ}
 use borrow.Author.Needs.{needs}
-use Rattle.sheet.specs.Slots.{unsafeBox}
+use Rattle.layout.specs.Slots.{unsafeBox}
 use Rattle.rates.specs.Box.{any, hull, meets, trim}
 use Rattle.rates.specs.Machine.{Machine}
 use Rattle.rates.specs.Plant.{machineOf}

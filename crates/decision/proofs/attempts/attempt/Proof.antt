@@ -11,7 +11,7 @@ use mir.Val.{SFits}
 use mir.Facts.{toZ-ofZ}
 use borrow.Author.Needs.{needs}
 use denote.Enum.Declared.{tagOf}
-use Rattle.sheet.specs.Slots.{vars, recoveryBox}
+use Rattle.layout.specs.Slots.{vars, recoveryBox}
 use Rattle.rates.specs.Box.{trim, within}
 use Rattle.rates.specs.Machine.{baseline, command, machine}
 use Rattle.rates.specs.Plant.{Sides, lawOf, machineOf}

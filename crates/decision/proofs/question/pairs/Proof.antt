@@ -6,8 +6,8 @@ use mir.Syntax.{w32}
 use mir.Val.{SFits}
 use borrow.Author.Needs.{needs}
 use Rattle.integers.proofs.Z.{up32, from32}
-use Rattle.sheet.specs.Slots.{N}
-use Rattle.sheet.specs.Fields.{decoded}
+use Rattle.layout.specs.Slots.{N}
+use Rattle.layout.specs.Fields.{decoded}
 use Rattle.rates.specs.Box.{sides}
 use Rattle.rates.proofs.Box.{sides-more}
 use Rattle.decision.specs.Question.{pairs}

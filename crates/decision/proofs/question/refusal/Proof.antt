@@ -8,7 +8,7 @@ use mir.Facts.{toZ-ofZ}
 use mir.Syntax.{w32}
 use mir.Val.{SFits}
 use borrow.Author.Needs.{needs}
-use Rattle.sheet.specs.Slots.{vars}
+use Rattle.layout.specs.Slots.{vars}
 use Rattle.rates.specs.Machine.{command}
 use Rattle.rates.specs.Plant.{lawOf}
 use Rattle.boxes.specs.Reach.{lawRefusal, sidesRefusal}

@@ -6,7 +6,7 @@ use mir.Syntax.{w32}
 use mir.Val.{SFits}
 use mir.Facts.{toZ-ofZ}
 use borrow.Author.Needs.{needs}
-use Rattle.sheet.specs.Slots.{slots}
+use Rattle.layout.specs.Slots.{slots}
 use Rattle.guard.specs.Calls.{numbersIn}
 use Rattle.guard.proofs.CodeNumbers.{numbers-more}
 use Rattle.guard.proofs.numbers.get_numbers.Statement.{statement}

@@ -4,7 +4,7 @@ use mir.Syntax.{w32}
 use mir.Val.{SFits}
 use mir.Facts.{toZ-ofZ}
 use borrow.Author.Needs.{needs}
-use Rattle.sheet.specs.Fields.{decoded}
+use Rattle.layout.specs.Fields.{decoded}
 use Rattle.guard.specs.Calls.{numberAt}
 use Rattle.guard.proofs.numbers.number.Statement.{statement}
 use Rattle.guard.proofs.numbers.number.Tie as tie

@@ -3,7 +3,7 @@ use mathlib.Core.Path.{_≡_, refl}
 use Prim.Native.Nat.{_≤_, _-_, _+_}
 use native.Mathlib.Omega.{arith}
 use lib.Seq.{sets}
-use Rattle.sheet.specs.Slots.{N}
+use Rattle.layout.specs.Slots.{N}
 use Rattle.guard.specs.Calls.{sidesOf}
 use Rattle.guard.proofs.CodeNumbers.{sides-more, side-fits, side-is}
 use Rattle.guard.proofs.numbers.put_sides.Statement.{statement}

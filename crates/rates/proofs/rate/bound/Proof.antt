@@ -10,7 +10,7 @@ use mir.Val.{SFits, toZ, ofZ}
 use borrow.Author.Needs.{needs, sfits-of}
 use Rattle.integers.specs.Bound.{Bound}
 use Rattle.integers.proofs.Z.{told, up32, from32, bound-of, bound-sum, bound-mul, bound-less, fits64}
-use Rattle.sheet.specs.Slots.{_!_, N, Row, rowAt}
+use Rattle.layout.specs.Slots.{_!_, N, Row, rowAt}
 use Rattle.rates.specs.Rate.{outer, weighted, bound}
 use Rattle.rates.specs.Plant.{limit, rowLimit, word}
 use Rattle.rates.proofs.Face.{outer-one}

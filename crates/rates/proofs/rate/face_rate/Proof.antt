@@ -11,7 +11,7 @@ use mir.Val.{SFits, toZ, ofZ}
 use borrow.Author.Needs.{needs}
 use Rattle.integers.specs.Bound.{Bound}
 use Rattle.integers.proofs.Z.{ints, told, up32, bound-lit, bound-less, bound-mul, fits64}
-use Rattle.sheet.specs.Slots.{_!_, boxSize, cap}
+use Rattle.layout.specs.Slots.{_!_, boxSize, cap}
 use Rattle.rates.specs.Rate.{neighborhood, faceRate}
 use Rattle.rates.proofs.Numbers.{wide, times-low}
 use Rattle.rates.proofs.Neighborhood.{cut-below, cut-back}

@@ -10,7 +10,7 @@ use mir.Val.{SFits, toZ, ofZ}
 use borrow.Author.Needs.{needs}
 use Rattle.integers.specs.Bound.{Bound}
 use Rattle.integers.proofs.Z.{up32, bound-sum, bound-sub, bound-less, fits64}
-use Rattle.sheet.specs.Slots.{_!_, N, Row, rowAt}
+use Rattle.layout.specs.Slots.{_!_, N, Row, rowAt}
 use Rattle.rates.specs.Machine.{change}
 use Rattle.rates.specs.Rate.{outer}
 use Rattle.rates.specs.Plant.{word}

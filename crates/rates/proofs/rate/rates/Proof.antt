@@ -8,7 +8,7 @@ use mir.Facts.{toZ-ofZ}
 use mir.Syntax.{w64}
 use mir.Val.{SFits}
 use borrow.Author.Needs.{needs}
-use Rattle.sheet.specs.Slots.{N}
+use Rattle.layout.specs.Slots.{N}
 use Rattle.rates.specs.Box.{sides}
 use Rattle.rates.specs.Rate.{faceRate, rates}
 use Rattle.rates.specs.Plant.{machineOf}

@@ -8,7 +8,7 @@ use mir.Syntax.{w32, w64}
 use mir.Val.{SFits}
 use borrow.Author.Needs.{needs}
 use Rattle.integers.proofs.Z.{told, up32, fits64}
-use Rattle.sheet.specs.Slots.{rowSize, rowSlot, slots}
+use Rattle.layout.specs.Slots.{rowSize, rowSlot, slots}
 use Rattle.rates.specs.Machine.{Machine, least, greatest}
 use Rattle.rates.specs.Rate.{bandRate}
 use Rattle.rates.specs.Plant.{machineOf}

@@ -9,7 +9,7 @@ use mir.Val.{SFits, toZ}
 use borrow.Author.Needs.{sfits-of}
 use Rattle.integers.specs.Bound.{Bound}
 use Rattle.integers.proofs.Z.{told, bound-of, bound-read, bound-sum, bound-mul, bound-less, bound-lit, fits64, fits-by}
-use Rattle.sheet.specs.Slots.{_!_, N, rowAt}
+use Rattle.layout.specs.Slots.{_!_, N, rowAt}
 use Rattle.rates.specs.Box.{lo, hi, sum}
 use Rattle.rates.specs.Rate.{outer, weighted}
 use Rattle.rates.specs.Plant.{limit, word}

@@ -7,7 +7,7 @@ use mir.Syntax.{w64}
 use mir.Val.{SFits}
 use borrow.Author.Needs.{needs}
 use Rattle.integers.proofs.Z.{told}
-use Rattle.sheet.specs.Slots.{N}
+use Rattle.layout.specs.Slots.{N}
 use Rattle.rates.specs.Box.{lo, hi, sides, trim, hull}
 use Rattle.rates.proofs.Box.{sides-more}
 use Rattle.rates.proofs.InPlace.{filled, filled-none, filled-more, turn-lo, turn-hi, filled-sides}

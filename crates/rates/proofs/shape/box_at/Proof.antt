@@ -4,7 +4,7 @@ use Prim.Native.Nat.{_≤_, _<_, _-_}
 use native.Mathlib.Omega.{arith}
 use borrow.Author.Needs.{needs}
 use Rattle.integers.proofs.Z.{up32}
-use Rattle.sheet.specs.Slots.{N, boxAt}
+use Rattle.layout.specs.Slots.{N, boxAt}
 use Rattle.rates.specs.Box.{sides, trim}
 use Rattle.rates.proofs.Numbers.{wide}
 use Rattle.rates.proofs.Box.{sides-more, box-lo, box-hi}

@@ -8,7 +8,7 @@ use mir.Val.{SFits, ofZ, toZ}
 use borrow.Author.Needs.{needs}
 use Rattle.integers.specs.Order.{minZ, maxZ}
 use Rattle.integers.proofs.Z.{told}
-use Rattle.sheet.specs.Slots.{N}
+use Rattle.layout.specs.Slots.{N}
 use Rattle.rates.specs.Box.{lo, hi, hull}
 use Rattle.rates.proofs.InPlace.{filled, filled-none, filled-more, turn-lo, turn-hi-set, filled-sides}
 use Rattle.rates.proofs.shape.join.Statement.{statement}

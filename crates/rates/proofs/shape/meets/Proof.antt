@@ -9,7 +9,7 @@ use lib.Signed.{leZ}
 use borrow.Author.Needs.{needs}
 use borrow.Author.Tests.{not-true, not-false}
 use Rattle.integers.proofs.Z.{told, up32}
-use Rattle.sheet.specs.Slots.{_!_, N, boxAt}
+use Rattle.layout.specs.Slots.{_!_, N, boxAt}
 use Rattle.rates.specs.Box.{lo, hi, all, meets}
 use Rattle.rates.proofs.Numbers.{wide}
 use Rattle.rates.proofs.Box.{all-more, all-stop, box-lo, box-hi}

@@ -3,7 +3,7 @@ use mathlib.Core.Path.{_≡_, refl, sym, _∙_}
 use mathlib.Core.Bool.{false}
 use Prim.Native.Nat.{_≤_, _-_}
 use native.Mathlib.Omega.{arith}
-use Rattle.sheet.specs.Slots.{unsafeBox}
+use Rattle.layout.specs.Slots.{unsafeBox}
 use Rattle.rates.specs.Box.{any, meets}
 use Rattle.rates.proofs.Box.{any-more, any-at}
 use Rattle.rates.proofs.shape.meets_unsafe.Statement.{statement}

@@ -7,7 +7,7 @@ use mir.Syntax.{w64}
 use mir.Val.{SFits}
 use borrow.Author.Needs.{needs, sfits-of}
 use Rattle.integers.proofs.Z.{told, bound-read}
-use Rattle.sheet.specs.Slots.{N}
+use Rattle.layout.specs.Slots.{N}
 use Rattle.rates.specs.Box.{sides, moved}
 use Rattle.rates.proofs.Box.{sides-more}
 use Rattle.rates.proofs.shape.moved.Statement.{statement}

@@ -1,0 +1,30 @@
+-- `get_i16` reads two bytes in two's complement. Assumes nothing.
+use mathlib.Core.Path.{_∙_, ap}
+use mir.Facts.{toZ-ofZ}
+use mir.Syntax.{w16}
+use mir.Val.{toZ}
+use borrow.Author.Needs.{needs}
+use Rattle.integers.specs.Bytes.{decode}
+use Rattle.encoding.proofs.CodeBytes.{extended, extended-fits}
+use Rattle.layout.specs.Fields.{decoded}
+use Rattle.encoding.proofs.bytes.get_i16.Statement.{statement}
+use Rattle.encoding.proofs.bytes.get_i16.Tie as tie
+
+two-requires : tie.Need-two-requires
+two-requires c κs = search needs
+
+add-result : tie.Need-add-result
+add-result c = search needs
+
+cast-result : tie.Need-cast-result
+cast-result c = search needs
+
+sub-result : tie.Need-sub-result
+sub-result c = extended-fits (c .two .result) (c .two .ensures .1)
+
+returns : tie.Need-returns
+unfolding decoded decode
+returns c = toZ-ofZ (extended-fits (c .two .result) (c .two .ensures .1)) ∙ extended (c .two .result) (c .two .ensures .1) ∙ ap (toZ w16) (c .two .ensures .0)
+
+pub get-i16-spec : {M : Type 1} → statement M
+get-i16-spec = tie.close (tie.spec two-requires add-result cast-result sub-result returns)

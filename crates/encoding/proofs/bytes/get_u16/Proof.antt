@@ -1,0 +1,23 @@
+-- `get_u16` reads two bytes. Assumes nothing.
+use mathlib.Core.Path.{_∙_, ap}
+use native.Mathlib.Omega.{arith}
+use lib.IntN.{pos}
+use mir.Facts.{toZ-pos}
+use mir.Syntax.{w32}
+use borrow.Author.Needs.{needs}
+use Rattle.layout.specs.Fields.{decoded}
+use Rattle.encoding.proofs.bytes.get_u16.Statement.{statement}
+use Rattle.encoding.proofs.bytes.get_u16.Tie as tie
+
+two-requires : tie.Need-two-requires
+two-requires c κs = search needs
+
+cast-result : tie.Need-cast-result
+cast-result c = search needs
+
+returns : tie.Need-returns
+unfolding decoded
+returns c = toZ-pos w32 (omega arith) ∙ ap pos (c .two .ensures .0)
+
+pub get-u16-spec : {M : Type 1} → statement M
+get-u16-spec = tie.close (tie.spec two-requires cast-result returns)

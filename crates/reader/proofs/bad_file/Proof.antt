@@ -1,0 +1,112 @@
+-- `bad_file`: the marks and the numbers of every record. Assumes nothing.
+use mathlib.Core.Path.{_∙_, _≡_, ap, refl}
+use Prim.Native.Nat.{_+_, _-_, _≤_}
+use native.Mathlib.Omega.{arith}
+use lib.ListN.{length}
+use borrow.Author.Needs.{needs}
+use Rattle.layout.proofs.CodeFile.{bad-is, bad-more, mark-is, record-room, start-more}
+use Rattle.layout.specs.Fields.{offset}
+use Rattle.layout.specs.File.{badAll, countAt, fieldsAt, markedAt, start, records}
+use Rattle.layout.specs.Refusals.{firstRefusal}
+use Rattle.layout.specs.Steps.{sized}
+use Rattle.layout.specs.Sizes.{letters}
+use Rattle.reader.proofs.bad_file.Statement.{statement}
+use Rattle.reader.proofs.bad_file.Tie as tie
+
+abbrev Inv-loop : tie.InvT-loop
+Inv-loop f n bands boxes v x₀ at₀ r₀ x at r = (r ≤ records (sized n bands boxes)) × ((at ≡ start (sized n bands boxes) r) × (x ≡ badAll (markedAt (sized n bands boxes) f) (sized n bands boxes) v r))
+
+abbrev μ-loop : tie.MeasureT-loop
+μ-loop f n bands boxes v x₀ at₀ r₀ x at r = records (sized n bands boxes) - r
+
+-- the r-th record lies within the file
+within-file : (c : tie.In-loop Inv-loop μ-loop)
+    → (let a = c .before .before .before .args in
+    let s = sized (a .n) (a .bands) (a .boxes) in
+    let r = c .before .loop .r in
+    c .before .loop .at + (letters + offset (fieldsAt s r) (countAt s r)) ≤ length (a .f .now))
+within-file c =
+    let a = c .before .before .before .args in
+    omega (arith, c .before .loop .inv .1 .0, record-room (sized (a .n) (a .bands) (a .boxes)) (c .before .loop .r) (records (sized (a .n) (a .bands) (a .boxes))) (length (a .f .now)) (omega arith) (c .before .before .before .pre .1))
+
+loop-holds : tie.Need-loop-holds Inv-loop μ-loop
+unfolding start badAll firstRefusal
+loop-holds c = (omega arith, (refl, refl))
+
+add-loop : tie.Need-add-loop Inv-loop μ-loop
+add-loop c = omega arith
+
+add-loop-2 : tie.Need-add-loop-2 Inv-loop μ-loop
+add-loop-2 c = omega arith
+
+mark-of-requires : tie.Need-mark-of-requires Inv-loop μ-loop
+mark-of-requires c κs = omega arith
+
+marked-requires : tie.Need-marked-requires Inv-loop μ-loop
+marked-requires c κs = omega (arith, within-file (c .before))
+
+bad-record-requires : tie.Need-bad-record-requires Inv-loop μ-loop
+bad-record-requires c κs = omega arith
+
+wrong-requires : tie.Need-wrong-requires Inv-loop μ-loop
+wrong-requires c κs = search needs
+
+first-requires : tie.Need-first-requires Inv-loop μ-loop
+first-requires c κs = search needs
+
+record-length-requires : tie.Need-record-length-requires Inv-loop μ-loop
+record-length-requires c κs = omega arith
+
+add-at : tie.Need-add-at Inv-loop μ-loop
+add-at c = omega (arith, c .record-length .ensures, within-file (c .before .before .before .before .before .before))
+
+add-r : tie.Need-add-r Inv-loop μ-loop
+add-r c = omega arith
+
+loop-less : tie.Need-loop-less Inv-loop μ-loop
+loop-less c = omega arith
+
+loop-again : tie.Need-loop-again Inv-loop μ-loop
+loop-again c = let w = c .before .before in
+    let m = w .before .before in
+    let d = m .before .before .before in
+    let a = d .before .before .args in
+    let s = sized (a .n) (a .bands) (a .boxes) in
+    let r = d .loop .r in
+    let i = d .loop .inv .1 in
+    let mark = m .before .mark-of .ensures (a .n) in
+    let marks = markedAt s (a .f .now) in (
+      omega arith,
+      (
+        omega (arith, i .0, c .record-length .ensures, start-more s r),
+        bad-more s r marks (a .v .now) (c .before .first .ensures) (i .1)
+            (bad-is s r marks (a .v .now) (mark-is s r (a .f .now) (i .0) (mark .0) (mark .1) (m .marked .ensures)) (w .before .bad-record .ensures) (w .wrong .ensures)),
+      ),
+    )
+
+returns : tie.Need-returns Inv-loop μ-loop
+returns c = let a = c .before .before .before .args in
+    let e : c .before .loop .r ≡ records (sized (a .n) (a .bands) (a .boxes)) = omega arith in
+    let s = sized (a .n) (a .bands) (a .boxes) in
+    c .before .loop .inv .1 .1 ∙ ap (badAll (markedAt s (a .f .now)) s (a .v .now)) e
+
+pub bad-file-spec : {M : Type 1} → statement M
+bad-file-spec =
+    tie.close
+    (tie.spec
+    Inv-loop
+    μ-loop
+    loop-holds
+    add-loop
+    add-loop-2
+    mark-of-requires
+    marked-requires
+    bad-record-requires
+    wrong-requires
+    first-requires
+    record-length-requires
+    add-at
+    add-r
+    loop-less
+    loop-again
+    returns)

@@ -1,0 +1,122 @@
+-- `read_box`: a box's sides, in pairs. Assumes nothing.
+use mathlib.Core.Path.{_∙_, _≡_, ap, refl}
+use Prim.Native.Nat.{_*_, _+_, _-_, _≤_, ℕ}
+use native.Mathlib.Omega.{arith}
+use Rattle.layout.specs.Slots.{sides}
+use Rattle.layout.proofs.CodeFields.{filled-next}
+use Rattle.layout.proofs.CodeLayout.{side-run}
+use Rattle.layout.proofs.CodePlaces.{upper-offset}
+use Rattle.layout.proofs.CodeValues.{stored}
+use Rattle.layout.proofs.Length.{side-offset}
+use Rattle.layout.specs.Fields.{filled, offset}
+use Rattle.layout.specs.Sizes.{upperAt, boxBytes}
+use Rattle.layout.specs.Layout.{_▸_, boxFields, sideFields}
+use Rattle.reader.proofs.read_box.Statement.{statement}
+use Rattle.reader.proofs.read_box.Tie as tie
+
+abbrev Inv-loop : tie.InvT-loop
+Inv-loop f at n slot v₀ i₀ v i = (i ≤ n) × ((h : ℕ) → v ≡ filled (boxFields h slot) f at (i * sides) v₀)
+
+abbrev μ-loop : tie.MeasureT-loop
+μ-loop f at n slot v₀ i₀ v i = n - i
+
+loop-holds : tie.Need-loop-holds Inv-loop μ-loop
+unfolding filled
+loop-holds c = (omega arith, λ h. refl)
+
+mul-get-i32 : tie.Need-mul-get-i32 Inv-loop μ-loop
+mul-get-i32 c = omega arith
+
+add-get-i32 : tie.Need-add-get-i32 Inv-loop μ-loop
+add-get-i32 c = omega arith
+
+get-i32-requires : tie.Need-get-i32-requires Inv-loop μ-loop
+get-i32-requires c κs = omega arith
+
+add-v : tie.Need-add-v Inv-loop μ-loop
+add-v c = omega arith
+
+mul-v : tie.Need-mul-v Inv-loop μ-loop
+mul-v c = omega arith
+
+element-set-from-v : tie.Need-element-set-from-v Inv-loop μ-loop
+element-set-from-v c = omega arith
+
+mul-get-i32-2 : tie.Need-mul-get-i32-2 Inv-loop μ-loop
+mul-get-i32-2 c = omega arith
+
+add-get-i32-2 : tie.Need-add-get-i32-2 Inv-loop μ-loop
+add-get-i32-2 c = omega arith
+
+add-get-i32-3 : tie.Need-add-get-i32-3 Inv-loop μ-loop
+add-get-i32-3 c = omega arith
+
+get-i32-requires-2 : tie.Need-get-i32-requires-2 Inv-loop μ-loop
+get-i32-requires-2 c κs = omega arith
+
+add-t9 : tie.Need-add-t9 Inv-loop μ-loop
+add-t9 c = omega arith
+
+add-t15 : tie.Need-add-t15 Inv-loop μ-loop
+add-t15 c = omega arith
+
+mul-t16 : tie.Need-mul-t16 Inv-loop μ-loop
+mul-t16 c = omega arith
+
+element-set-from-v-2 : tie.Need-element-set-from-v-2 Inv-loop μ-loop
+element-set-from-v-2 c = omega arith
+
+add-i : tie.Need-add-i Inv-loop μ-loop
+add-i c = omega arith
+
+loop-less : tie.Need-loop-less Inv-loop μ-loop
+loop-less c = omega arith
+
+loop-again : tie.Need-loop-again Inv-loop μ-loop
+unfolding sideFields _▸_
+loop-again c = let d = c .before .before .before in
+    let a = d .before .before .args in
+    let i = d .loop .i in
+    let s = a .slot in
+    let f = a .f .now in
+    let v = a .v .now in
+    let z : i * sides + 0 ≡ i * sides = omega arith in (
+      omega arith,
+      λ h.
+          filled-next (boxFields h s) (i * sides + 1) ((i + 1) * sides) (omega arith) _ (side-run h s i .at 1 (omega arith)) f (a .at) v (a .at + boxBytes i + upperAt)
+          refl (stored (c .get-i322 .ensures) (c .get-i322 .ok)) (omega (arith, upper-offset h s i))
+          (filled-next (boxFields h s) (i * sides + 0) (i * sides + 1) (omega arith) _ (side-run h s i .at 0 (omega arith)) f (a .at) v (a .at + boxBytes i)
+          refl (stored (c .before .get-i32 .ensures) (c .before .get-i32 .ok)) (omega (arith, side-offset h s i, ap (offset (boxFields h s)) z))
+          (d .loop .inv .1 h ∙ ap (λ (j : ℕ). filled (boxFields h s) f (a .at) j v) (omega arith))),
+    )
+
+returns : tie.Need-returns Inv-loop μ-loop
+returns c = let a = c .before .before .before .args in
+    let e : c .before .loop .i ≡ a .n = omega arith in
+    λ h. c .before .loop .inv .1 h ∙ ap (λ (i : ℕ). filled (boxFields h (a .slot)) (a .f .now) (a .at) (i * sides) (a .v .now)) e
+
+pub read-box-spec : {M : Type 1} → statement M
+read-box-spec =
+    tie.close
+    (tie.spec
+    Inv-loop
+    μ-loop
+    loop-holds
+    mul-get-i32
+    add-get-i32
+    get-i32-requires
+    add-v
+    mul-v
+    element-set-from-v
+    mul-get-i32-2
+    add-get-i32-2
+    add-get-i32-3
+    get-i32-requires-2
+    add-t9
+    add-t15
+    mul-t16
+    element-set-from-v-2
+    add-i
+    loop-less
+    loop-again
+    returns)

@@ -1,0 +1,85 @@
+-- `read_caps`: the head with its caps. Assumes nothing.
+use mathlib.Core.Path.{_∙_, _≡_, ap₂, refl, sym}
+use Prim.Native.Nat.{_+_, _-_, _≤_}
+use native.Mathlib.Omega.{arith}
+use Rattle.layout.proofs.CodeFields.{filled-next, filled-part}
+use Rattle.layout.proofs.CodePlaces.{cap-place, cap-run}
+use Rattle.layout.proofs.CodeValues.{stored}
+use Rattle.layout.specs.Fields.{filled, offset}
+use Rattle.layout.specs.Layout.{_▸_, capField, headFields}
+use Rattle.layout.specs.Slots.{headSize}
+use Rattle.layout.specs.Sizes.{letters, capsAt, capBytes}
+use Rattle.reader.proofs.read_caps.Statement.{statement}
+use Rattle.reader.proofs.read_caps.Tie as tie
+
+abbrev Inv-loop : tie.InvT-loop
+Inv-loop f n v₀ i₀ v i = (i ≤ n) × (v ≡ filled capField f capsAt i v₀)
+
+abbrev μ-loop : tie.MeasureT-loop
+μ-loop f n v₀ i₀ v i = n - i
+
+read-head-requires : tie.Need-read-head-requires Inv-loop μ-loop
+read-head-requires c κs = omega arith
+
+loop-holds : tie.Need-loop-holds Inv-loop μ-loop
+unfolding filled
+loop-holds c = (omega arith, refl)
+
+mul-get-u16 : tie.Need-mul-get-u16 Inv-loop μ-loop
+mul-get-u16 c = omega arith
+
+add-get-u16 : tie.Need-add-get-u16 Inv-loop μ-loop
+add-get-u16 c = omega arith
+
+get-u16-requires : tie.Need-get-u16-requires Inv-loop μ-loop
+get-u16-requires c κs = omega arith
+
+add-t11 : tie.Need-add-t11 Inv-loop μ-loop
+add-t11 c = omega arith
+
+mul-t12 : tie.Need-mul-t12 Inv-loop μ-loop
+mul-t12 c = omega arith
+
+element-set-from-v : tie.Need-element-set-from-v Inv-loop μ-loop
+element-set-from-v c = omega arith
+
+add-i : tie.Need-add-i Inv-loop μ-loop
+add-i c = omega arith
+
+loop-less : tie.Need-loop-less Inv-loop μ-loop
+loop-less c = omega arith
+
+loop-again : tie.Need-loop-again Inv-loop μ-loop
+loop-again c = let d = c .before .before in
+    let i = d .loop .i in (
+      omega arith,
+      filled-next capField i (i + 1) refl _ refl (d .before .before .before .before .args .f .now) capsAt (d .before .read-head .last .1 .0) (capsAt + capBytes i)
+          refl (stored (c .get-u16 .ensures) (c .get-u16 .ok)) (omega (arith, cap-place i)) (d .loop .inv .1),
+    )
+
+returns : tie.Need-returns Inv-loop μ-loop
+unfolding headFields _▸_ offset
+returns c = let d = c .before .before in
+    let a = d .before .before .before .args in
+    let e : c .before .loop .i ≡ a .n = omega arith in
+    c .before .loop .inv .1 ∙ ap₂ (filled capField (a .f .now) capsAt) e (d .read-head .ensures)
+    ∙ sym (filled-part headFields capField headSize (a .n) (cap-run (a .n)) (a .f .now) letters (a .v .now))
+
+pub read-caps-spec : {M : Type 1} → statement M
+read-caps-spec =
+    tie.close
+    (tie.spec
+    Inv-loop
+    μ-loop
+    read-head-requires
+    loop-holds
+    mul-get-u16
+    add-get-u16
+    get-u16-requires
+    add-t11
+    mul-t12
+    element-set-from-v
+    add-i
+    loop-less
+    loop-again
+    returns)

@@ -1,0 +1,88 @@
+-- `read_records`: every record, one after another. Assumes nothing.
+use mathlib.Core.Path.{_∙_, _≡_, ap, refl}
+use Prim.Native.Nat.{_+_, _-_, _≤_, ℕ}
+use native.Mathlib.Omega.{arith}
+use lib.ListN.{length}
+use Rattle.layout.proofs.CodeFile.{filled-more, record-room, start-more}
+use Rattle.layout.specs.Fields.{offset}
+use Rattle.layout.specs.File.{countAt, fieldsAt, filledAll, start, records}
+use Rattle.layout.specs.Steps.{sized}
+use Rattle.layout.specs.Sizes.{letters}
+use Rattle.reader.proofs.read_records.Statement.{statement}
+use Rattle.reader.proofs.read_records.Tie as tie
+
+abbrev Inv-loop : tie.InvT-loop
+Inv-loop f n bands boxes v₀ at₀ r₀ v at r = (r ≤ records (sized n bands boxes)) × ((at ≡ start (sized n bands boxes) r) × (v ≡ filledAll (sized n bands boxes) f r v₀))
+
+abbrev μ-loop : tie.MeasureT-loop
+μ-loop f n bands boxes v₀ at₀ r₀ v at r = records (sized n bands boxes) - r
+
+-- the r-th record lies within the file
+within-file : (c : tie.In-loop Inv-loop μ-loop)
+    → (let a = c .before .before .before .args in
+    let s = sized (a .n) (a .bands) (a .boxes) in
+    let r = c .before .loop .r in
+    c .before .loop .at + (letters + offset (fieldsAt s r) (countAt s r)) ≤ length (a .f .now))
+within-file c =
+    let a = c .before .before .before .args in
+    omega (arith, c .before .loop .inv .1 .0, record-room (sized (a .n) (a .bands) (a .boxes)) (c .before .loop .r) (records (sized (a .n) (a .bands) (a .boxes))) (length (a .f .now)) (omega arith) (c .before .before .before .pre .1))
+
+loop-holds : tie.Need-loop-holds Inv-loop μ-loop
+unfolding start filledAll
+loop-holds c = (omega arith, (refl, refl))
+
+add-loop : tie.Need-add-loop Inv-loop μ-loop
+add-loop c = omega arith
+
+add-loop-2 : tie.Need-add-loop-2 Inv-loop μ-loop
+add-loop-2 c = omega arith
+
+read-record-requires : tie.Need-read-record-requires Inv-loop μ-loop
+read-record-requires c κs = (omega arith, (c .before .before .loop .inv .1 .0, within-file (c .before)))
+
+record-length-requires : tie.Need-record-length-requires Inv-loop μ-loop
+record-length-requires c κs = omega arith
+
+add-at : tie.Need-add-at Inv-loop μ-loop
+add-at c = omega (arith, c .record-length .ensures, within-file (c .before .before .before))
+
+add-r : tie.Need-add-r Inv-loop μ-loop
+add-r c = omega arith
+
+loop-less : tie.Need-loop-less Inv-loop μ-loop
+loop-less c = omega arith
+
+loop-again : tie.Need-loop-again Inv-loop μ-loop
+loop-again c = let d = c .before .before .before .before in
+    let a = d .before .before .args in
+    let s = sized (a .n) (a .bands) (a .boxes) in
+    let r = d .loop .r in
+    let i = d .loop .inv .1 in (
+      omega arith,
+      (
+        omega (arith, i .0, c .record-length .ensures, start-more s r),
+        filled-more s r (a .f .now) (a .v .now) (c .before .read-record .ensures) (i .0) (i .1),
+      ),
+    )
+
+returns : tie.Need-returns Inv-loop μ-loop
+returns c = let a = c .before .before .before .args in
+    let e : c .before .loop .r ≡ records (sized (a .n) (a .bands) (a .boxes)) = omega arith in
+    c .before .loop .inv .1 .1 ∙ ap (λ (r : ℕ). filledAll (sized (a .n) (a .bands) (a .boxes)) (a .f .now) r (a .v .now)) e
+
+pub read-records-spec : {M : Type 1} → statement M
+read-records-spec =
+    tie.close
+    (tie.spec
+    Inv-loop
+    μ-loop
+    loop-holds
+    add-loop
+    add-loop-2
+    read-record-requires
+    record-length-requires
+    add-at
+    add-r
+    loop-less
+    loop-again
+    returns)

@@ -1,0 +1,55 @@
+-- `after`: an earlier refusal, or the test of a field. Assumes nothing.
+use mathlib.Core.Logic.{⊎-elim}
+use mathlib.Core.Path.{_∙_, _≡_, ap, sym}
+use lib.IntN.{ℤ}
+use lib.Signed.{_<ℤ_, _≤ℤ_}
+use mir.Syntax.{w64}
+use mir.Val.{SFits}
+use borrow.Author.Needs.{needs}
+use Rattle.integers.proofs.Twos.{high, low}
+use Rattle.integers.proofs.Z.{ints}
+use Rattle.integers.specs.Bound.{p}
+use Rattle.layout.proofs.CodeFields.{orElse-none}
+use Rattle.layout.proofs.Laws.{test-high, test-low, test-passed}
+use Rattle.layout.specs.Fields.{Field, test}
+use Rattle.layout.specs.Refusals.{number}
+use Rattle.layout.specs.Slots.{_!_}
+use Rattle.layout.specs.Steps.{orElse}
+use Rattle.validation.proofs.after.Statement.{statement}
+use Rattle.validation.proofs.after.Tie as tie
+
+module _ (c : tie.Start) (p : Field) (s : p .slot ≡ c .args .slot) (l : p .least (c .args .v .now) ≡ c .args .least)
+    (g : p .greatest (c .args .v .now) ≡ c .args .greatest) where
+  abbrev z : ℤ
+  z = c .args .v .now ! c .args .slot
+
+  below : z <ℤ c .args .least → number (p .cause) ≡ test (c .args .v .now) p
+  below a = test-low _ p (rw (s, l) a)
+
+  above : c .args .least ≤ℤ z → c .args .greatest <ℤ z → number (p .cause) ≡ test (c .args .v .now) p
+  above a b = test-high _ p (rw (s, l) a) (rw (s, g) b)
+
+  inside : c .args .least ≤ℤ z → z ≤ℤ c .args .greatest → 0 ≡ test (c .args .v .now) p
+  inside a b = test-passed _ p (record { low = rw (s, l) a; high = rw (s, g) b })
+
+value-requires : tie.Need-value-requires
+value-requires c κs = search needs
+
+returns : tie.Need-returns
+returns c = let d = c .before .before in
+    let f : SFits w64 (d .value .result) = search needs in
+    let e = d .value .ensures .0 in
+    λ p s l g k. orElse-none (d .before .args .x) ∙ ap (orElse (d .before .args .x)) (inside (d .before) p s l g (omega ints) (omega ints))
+
+first-requires : tie.Need-first-requires
+first-requires c κs = search needs
+
+returns-2 : tie.Need-returns-2
+returns-2 c = let d = c .before .before in
+    let f : SFits w64 (d .value .result) = search needs in
+    let e = d .value .ensures .0 in
+    λ p s l g k. c .first .ensures ∙ ap (orElse (d .before .args .x))
+    (sym k ∙ ⊎-elim (λ w. above (d .before) p s l g (omega ints) (omega ints)) (λ w. below (d .before) p s l g (omega ints)) (c .before .if1 .came))
+
+pub after-spec : {M : Type 1} → statement M
+after-spec = tie.close (tie.spec value-requires returns first-requires returns-2)

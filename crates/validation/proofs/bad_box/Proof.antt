@@ -1,0 +1,97 @@
+-- `bad_box`: a box's sides, in pairs. Assumes nothing.
+use mathlib.Core.Path.{_∙_, _≡_, ap, refl}
+use Prim.Native.Nat.{_*_, _+_, _-_, _≤_, ℕ}
+use native.Mathlib.Omega.{arith}
+use borrow.Author.Needs.{needs}
+use Rattle.layout.specs.Slots.{sides}
+use Rattle.layout.proofs.CodeFields.{bad-next}
+use Rattle.layout.proofs.CodeLayout.{side-run}
+use Rattle.layout.proofs.CodeValues.{held, minus, minus-fits, most}
+use Rattle.layout.specs.Fields.{bad}
+use Rattle.layout.specs.Layout.{_▸_, boxFields, sideFields}
+use Rattle.layout.specs.Refusals.{firstRefusal}
+use Rattle.validation.proofs.bad_box.Statement.{statement}
+use Rattle.validation.proofs.bad_box.Tie as tie
+
+abbrev Inv-loop : tie.InvT-loop
+Inv-loop v n slot most side x₀ i₀ x i = (i ≤ n) × (x ≡ bad (boxFields most slot) v (i * sides))
+
+abbrev μ-loop : tie.MeasureT-loop
+μ-loop v n slot most side x₀ i₀ x i = n - i
+
+cast-side : tie.Need-cast-side Inv-loop μ-loop
+cast-side c = search needs
+
+loop-holds : tie.Need-loop-holds Inv-loop μ-loop
+unfolding bad firstRefusal
+loop-holds c = (omega arith, refl)
+
+add-after : tie.Need-add-after Inv-loop μ-loop
+add-after c = omega arith
+
+sub-after : tie.Need-sub-after Inv-loop μ-loop
+sub-after c = minus-fits (c .before .before .args .most) (c .before .before .fits .most)
+
+after-requires : tie.Need-after-requires Inv-loop μ-loop
+after-requires c κs = omega arith
+
+add-after-2 : tie.Need-add-after-2 Inv-loop μ-loop
+add-after-2 c = omega arith
+
+add-after-3 : tie.Need-add-after-3 Inv-loop μ-loop
+add-after-3 c = omega arith
+
+add-value : tie.Need-add-value Inv-loop μ-loop
+add-value c = omega arith
+
+value-requires : tie.Need-value-requires Inv-loop μ-loop
+value-requires c κs = omega arith
+
+after-requires-2 : tie.Need-after-requires-2 Inv-loop μ-loop
+after-requires-2 c κs = omega arith
+
+add-i : tie.Need-add-i Inv-loop μ-loop
+add-i c = omega arith
+
+loop-less : tie.Need-loop-less Inv-loop μ-loop
+loop-less c = omega arith
+
+loop-again : tie.Need-loop-again Inv-loop μ-loop
+unfolding sideFields _▸_
+loop-again c = let b = c .before .before .before in
+    let a = b .before .before .args in
+    let i = b .before .loop .i in
+    let s = a .slot in
+    let p = boxFields (a .most) s in
+    let v = a .v .now in
+    let z = c .before .value .ensures in
+    let f = b .before .before .fits .most in (
+      omega arith,
+      bad-next p (i * sides + 1) ((i + 1) * sides) (omega arith) _ (side-run (a .most) s i .at 1 (omega arith)) v (c .after2 .ensures (sideFields (a .most) (s + i) 1) refl (held (z .0) (z .1)) (most (a .most) f) refl)
+          (bad-next p (i * sides + 0) (i * sides + 1) (omega arith) _ (side-run (a .most) s i .at 0 (omega arith)) v (c .before .before .after .ensures (sideFields (a .most) (s + i) 0) refl (minus (a .most) f) (most (a .most) f) refl)
+          (b .before .loop .inv .1 ∙ ap (bad p v) (omega arith))),
+    )
+
+returns : tie.Need-returns Inv-loop μ-loop
+returns c = let e : c .before .loop .i ≡ c .before .before .args .n = omega arith in c .before .loop .inv .1 ∙ ap (λ (i : ℕ). bad (boxFields (c .before .before .args .most) (c .before .before .args .slot)) (c .before .before .args .v .now) (i * sides)) e
+
+pub bad-box-spec : {M : Type 1} → statement M
+bad-box-spec =
+    tie.close
+    (tie.spec
+    Inv-loop
+    μ-loop
+    cast-side
+    loop-holds
+    add-after
+    sub-after
+    after-requires
+    add-after-2
+    add-after-3
+    add-value
+    value-requires
+    after-requires-2
+    add-i
+    loop-less
+    loop-again
+    returns)

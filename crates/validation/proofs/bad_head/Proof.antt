@@ -1,0 +1,98 @@
+-- `bad_head`: the head's numbers, one test after another. Assumes nothing.
+use mathlib.Core.Path.{refl}
+use lib.IntN.{_-ℤ_, pos}
+use mir.Syntax.{w64}
+use mir.Val.{SFits}
+use borrow.Author.Needs.{needs}
+use Rattle.integers.proofs.Z.{bound-lit, bound-read, bound-sub, fits64}
+use Rattle.layout.specs.Slots.{varsSlot, bandsSlot, boxesSlot, bandVarSlot, δSlot, αSlot, ρSlot, leastSlot, greatestSlot}
+use Rattle.layout.proofs.CodeFields.{bad-field}
+use Rattle.layout.proofs.CodeValues.{computed, held}
+use Rattle.layout.specs.Fields.{bad}
+use Rattle.layout.specs.Layout.{_▸_, headFields}
+use Rattle.layout.specs.Refusals.{firstRefusal}
+use Rattle.validation.proofs.bad_head.Statement.{statement}
+use Rattle.validation.proofs.bad_head.Tie as tie
+
+after-requires : tie.Need-after-requires
+after-requires c κs = search needs
+
+cast-after : tie.Need-cast-after
+cast-after c = search needs
+
+after-requires-2 : tie.Need-after-requires-2
+after-requires-2 c κs = search needs
+
+cast-after-2 : tie.Need-cast-after-2
+cast-after-2 c = search needs
+
+after-requires-3 : tie.Need-after-requires-3
+after-requires-3 c κs = search needs
+
+value-requires : tie.Need-value-requires
+value-requires c κs = search needs
+
+sub-after : tie.Need-sub-after
+sub-after c = let f : SFits w64 (c .value .result) = search needs in fits64 (bound-sub (bound-read f (c .value .ensures .1)) (bound-lit (pos 1))) tt
+
+after-requires-4 : tie.Need-after-requires-4
+after-requires-4 c κs = search needs
+
+after-requires-5 : tie.Need-after-requires-5
+after-requires-5 c κs = search needs
+
+value-requires-2 : tie.Need-value-requires-2
+value-requires-2 c κs = search needs
+
+sub-after-2 : tie.Need-sub-after-2
+sub-after-2 c = let f : SFits w64 (c .value2 .result) = search needs in fits64 (bound-sub (bound-lit (pos 1000)) (bound-read f (c .value2 .ensures .1))) tt
+
+after-requires-6 : tie.Need-after-requires-6
+after-requires-6 c κs = search needs
+
+after-requires-7 : tie.Need-after-requires-7
+after-requires-7 c κs = search needs
+
+after-requires-8 : tie.Need-after-requires-8
+after-requires-8 c κs = search needs
+
+value-requires-3 : tie.Need-value-requires-3
+value-requires-3 c κs = search needs
+
+after-requires-9 : tie.Need-after-requires-9
+after-requires-9 c κs = search needs
+
+returns : tie.Need-returns
+unfolding headFields _▸_ bad firstRefusal
+returns c = let v = c .before .before .before .before .before .before .before .before .before .before .before .before .args .v .now in
+    bad-field headFields v greatestSlot (c .after9 .ensures (headFields greatestSlot) refl (held (c .before .value3 .ensures .0) (c .before .value3 .ensures .1)) refl refl)
+    (bad-field headFields v leastSlot (c .before .before .after8 .ensures (headFields leastSlot) refl refl refl refl)
+    (bad-field headFields v ρSlot (c .before .before .before .after7 .ensures (headFields ρSlot) refl refl refl refl)
+    (bad-field headFields v αSlot (c .before .before .before .before .after6 .ensures (headFields αSlot) refl refl (computed (c .before .before .before .before .before .value2 .ensures .0) (c .before .before .before .before .before .value2 .ensures .1) (λ z. pos 1000 -ℤ z) (sub-after-2 (c .before .before .before .before .before))) refl)
+    (bad-field headFields v δSlot (c .before .before .before .before .before .before .after5 .ensures (headFields δSlot) refl refl refl refl)
+    (bad-field headFields v bandVarSlot (c .before .before .before .before .before .before .before .after4 .ensures (headFields bandVarSlot) refl refl (computed (c .before .before .before .before .before .before .before .before .value .ensures .0) (c .before .before .before .before .before .before .before .before .value .ensures .1) (λ z. z -ℤ pos 1) (sub-after (c .before .before .before .before .before .before .before .before))) refl)
+    (bad-field headFields v boxesSlot (c .before .before .before .before .before .before .before .before .before .after3 .ensures (headFields boxesSlot) refl refl refl refl)
+    (bad-field headFields v bandsSlot (c .before .before .before .before .before .before .before .before .before .before .after2 .ensures (headFields bandsSlot) refl refl refl refl)
+    (bad-field headFields v varsSlot (c .before .before .before .before .before .before .before .before .before .before .before .after .ensures (headFields varsSlot) refl refl refl refl) refl))))))))
+
+pub bad-head-spec : {M : Type 1} → statement M
+bad-head-spec =
+    tie.close
+    (tie.spec
+    after-requires
+    cast-after
+    after-requires-2
+    cast-after-2
+    after-requires-3
+    value-requires
+    sub-after
+    after-requires-4
+    after-requires-5
+    value-requires-2
+    sub-after-2
+    after-requires-6
+    after-requires-7
+    after-requires-8
+    value-requires-3
+    after-requires-9
+    returns)

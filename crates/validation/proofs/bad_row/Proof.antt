@@ -1,0 +1,101 @@
+-- `bad_row`: a row's coefficients, and then b, c, d and q. Assumes nothing.
+use mathlib.Core.Path.{_∙_, _≡_, ap, refl}
+use Prim.Native.Nat.{_+_, _-_, _≤_}
+use native.Mathlib.Omega.{arith}
+use Rattle.layout.specs.Slots.{bInRest, cInRest, dInRest, qInRest}
+use Rattle.layout.proofs.CodeFields.{bad-next}
+use Rattle.layout.proofs.CodeLayout.{coefficient, coefficient-at}
+use Rattle.layout.proofs.CodePlaces.{bad-rest}
+use Rattle.layout.specs.Fields.{bad}
+use Rattle.layout.specs.Layout.{_▸_, rowFields, rowRest}
+use Rattle.layout.specs.Refusals.{firstRefusal}
+use Rattle.validation.proofs.bad_row.Statement.{statement}
+use Rattle.validation.proofs.bad_row.Tie as tie
+
+abbrev Inv-loop : tie.InvT-loop
+Inv-loop v n slot x₀ j₀ x j = (j ≤ n) × (x ≡ bad (rowFields n slot) v j)
+
+abbrev μ-loop : tie.MeasureT-loop
+μ-loop v n slot x₀ j₀ x j = n - j
+
+loop-holds : tie.Need-loop-holds Inv-loop μ-loop
+unfolding bad firstRefusal
+loop-holds c = (omega arith, refl)
+
+add-after : tie.Need-add-after Inv-loop μ-loop
+add-after c = omega arith
+
+after-requires : tie.Need-after-requires Inv-loop μ-loop
+after-requires c κs = omega arith
+
+add-j : tie.Need-add-j Inv-loop μ-loop
+add-j c = omega arith
+
+loop-less : tie.Need-loop-less Inv-loop μ-loop
+loop-less c = omega arith
+
+loop-again : tie.Need-loop-again Inv-loop μ-loop
+loop-again c = let a = c .before .before .before .args in
+    let j = c .before .before .loop .j in
+    (omega arith, bad-next (rowFields (a .n) (a .slot)) j (j + 1) refl _ (coefficient-at (a .n) (a .slot) j (omega arith)) (a .v .now) (c .after .ensures (coefficient (a .slot) j) refl refl refl refl) (c .before .before .loop .inv .1))
+
+add-after-2 : tie.Need-add-after-2 Inv-loop μ-loop
+add-after-2 c = omega arith
+
+after-requires-2 : tie.Need-after-requires-2 Inv-loop μ-loop
+after-requires-2 c κs = omega arith
+
+add-after-3 : tie.Need-add-after-3 Inv-loop μ-loop
+add-after-3 c = omega arith
+
+after-requires-3 : tie.Need-after-requires-3 Inv-loop μ-loop
+after-requires-3 c κs = omega arith
+
+add-after-4 : tie.Need-add-after-4 Inv-loop μ-loop
+add-after-4 c = omega arith
+
+after-requires-4 : tie.Need-after-requires-4 Inv-loop μ-loop
+after-requires-4 c κs = omega arith
+
+add-after-5 : tie.Need-add-after-5 Inv-loop μ-loop
+add-after-5 c = omega arith
+
+after-requires-5 : tie.Need-after-requires-5 Inv-loop μ-loop
+after-requires-5 c κs = omega arith
+
+returns : tie.Need-returns Inv-loop μ-loop
+unfolding rowRest _▸_
+returns c = let d = c .before .before .before in
+    let a = d .before .before .before .args in
+    let n = a .n in
+    let s = a .slot in
+    let p = rowFields n s in
+    let v = a .v .now in
+    let e : d .before .before .loop .j ≡ n + 0 = omega arith in
+    bad-rest n s qInRest v (c .after5 .ensures (rowRest s qInRest) (omega arith) refl refl refl)
+    (bad-rest n s dInRest v (c .before .after4 .ensures (rowRest s dInRest) (omega arith) refl refl refl)
+    (bad-rest n s cInRest v (c .before .before .after3 .ensures (rowRest s cInRest) (omega arith) refl refl refl)
+    (bad-rest n s bInRest v (d .after2 .ensures (rowRest s bInRest) (omega arith) refl refl refl)
+    (d .before .before .loop .inv .1 ∙ ap (bad p v) e))))
+
+pub bad-row-spec : {M : Type 1} → statement M
+bad-row-spec =
+    tie.close
+    (tie.spec
+    Inv-loop
+    μ-loop
+    loop-holds
+    add-after
+    after-requires
+    add-j
+    loop-less
+    loop-again
+    add-after-2
+    after-requires-2
+    add-after-3
+    after-requires-3
+    add-after-4
+    after-requires-4
+    add-after-5
+    after-requires-5
+    returns)

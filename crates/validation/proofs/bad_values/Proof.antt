@@ -1,0 +1,66 @@
+-- `bad_values`: the tests of every record. Assumes nothing.
+use mathlib.Core.Bool.{true}
+use mathlib.Core.Path.{_∙_, _≡_, ap, refl}
+use Prim.Native.Nat.{_-_, _≤_}
+use native.Mathlib.Omega.{arith}
+use borrow.Author.Needs.{needs}
+use Rattle.layout.proofs.CodeFile.{bad-more}
+use Rattle.layout.specs.File.{badAll, records}
+use Rattle.layout.specs.Refusals.{firstRefusal}
+use Rattle.layout.specs.Steps.{sized}
+use Rattle.validation.proofs.bad_values.Statement.{statement}
+use Rattle.validation.proofs.bad_values.Tie as tie
+
+abbrev Inv-loop : tie.InvT-loop
+Inv-loop v n bands boxes x₀ r₀ x r = (r ≤ records (sized n bands boxes)) × (x ≡ badAll (λ r. true) (sized n bands boxes) v r)
+
+abbrev μ-loop : tie.MeasureT-loop
+μ-loop v n bands boxes x₀ r₀ x r = records (sized n bands boxes) - r
+
+loop-holds : tie.Need-loop-holds Inv-loop μ-loop
+unfolding badAll firstRefusal
+loop-holds c = (omega arith, refl)
+
+add-loop : tie.Need-add-loop Inv-loop μ-loop
+add-loop c = omega arith
+
+add-loop-2 : tie.Need-add-loop-2 Inv-loop μ-loop
+add-loop-2 c = omega arith
+
+bad-record-requires : tie.Need-bad-record-requires Inv-loop μ-loop
+bad-record-requires c κs = omega arith
+
+first-requires : tie.Need-first-requires Inv-loop μ-loop
+first-requires c κs = search needs
+
+add-r : tie.Need-add-r Inv-loop μ-loop
+add-r c = omega arith
+
+loop-less : tie.Need-loop-less Inv-loop μ-loop
+loop-less c = omega arith
+
+loop-again : tie.Need-loop-again Inv-loop μ-loop
+loop-again c = let d = c .before .before .before in
+    let a = d .before .args in
+    (omega arith, bad-more (sized (a .n) (a .bands) (a .boxes)) (d .loop .r) (λ r. true) (a .v .now) (c .first .ensures) (d .loop .inv .1) (c .before .bad-record .ensures))
+
+returns : tie.Need-returns Inv-loop μ-loop
+returns c = let a = c .before .before .args in
+    let e : c .before .loop .r ≡ records (sized (a .n) (a .bands) (a .boxes)) = omega arith in
+    c .before .loop .inv .1 ∙ ap (badAll (λ r. true) (sized (a .n) (a .bands) (a .boxes)) (a .v .now)) e
+
+pub bad-values-spec : {M : Type 1} → statement M
+bad-values-spec =
+    tie.close
+    (tie.spec
+    Inv-loop
+    μ-loop
+    loop-holds
+    add-loop
+    add-loop-2
+    bad-record-requires
+    first-requires
+    add-r
+    loop-less
+    loop-again
+    returns)
