@@ -5,21 +5,21 @@ use mathlib.Core.List.{List}
 use Prim.Native.Nat.{ℕ, _+_, _*_, _-_, _≤_, _<_}
 use native.Mathlib.Omega.{arith}
 use lib.IntN.{ℤ}
-use Rattle.rates.specs.Box.{moved}
-use Rattle.rates.specs.Machine.{Machine}
-use Rattle.rates.specs.Rate.{rates}
+use Rattle.machine.specs.Box.{moved}
+use Rattle.machine.specs.Machine.{Machine}
+use Rattle.machine.specs.Rate.{rates}
 use Rattle.rates.specs.Plant.{Sides, Usable}
 use Rattle.rates.proofs.Sides.{wider, hull-bound, moved-bound, rates-bound}
 use Rattle.boxes.specs.declared.step.Stepped.{Stepped}
 use Rattle.boxes.specs.declared.step.Stepped.the-variants.{Unsettled}
 use Rattle.boxes.specs.declared.walk.Walked.{Walked}
 use Rattle.boxes.specs.declared.walk.Walked.the-variants.{Ended}
-use Rattle.boxes.specs.Step.{lifted, settles, endBox, grown, got, rounds, Step}
-use Rattle.boxes.specs.Reach.{Reached, leg, reach}
+use Rattle.lifting.specs.Step.{lifted, settles, endBox, grown, got, rounds, Step}
+use Rattle.lifting.specs.Reach.{Reached, leg, reach}
 use Rattle.boxes.specs.Code.{roundBox, stepped, said, legged}
 use Rattle.boxes.proofs.CodeTurns.{Halving, Walking}
-use Rattle.boxes.proofs.Stages.{value-of, failure-of}
-use Rattle.boxes.proofs.Settled.{Settled, starts, rounds-take, Place, start, Walks, here, next, leg-takes, reach-takes}
+use Rattle.lifting.proofs.Stages.{value-of, failure-of}
+use Rattle.lifting.proofs.Settled.{Settled, starts, rounds-take, Place, start, Walks, here, next, leg-takes, reach-takes}
 
 -- eight rounds add at most eight
 pub halving-count : {l : Bool} {a : ℕ} {m : Machine} {S : List ℤ} {w c k d : ℕ} → Halving l a m S w c k d

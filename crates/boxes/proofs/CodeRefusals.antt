@@ -9,16 +9,16 @@ use lib.Signed.{leZ}
 use Rattle.integers.specs.Bound.{Bound}
 use Rattle.integers.proofs.Z.{bound-in, ints, le-true}
 use Rattle.layout.specs.Slots.{vars}
-use Rattle.rates.specs.Box.{lo, hi, all, trim}
-use Rattle.rates.specs.Machine.{Law, Machine, machine}
+use Rattle.machine.specs.Box.{lo, hi, all, trim}
+use Rattle.machine.specs.Machine.{Law, Machine, machine}
 use Rattle.rates.specs.Plant.{Sides}
-use Rattle.rates.proofs.Box.{and-both, all-at, all-more, all-stop}
+use Rattle.machine.proofs.Box.{and-both, all-at, all-more, all-stop}
 use Rattle.rates.proofs.Sides.{sides-bound}
 use Rattle.boxes.specs.declared.walk.Walked.{Walked}
 use Rattle.boxes.specs.declared.walk.Walked.the-variants.{Ended, Unsettled, Unsafe, Out}
-use Rattle.boxes.specs.Reach.{reach, clear, lawRefusal, sidesRefusal, ticksRefusal, orNext, reachRefusal, Answer, refused, answer, ifAccepted, reachOf}
+use Rattle.lifting.specs.Reach.{reach, clear, lawRefusal, sidesRefusal, ticksRefusal, orNext, reachRefusal, Answer, refused, answer, ifAccepted, reachOf}
 use Rattle.boxes.specs.Code.{said, walked}
-use Rattle.boxes.proofs.Count.{cond-zero, ticks-width}
+use Rattle.lifting.proofs.Count.{cond-zero, ticks-width}
 
 -- ---- 15
 

@@ -9,17 +9,17 @@ use borrow.Author.Tests.{le-leb, lt-leb}
 use lib.Dec.{leb}
 use lib.IntN.{ℤ}
 use Rattle.layout.specs.Slots.{N}
-use Rattle.rates.specs.Box.{hull, within, moved, trim}
-use Rattle.rates.specs.Machine.{Machine}
-use Rattle.rates.specs.Rate.{rates}
+use Rattle.machine.specs.Box.{hull, within, moved, trim}
+use Rattle.machine.specs.Machine.{Machine}
+use Rattle.machine.specs.Rate.{rates}
 use Rattle.rates.proofs.InPlace.{trim-hull, trim-moved}
 use Rattle.boxes.specs.declared.step.Stepped.{Stepped}
 use Rattle.boxes.specs.declared.step.Stepped.the-variants.{Settled, Unsettled, Out}
 use Rattle.boxes.specs.declared.walk.Walked.{Walked}
 use Rattle.boxes.specs.declared.walk.Walked.the-variants.{Ended, Unsafe}
 use Rattle.boxes.specs.declared.walk.Walked.the-variants as walked
-use Rattle.boxes.specs.Step.{lifted, settles, endBox, grown, Got, got, failed, unsettled, unsafe, andThen, orElse, isOut, Step, rounds, halving, step, swept}
-use Rattle.boxes.specs.Reach.{Reached, leg, walk, reach}
+use Rattle.lifting.specs.Step.{lifted, settles, endBox, grown, Got, got, failed, unsettled, unsafe, andThen, orElse, isOut, Step, rounds, halving, step, swept}
+use Rattle.lifting.specs.Reach.{Reached, leg, walk, reach}
 use Rattle.boxes.specs.Code.{roundBox, stepped, said, legged, walked}
 
 pub pick-yes : {A : Type 0} (b : Bool) (x y : A) → b ≡ true → (elim b as (λ _. A) [ true ↦ x | false ↦ y ]) ≡ x

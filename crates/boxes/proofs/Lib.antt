@@ -1,12 +1,3 @@
-pub mod Everything
-mod Examples
-pub mod Stages
-pub mod Settled
 pub mod CodeTurns
 pub mod CodeBounds
 pub mod CodeRefusals
-pub mod Sound
-pub mod Count
-pub mod Order
-pub mod Ranges
-mod Reference

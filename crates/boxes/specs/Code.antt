@@ -3,14 +3,14 @@ use mathlib.Core.Bool.{true, false}
 use mathlib.Core.List.{List}
 use Prim.Native.Nat.{ℕ}
 use lib.IntN.{ℤ}
-use Rattle.rates.specs.Machine.{Machine}
+use Rattle.machine.specs.Machine.{Machine}
 use Rattle.boxes.specs.declared.ReachAnswer.{ReachAnswer}
 use Rattle.boxes.specs.declared.step.Stepped.{Stepped}
 use Rattle.boxes.specs.declared.step.Stepped.the-variants as step
 use Rattle.boxes.specs.declared.walk.Walked.{Walked}
 use Rattle.boxes.specs.declared.walk.Walked.the-variants as walk
-use Rattle.boxes.specs.Step.{settles, endBox, grown, Got, got, failed, out, unsettled, unsafe, Step}
-use Rattle.boxes.specs.Reach.{Reached, Answer}
+use Rattle.lifting.specs.Step.{settles, endBox, grown, Got, got, failed, out, unsettled, unsafe, Step}
+use Rattle.lifting.specs.Reach.{Reached, Answer}
 
 -- the box that a round leaves: the end box where it settles, or else the next working box
 unfoldable pub roundBox : Machine → List ℤ → ℕ → List ℤ → List ℤ

@@ -1,3 +1,1 @@
-pub mod Step
-pub mod Reach
 pub mod Code

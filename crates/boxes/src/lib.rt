@@ -3,9 +3,9 @@
 // operation. Boxes and the sheet's value are lent.
 ghost use mathlib.Core.Path.{_≡_};
 ghost use Rattle.layout.specs.Valid.{Valid};
-ghost use Rattle.rates.specs.Machine.{machine};
+ghost use Rattle.machine.specs.Machine.{machine};
 ghost use Rattle.rates.specs.Plant.{lawOf, machineOf};
-ghost use Rattle.boxes.specs.Reach as spec;
+ghost use Rattle.lifting.specs.Reach as spec;
 ghost use Rattle.boxes.specs.Code.{answered};
 
 pub mod refusals;

@@ -6,7 +6,7 @@ ghost use lib.IntN.{pos, negℤ};
 ghost use lib.Signed.{leZ};
 ghost use Rattle.layout.specs.Slots as slots;
 ghost use Rattle.rates.specs.Plant.{lawOf};
-ghost use Rattle.boxes.specs.Reach.{lawRefusal, reachRefusal, sidesRefusal, ticksRefusal};
+ghost use Rattle.lifting.specs.Reach.{lawRefusal, reachRefusal, sidesRefusal, ticksRefusal};
 use layout::slots::BOX_SIZE;
 use layout::slots::GREATEST;
 use layout::slots::LEAST;

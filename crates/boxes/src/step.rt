@@ -1,9 +1,9 @@
 // One lifted step: rounds, settling, halving.
 ghost use mathlib.Core.Path.{_≡_};
 ghost use Prim.Native.Nat.{_+_, _*_, _≤_, _<_};
-ghost use Rattle.rates.specs.Box.{trim};
+ghost use Rattle.machine.specs.Box.{trim};
 ghost use Rattle.rates.specs.Plant.{Sides, Usable, limit, machineOf};
-ghost use Rattle.boxes.specs.Step.{isOut, rounds, settles, step};
+ghost use Rattle.lifting.specs.Step.{isOut, rounds, settles, step};
 ghost use Rattle.boxes.specs.Code.{countLimit, roundBox, stepLimit, stepped};
 use layout::slots::BOX_SIZE;
 use layout::slots::SLOTS;

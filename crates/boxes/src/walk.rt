@@ -2,9 +2,9 @@
 ghost use mathlib.Core.Path.{_≡_};
 ghost use Prim.Native.Nat.{_+_, _*_, _≤_, _<_, min};
 ghost use Rattle.layout.specs.Slots as slots;
-ghost use Rattle.rates.specs.Box as spec;
+ghost use Rattle.machine.specs.Box as spec;
 ghost use Rattle.rates.specs.Plant.{Sides, Usable, machineOf};
-ghost use Rattle.boxes.specs.Reach.{clear, leg, reach};
+ghost use Rattle.lifting.specs.Reach.{clear, leg, reach};
 ghost use Rattle.boxes.specs.Code.{countLimit, legged, stepLimit, walkLimit, walked};
 use crate::step::Budget;
 use crate::step::Stepped;

@@ -6,9 +6,9 @@ use Prim.Native.Nat.{ℕ, zero, suc, max}
 use native.Mathlib.Omega.{arith}
 use lib.IntN.{ℤ, pos}
 use Rattle.layout.specs.Slots.{δ, α, ρ, recoveryBox}
-use Rattle.boxes.specs.Step.{andThen}
-use Rattle.boxes.specs.Reach.{reach, walk}
-use Rattle.decision.specs.Decision.{follow, attempt, Reply, refused, tries, decisionPhases, decisionOf, recoveryPhases, recoveryOf, unless}
+use Rattle.lifting.specs.Step.{andThen}
+use Rattle.lifting.specs.Reach.{reach, walk}
+use Rattle.safety.specs.Decision.{follow, attempt, Reply, refused, tries, decisionPhases, decisionOf, recoveryPhases, recoveryOf, unless}
 use Rattle.decision.specs.Code.{attemptOf}
 
 -- ---- refusals

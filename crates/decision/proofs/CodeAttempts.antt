@@ -10,29 +10,29 @@ use lib.Dec.{leb}
 use lib.IntN.{ℤ}
 use Rattle.layout.specs.Slots.{N, vars, boxes, recoveryBox}
 use Rattle.layout.specs.Valid.{Valid}
-use Rattle.rates.specs.Box.{all, trim, within}
+use Rattle.machine.specs.Box.{all, trim, within}
 use Rattle.rates.specs.declared.Plant.{Plant}
-use Rattle.rates.specs.Machine.{Law, Machine, machine}
+use Rattle.machine.specs.Machine.{Law, Machine, machine}
 use Rattle.rates.specs.Plant.{Sides, Usable, machineOf}
 use Rattle.rates.proofs.Rates.{usable}
-use Rattle.rates.proofs.Box.{trim-lo, trim-hi}
+use Rattle.machine.proofs.Box.{trim-lo, trim-hi}
 use Rattle.boxes.specs.declared.walk.Walked.{Walked}
 use Rattle.boxes.specs.declared.walk.Walked.the-variants.{Ended, Unsettled, Unsafe}
 use Rattle.boxes.specs.declared.walk.Walked.the-variants as walk
-use Rattle.boxes.specs.Step.{Got, got, failed, out, unrecovered, andThen}
-use Rattle.boxes.specs.Reach.{Reached, reach, clear}
+use Rattle.lifting.specs.Step.{Got, got, failed, out, unrecovered, andThen}
+use Rattle.lifting.specs.Reach.{Reached, reach, clear}
 use Rattle.boxes.specs.Code.{said, walked}
-use Rattle.boxes.proofs.Stages.{value, failure, spent}
+use Rattle.lifting.proofs.Stages.{value, failure, spent}
 use Rattle.boxes.proofs.CodeBounds.{reach-near}
 use Rattle.boxes.proofs.CodeTurns.{pick-yes, pick-no}
 use Rattle.decision.specs.declared.Decision.the-variants.{Keep, Finest, Spent}
 use Rattle.decision.specs.declared.attempts.Trial.{Trial}
 use Rattle.decision.specs.declared.attempts.Attempted.{Attempted}
 use Rattle.decision.specs.declared.attempts.Attempted.the-variants.{Succeeded, Failed, Out}
-use Rattle.decision.specs.Decision.{Phase, phase, follow, attempt, keep, finest, Reply, answered, outcome, tries}
-use Rattle.decision.specs.Decision as decision
+use Rattle.safety.specs.Decision.{Phase, phase, follow, attempt, keep, finest, Reply, answered, outcome, tries}
+use Rattle.safety.specs.Decision as decision
 use Rattle.decision.specs.Code.{decided, summary, attemptOf}
-use Rattle.decision.proofs.Allowance.{ticksOf, Spends, attempt-takes}
+use Rattle.safety.proofs.Allowance.{ticksOf, Spends, attempt-takes}
 
 -- ---- a walk under the sheet's machine
 

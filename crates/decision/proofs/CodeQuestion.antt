@@ -9,15 +9,15 @@ use lib.Dec.{eqb}
 use lib.IntN.{ℤ}
 use lib.ListN.{length, getD}
 use Rattle.layout.specs.Slots.{N, vars}
-use Rattle.rates.specs.Box.{trim}
-use Rattle.rates.specs.Machine.{command}
+use Rattle.machine.specs.Box.{trim}
+use Rattle.machine.specs.Machine.{command}
 use Rattle.rates.specs.Plant.{Sides}
-use Rattle.rates.proofs.Box.{and-both}
+use Rattle.machine.proofs.Box.{and-both}
 use Rattle.rates.proofs.InPlace.{trim-sides}
-use Rattle.boxes.specs.Reach.{lawRefusal, sidesRefusal, orNext}
-use Rattle.boxes.proofs.Count.{cond-zero}
+use Rattle.lifting.specs.Reach.{lawRefusal, sidesRefusal, orNext}
+use Rattle.lifting.proofs.Count.{cond-zero}
 use Rattle.boxes.proofs.CodeRefusals.{or-stop, or-go, or-none, sides-near}
-use Rattle.decision.specs.Question.{questionLength, allowanceOf, commandOf, pairs, measured, formRefusal, allowanceRefusal, questionRefusal}
+use Rattle.safety.specs.Question.{questionLength, allowanceOf, commandOf, pairs, measured, formRefusal, allowanceRefusal, questionRefusal}
 use Rattle.decision.specs.Code.{startLimit}
 
 pub form-length : (n : ℕ) (g : List ℕ) → formRefusal n g ≡ 0 → length g ≡ questionLength n

@@ -14,9 +14,9 @@ use Rattle.layout.specs.Sheet.{refusal, values}
 use Rattle.layout.specs.Valid.{Valid}
 use Rattle.layout.proofs.Streams.{lt-or-le}
 use Rattle.layout.proofs.Valid.{valid, recovery-beyond}
-use Rattle.rates.specs.Box.{lo, hi, sides, trim}
+use Rattle.machine.specs.Box.{lo, hi, sides, trim}
 use Rattle.rates.specs.Plant.{Sides}
-use Rattle.rates.proofs.Box.{sides-length, sides-lo, sides-hi, box-lo, box-hi}
+use Rattle.machine.proofs.Box.{sides-length, sides-lo, sides-hi, box-lo, box-hi}
 use Rattle.rates.proofs.Sides.{sides-bound}
 use Rattle.decision.specs.Code.{startLimit}
 

@@ -3,8 +3,8 @@ use mathlib.Core.List.{List, [], _∷_}
 use Prim.Native.Nat.{ℕ}
 use lib.IntN.{ℤ}
 use Rattle.layout.specs.Slots.{vars}
-use Rattle.rates.specs.Machine.{baseline, command}
-use Rattle.boxes.specs.Step.{Got, got, failed, out}
+use Rattle.machine.specs.Machine.{baseline, command}
+use Rattle.lifting.specs.Step.{Got, got, failed, out}
 use Rattle.decision.specs.declared.Decision.{Decision}
 use Rattle.decision.specs.declared.Decision.the-variants.{Keep, Finest, Spent, Refused}
 use Rattle.decision.specs.declared.Recovery.{Recovery}
@@ -13,8 +13,8 @@ use Rattle.decision.specs.declared.Recovery.the-variants as recovery
 use Rattle.decision.specs.declared.attempts.Trial.{Trial}
 use Rattle.decision.specs.declared.attempts.Attempted.{Attempted}
 use Rattle.decision.specs.declared.attempts.Attempted.the-variants.{Succeeded, Failed, Out}
-use Rattle.decision.specs.Question.{questionRefusal, allowanceOf, commandOf, measured}
-use Rattle.decision.specs.Decision.{phase, attempt, keep, finest, spent, Reply, refused, answered, decisionOf, unless}
+use Rattle.safety.specs.Question.{questionRefusal, allowanceOf, commandOf, measured}
+use Rattle.safety.specs.Decision.{phase, attempt, keep, finest, spent, Reply, refused, answered, decisionOf, unless}
 
 -- a decision, and a recovery check's answer
 unfoldable pub decided : Decision → Reply

@@ -1,13 +1,13 @@
 // The decision and the recovery check (document 01, "The decision") on any bytes. `question` reads a question, `attempts`
-// tries ever smaller widths. The definitions are in specs/Decision.antt; specs/Run.antt says what they are for, that every
-// run of the machine is safe, and proofs/Run.antt proves it.
+// tries ever smaller widths. What they answer is equal to the definitions in safety/specs/Decision.antt; safety/specs/Run.antt
+// says what these are for, that every run of the machine is safe.
 ghost use mathlib.Core.Path.{_≡_};
 ghost use Prim.Native.Nat.{ℕ, _≤_, max};
 ghost use Rattle.layout.specs.Slots.{recoveryBox, vars};
 ghost use Rattle.layout.specs.Valid.{Valid};
-ghost use Rattle.rates.specs.Box.{trim};
-ghost use Rattle.decision.specs.Question.{allowanceOf};
-ghost use Rattle.decision.specs.Decision.{answered, checkRecovery, decide, recoveryOf, roundsOf, spent};
+ghost use Rattle.machine.specs.Box.{trim};
+ghost use Rattle.safety.specs.Question.{allowanceOf};
+ghost use Rattle.safety.specs.Decision.{answered, checkRecovery, decide, recoveryOf, roundsOf, spent};
 ghost use Rattle.decision.specs.Code.{checked, decided, decisionOn};
 
 mod attempts;

@@ -3,7 +3,7 @@ ghost use mathlib.Core.Path.{_≡_};
 ghost use Prim.Native.Nat.{_+_, _*_, _≤_};
 ghost use lib.ListN.{length};
 ghost use Rattle.layout.specs.Slots as slots;
-ghost use Rattle.decision.specs.Question.{allowanceOf, commandOf, formRefusal, measured, pairs, questionLength, questionRefusal};
+ghost use Rattle.safety.specs.Question.{allowanceOf, commandOf, formRefusal, measured, pairs, questionLength, questionRefusal};
 use boxes::refusals::law_refusal;
 use boxes::refusals::sides_refusal;
 use encoding::bytes::four;

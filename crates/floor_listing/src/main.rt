@@ -4,7 +4,7 @@ ghost use Prim.Native.Nat.{_≤_, _<_};
 ghost use lib.ListN.{length};
 ghost use Rattle.io.specs.Counts.{Counts};
 ghost use Rattle.layout.specs.Slots.{N};
-ghost use Rattle.decision.specs.Question.{questionLength};
+ghost use Rattle.safety.specs.Question.{questionLength};
 ghost use Rattle.listing.specs.Text.{lineRoom, longest};
 use libc::STDOUT_FILENO;
 use listing::QUESTION;

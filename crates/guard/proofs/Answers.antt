@@ -6,7 +6,7 @@ use native.Mathlib.Omega.{arith}
 use borrow.Author.Tests.{le-leb, lt-leb}
 use lib.ListN.{length}
 use Rattle.boxes.proofs.CodeRefusals.{or-stop, or-go}
-use Rattle.decision.specs.Decision.{refused, packed}
+use Rattle.safety.specs.Decision.{refused, packed}
 use Rattle.guard.specs.Calls.{orRefused, orUnchanged, orRoom}
 
 -- d is the definition's refusal, x the code's; the answer without one is a

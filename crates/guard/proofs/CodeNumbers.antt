@@ -16,7 +16,7 @@ use Rattle.integers.specs.Bytes.{beBytes}
 use Rattle.integers.proofs.Z.{fits, fits64}
 use Rattle.layout.specs.Slots.{_!_}
 use Rattle.layout.specs.Fields.{i32, encoded}
-use Rattle.rates.specs.Box.{lo, hi}
+use Rattle.machine.specs.Box.{lo, hi}
 use Rattle.guard.specs.Calls.{numberBytes, numberAt, numbersIn, sidesOf}
 
 -- what is written behind what was written

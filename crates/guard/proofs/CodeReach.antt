@@ -13,16 +13,16 @@ use Rattle.layout.specs.Slots.{_!_, vars}
 use Rattle.layout.specs.Fields.{i32, encoded}
 use Rattle.layout.specs.Sheet.{refusal, values}
 use Rattle.layout.specs.Valid.{Valid}
-use Rattle.rates.specs.Box.{sides, trim}
-use Rattle.rates.specs.Machine.{Law, Machine, machine}
+use Rattle.machine.specs.Box.{sides, trim}
+use Rattle.machine.specs.Machine.{Law, Machine, machine}
 use Rattle.rates.specs.Plant.{Sides, Usable, lawOf}
 use Rattle.rates.proofs.Rates.{usable}
 use Rattle.rates.proofs.Sides.{wider, sides-bound, hull-bound, moved-bound, rates-bound}
-use Rattle.boxes.specs.Step.{Failure, Got, Step, endBox, swept}
-use Rattle.boxes.specs.Reach.{Reached, reach, clear, ticksRefusal, lawRefusal, reachRefusal, noBox, Answer, answer, ifAccepted, reachOf, reachFile}
-use Rattle.boxes.proofs.Stages.{Takes, value, failure, spent}
-use Rattle.boxes.proofs.Settled.{Settled, Place, start, Walks, here, next, Ends, reach-takes}
-use Rattle.boxes.proofs.Count.{ticks-width}
+use Rattle.lifting.specs.Step.{Failure, Got, Step, endBox, swept}
+use Rattle.lifting.specs.Reach.{Reached, reach, clear, ticksRefusal, lawRefusal, reachRefusal, noBox, Answer, answer, ifAccepted, reachOf, reachFile}
+use Rattle.lifting.proofs.Stages.{Takes, value, failure, spent}
+use Rattle.lifting.proofs.Settled.{Settled, Place, start, Walks, here, next, Ends, reach-takes}
+use Rattle.lifting.proofs.Count.{ticks-width}
 use Rattle.boxes.proofs.CodeRefusals.{or-none, sides-near, if-refused, if-accepted}
 use Rattle.guard.specs.Calls.{numberBytes, startBox, sidesOf, reachAnswer}
 use Rattle.guard.proofs.CodeNumbers.{sets-append, sides-length}

@@ -12,11 +12,11 @@ use Rattle.layout.specs.Slots.{_!_, slots, vars}
 use Rattle.layout.specs.Refusals.{Cause, unless}
 use Rattle.layout.specs.Fields.{i32, encoded}
 use Rattle.layout.specs.Sheet.{zeros, refusal, values, length-of, writeRefusal, written}
-use Rattle.rates.specs.Box.{lo, hi}
+use Rattle.machine.specs.Box.{lo, hi}
 use Rattle.rates.specs.Plant.{lawOf}
-use Rattle.boxes.specs.Reach.{orNext, Answer, noBox, reachFile}
-use Rattle.decision.specs.Question.{pairs}
-use Rattle.decision.specs.Decision.{refused, packed, checkRecovery, decide}
+use Rattle.lifting.specs.Reach.{orNext, Answer, noBox, reachFile}
+use Rattle.safety.specs.Question.{pairs}
+use Rattle.safety.specs.Decision.{refused, packed, checkRecovery, decide}
 
 -- the number of the refusal r, or where there is none the answer a
 unfoldable pub orRefused : ℕ → ℕ → ℕ

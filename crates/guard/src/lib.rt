@@ -3,7 +3,7 @@
 // are the drive's; `numbers` has the form in which the others take and give a sheet's numbers and boxes.
 ghost use mathlib.Core.Path.{_≡_};
 ghost use Prim.Native.Nat.{_+_, _*_, _^_, _≤_};
-ghost use Rattle.decision.specs.Decision.{packed, refused, widthOf};
+ghost use Rattle.safety.specs.Decision.{packed, refused, widthOf};
 ghost use Rattle.decision.specs.Code.{checked, decided};
 ghost use Rattle.layout.specs.Slots as slots;
 ghost use Rattle.rates.specs.Plant.{Sides};

@@ -1,4 +1,6 @@
-// A sheet's format (document 01, "Sheet layout"): definitions, what follows of them, and the names of slots, sizes and refusals.
+// A sheet's format (document 01, "Sheet layout"): what a file says, its refusal number, the bytes of a value, as definitions; and
+// what follows of them, as the length formula and that reading and writing undo each other. Beside them the names of slots,
+// sizes and refusals, which all code uses. `sheet` has the operations.
 ghost use mathlib.Core.Path.{_≡_};
 ghost use Prim.Native.Nat.{_<_};
 ghost use lib.IntN.{pos, natAbs};

@@ -9,7 +9,7 @@ use lib.ListN.{length, take, drop, set, length-drop, length-set}
 use lib.Seq.{take-all, drop-cons, getD-set-same, drop-set-lt, lt-length-set}
 use borrow.Author.Tests.{lt-ltb, le-ltb}
 use Rattle.boxes.proofs.CodeTurns.{pick-yes, pick-no}
-use Rattle.decision.specs.Listing.{digits, digitsTo}
+use Rattle.safety.specs.Listing.{digits, digitsTo}
 
 -- the buffer holds the last digits of x after `from`; the others are those of `rest`, for which there is room
 pub record Spelled (x : ℕ) (buffer : List ℕ) (from rest : ℕ) : Type 0 where

@@ -22,10 +22,10 @@ use Rattle.layout.proofs.Places.{Small}
 use Rattle.layout.proofs.Ranges.{small}
 use Rattle.layout.proofs.Length.{cap-offset, file-length}
 use Rattle.layout.proofs.Answers.{refused-beginning, refused-head, refused-size}
-use Rattle.decision.specs.Question.{questionLength}
-use Rattle.decision.specs.Decision.{Reply, recoveryOf, unless, checkRecovery}
-use Rattle.decision.specs.Run.{isKeep}
-use Rattle.decision.specs.Listing.{_␣_, newline, sheetWord, checkWord, replyText, sheetLine, questionLines, listing}
+use Rattle.safety.specs.Question.{questionLength}
+use Rattle.safety.specs.Decision.{Reply, recoveryOf, unless, checkRecovery}
+use Rattle.safety.specs.Run.{isKeep}
+use Rattle.safety.specs.Listing.{_␣_, newline, sheetWord, checkWord, replyText, sheetLine, questionLines, listing}
 use Rattle.listing.specs.Text.{longest}
 
 -- the length grows with the counts

@@ -20,5 +20,5 @@ unfolding zeros
 counted f = go (refusal f) refl
   where
     go : (c : ℕ) → refusal f ≡ c → Counted (values f)
-    go zero e = record { low = valid f e .head varsSlot (omega arith); high = valid f e .vars-high }
+    go zero e = record { low = valid f e .head varsSlot (omega arith); high = omega (arith, valid f e .vars-high) }
     go (suc c) e = subst Counted (sym (values-zero f (λ z. let x : _≡_ {A = ℕ} 0 (suc c) = sym z ∙ e in omega arith))) (record { low = omega ints; high = omega arith })

@@ -1,4 +1,4 @@
-// The lines of the floor listing (document 01, "The floor listing") as bytes, equal to those of decision/specs/Listing.antt.
+// The lines of the floor listing (document 01, "The floor listing") as bytes, equal to those of safety/specs/Listing.antt.
 // A line is put into a lent array, from its first byte on; the bytes behind the line stay as they were.
 ghost use mathlib.Core.Path.{_≡_};
 ghost use mathlib.Core.List.{[], _∷_, _++_};
@@ -6,11 +6,11 @@ ghost use Prim.Native.Nat.{_+_, _≤_};
 ghost use lib.ListN.{length};
 ghost use Rattle.layout.specs.Slots as slots;
 ghost use Rattle.layout.specs.Sheet.{values};
-ghost use Rattle.decision.specs.Question.{questionLength};
-ghost use Rattle.decision.specs.Decision.{checkRecovery};
-ghost use Rattle.decision.specs.Run.{isKeep};
+ghost use Rattle.safety.specs.Question.{questionLength};
+ghost use Rattle.safety.specs.Decision.{checkRecovery};
+ghost use Rattle.safety.specs.Run.{isKeep};
 ghost use Rattle.decision.specs.Code.{checked, decided};
-ghost use Rattle.decision.specs.Listing.{_␣_, checkWord, decisionWord, digits, newline, questionLine, refusedWord, replyText, sheetLine, sheetWord};
+ghost use Rattle.safety.specs.Listing.{_␣_, checkWord, decisionWord, digits, newline, questionLine, refusedWord, replyText, sheetLine, sheetWord};
 ghost use Rattle.listing.specs.Text.{Put, lineRoom, replyRoom, wordRoom};
 
 pub mod text;

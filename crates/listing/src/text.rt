@@ -2,7 +2,7 @@
 ghost use mathlib.Core.List.{_∷_};
 ghost use Prim.Native.Nat.{_+_, _≤_};
 ghost use lib.ListN.{length};
-ghost use Rattle.decision.specs.Listing.{digits, space};
+ghost use Rattle.safety.specs.Listing.{digits, space};
 ghost use Rattle.listing.specs.Text.{Put, numberRoom, lineRoom};
 
 // The most bytes of a number, a word, a reply (a word and two numbers, each after a space) and a line (an ordinal, a space,

@@ -8,8 +8,8 @@ use lib.IntN.{ℤ, pos}
 use lib.ListN.{set}
 use lib.Seq.{getD-set-other, set-set, set-comm}
 use Rattle.layout.specs.Slots.{N}
-use Rattle.rates.specs.Box.{lo, hi, sides, trim, hull, moved}
-use Rattle.rates.proofs.Box.{sides-lo, sides-hi}
+use Rattle.machine.specs.Box.{lo, hi, sides, trim, hull, moved}
+use Rattle.machine.proofs.Box.{sides-lo, sides-hi}
 
 -- ---- boxes that trimming leaves as they are
 

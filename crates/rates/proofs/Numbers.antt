@@ -10,7 +10,8 @@ use mir.Val.{hbits, toZ, ofZ}
 use borrow.Author.Needs.{sfits-of}
 use Rattle.integers.specs.Bound.{Bound}
 use Rattle.integers.specs.Division.{floorDiv}
-use Rattle.integers.proofs.Z.{ints, flat, from32}
+use Rattle.integers.proofs.Z.{ints, flat, neg, from32, bound-in}
+use Rattle.layout.specs.Valid.{Between}
 
 -- the code's −z
 pub zero-less : (z : ℤ) → pos 0 -ℤ z ≡ negℤ z
@@ -28,3 +29,7 @@ pub floor-bound : {z : ℤ} {B : ℕ} (q : ℕ) → Bound z B → Bound (floorDi
 unfolding floorDiv
 floor-bound {z = pos n} q h = record { at-most = omega (arith, div-le-self n q, h .at-most) }
 floor-bound {z = negsuc n} q h = record { at-most = omega (arith, div-le-self n q, h .at-most) }
+
+-- what lies within a cap goes no further than it
+pub within-bound : {b : ℕ} {c z : ℤ} → Bound c b → Between (negℤ c) c z → Bound z b
+within-bound {b} {c} h k = bound-in (omega (ints, k .low, h .at-most, neg c, neg (pos b))) (omega (ints, k .high, h .at-most))

@@ -7,7 +7,8 @@ use Rattle.integers.specs.Order.{minZ, maxZ}
 use Rattle.integers.specs.Division.{floorDiv}
 use Rattle.integers.proofs.Z.{ints, flat, min-is, max-is, prod, neg, le-by, mul-mono}
 use Rattle.integers.proofs.Division.{floor-lo, floor-most}
-use Rattle.rates.specs.Machine.{clamp}
+use Rattle.layout.specs.Valid.{Between}
+use Rattle.machine.specs.Machine.{clamp}
 
 -- ---- z and the clamped f, by where f lies
 
@@ -31,13 +32,13 @@ module _ (c z f : ℤ) (low : negℤ c ≤ℤ z) (high : z ≤ℤ c) where
       omega (ints, neg c, neg z, neg f, neg (minZ (negℤ z) (maxZ (negℤ c) (minZ f c))), min-is (negℤ z) (maxZ (negℤ c) (minZ f c)), max-is (negℤ c) (minZ f c), min-is f c, max-is z (maxZ (negℤ c) (minZ (negℤ f) c)), max-is (negℤ c) (minZ (negℤ f) c), min-is (negℤ f) c)
 
   -- the greater of z and of the clamped f lies within the cap
-  pub raised-within : (negℤ c ≤ℤ maxZ z (clamp c f)) × (maxZ z (clamp c f) ≤ℤ c)
+  pub raised-within : Between (negℤ c) c (maxZ z (clamp c f))
   unfolding clamp
   raised-within =
       let x = max-is z (maxZ (negℤ c) (minZ f c)) in
       let y = max-is (negℤ c) (minZ f c) in
       let w = min-is f c in
-      (omega (ints, x, y, w), omega (ints, x, y, w))
+      record { low = omega (ints, x, y, w); high = omega (ints, x, y, w) }
 
 -- ---- where the quotient lies, by products
 

@@ -9,12 +9,12 @@ use lib.ListN.{set, replicate}
 use Rattle.integers.specs.Bound.{Bound}
 use Rattle.integers.proofs.Z.{ints, min-is, max-is, sum, sub, neg, bound-sum, bound-mul, bound-lit, bound-less, bound-in}
 use Rattle.layout.specs.Slots.{_!_, N, boxSize}
-use Rattle.rates.specs.Box.{lo, hi, sides, trim, hull, moved}
-use Rattle.rates.specs.Machine.{Machine, cap}
-use Rattle.rates.specs.Rate.{outer, rate, neighborhood, faceRate, rates}
+use Rattle.machine.specs.Box.{lo, hi, sides, trim, hull, moved}
+use Rattle.machine.specs.Machine.{Machine, cap}
+use Rattle.machine.specs.Rate.{outer, rate, neighborhood, faceRate, rates}
 use Rattle.rates.specs.Plant.{Usable, Sides}
-use Rattle.rates.proofs.Face.{outer-one}
-use Rattle.rates.proofs.Sound.{rate-within}
+use Rattle.machine.proofs.Face.{outer-one}
+use Rattle.machine.proofs.Sound.{rate-within}
 
 pub wider : {b c : ℕ} {B : List ℤ} → b ≤ c → Sides b B → Sides c B
 wider h k = record { at = λ i. bound-less (k .at i) h }

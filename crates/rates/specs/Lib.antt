@@ -1,4 +1,1 @@
-pub mod Box
-pub mod Machine
-pub mod Rate
 pub mod Plant

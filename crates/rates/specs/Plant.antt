@@ -8,7 +8,7 @@ use Rattle.integers.specs.Bound.{Bound}
 use Rattle.layout.specs.Slots.{_!_, N, maxBands}
 use Rattle.layout.specs.Valid.{Between}
 use Rattle.rates.specs.declared.Plant.{Plant}
-use Rattle.rates.specs.Machine.{Law, baseline, command, Machine, cap, rowOf}
+use Rattle.machine.specs.Machine.{Law, baseline, command, Machine, cap, rowOf}
 
 unfoldable pub lawOf : Bool → ℤ → Law
 lawOf true u = baseline

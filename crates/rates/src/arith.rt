@@ -5,8 +5,8 @@ ghost use lib.Signed.{_≤ℤ_};
 ghost use Rattle.integers.specs.Order.{minZ, maxZ};
 ghost use Rattle.integers.specs.Bound.{Bound};
 ghost use Rattle.integers.specs.Division.{ceilDiv, floorDiv};
-ghost use Rattle.rates.specs.Machine.{clamp};
-ghost use Rattle.rates.specs.Rate.{outer};
+ghost use Rattle.machine.specs.Machine.{clamp};
+ghost use Rattle.machine.specs.Rate.{outer};
 ghost use Rattle.rates.specs.Plant.{word};
 
 pub fn min(a: i64, b: i64) -> i64

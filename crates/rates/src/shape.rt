@@ -6,7 +6,7 @@ ghost use lib.IntN.{pos, _+ℤ_, _*ℤ_};
 ghost use lib.Signed.{leZ};
 ghost use Rattle.integers.specs.Bound.{Bound};
 ghost use Rattle.layout.specs.Slots as slots;
-ghost use Rattle.rates.specs.Box.{any, hull, meets, moved, trim, within};
+ghost use Rattle.machine.specs.Box.{any, hull, meets, moved, trim, within};
 ghost use Rattle.rates.specs.Plant.{Sides, limit};
 use crate::arith::max;
 use crate::arith::min;

@@ -1,4 +1,6 @@
-// The numbers of a file, read to their slots.
+// The records of a file, read to the slots of a sheet's value (document 01, "Sheet layout"): head, bands, boxes, each by its
+// fields in the file's order. `sheet::read_into` puts them together; what is read is equal to `filledAll` in
+// layout/specs/File.
 ghost use mathlib.Core.Path.{_≡_};
 ghost use mathlib.Core.Bool.{true, false};
 ghost use Prim.Native.Nat.{ℕ, _+_, _≤_, _<_};

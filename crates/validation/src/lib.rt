@@ -1,4 +1,6 @@
-// The tests of a sheet's numbers, in the file's order. Each gives 0, or the refusal of the first number out of range.
+// The tests of a sheet's numbers (document 01, "Sheet layout"), in the file's order, over the value: reader and writer share
+// them. Each gives 0, or the refusal of the first number out of range. The definitions are in layout/specs/Layout: each field
+// has its range and its cause.
 ghost use mathlib.Core.Path.{_≡_};
 ghost use mathlib.Core.Bool.{true};
 ghost use Prim.Native.Nat.{_+_, _≤_, _<_};

@@ -1,4 +1,6 @@
-// A sheet's numbers, written to a buffer. A record's writer gets the part of the buffer that starts at the record.
+// The records of a sheet's value, written to a buffer (document 01, "Sheet layout"): head, bands, boxes. A record's writer gets
+// the part of the buffer that starts at the record, and leaves every byte behind the record as it was. `sheet::write` tests
+// the value and the room first.
 ghost use mathlib.Core.Path.{_≡_};
 ghost use Prim.Native.Nat.{ℕ, _+_, _≤_, _<_};
 ghost use lib.ListN.{length};

@@ -1,4 +1,4 @@
-//! Prints examples of `examples.txt` as a file of proofs: `print_proofs boxes` those of the reach, `print_proofs decision`
+//! Prints examples of `examples.txt` as a file of proofs: `print_proofs lifting` those of the reach, `print_proofs safety`
 //! those listed in `PROVED`. The definitions compute each of them; a test holds the printed files to those in the repository.
 
 use std::collections::HashMap;
@@ -138,27 +138,27 @@ fn reply_row(example: &Example, sheet: usize) -> (String, String) {
     (given, said)
 }
 
-const BOXES: &str = "\
+const LIFTING: &str = "\
 use mathlib.Core.Path.{_≡_, refl}
 use mathlib.Core.List.{List, [], _∷_}
 use Prim.Native.Nat.{ℕ}
 use lib.IntN.{ℤ, pos, negsuc}
-use Rattle.sheet.specs.Sheet.{values}
-use Rattle.sheet.proofs.Everything as sheet
-use Rattle.rates.specs.Machine.{baseline, command}
-use Rattle.boxes.specs.Reach.{Answer, refused, reachOf}
-use Rattle.boxes.proofs.Everything.{everything}
+use Rattle.layout.specs.Sheet.{values}
+use Rattle.layout.proofs.Everything as sheet
+use Rattle.machine.specs.Machine.{baseline, command}
+use Rattle.lifting.specs.Reach.{Answer, refused, reachOf}
+use Rattle.lifting.proofs.Everything.{everything}
 
 abbrev answered : List ℤ → List ℤ → ℕ → Answer
 answered E W c = record { refusal = 0; end = E; swept = W; rounds = c }
 ";
 
-const DECISION: &str = "\
+const SAFETY: &str = "\
 use mathlib.Core.Path.{_≡_, refl}
 use mathlib.Core.List.{List, [], _∷_}
 use Prim.Native.Nat.{ℕ}
-use Rattle.decision.specs.Decision.{keep, finest, spent, refused, answered, decide, checkRecovery}
-use Rattle.decision.proofs.Everything.{everything}
+use Rattle.safety.specs.Decision.{keep, finest, spent, refused, answered, decide, checkRecovery}
+use Rattle.safety.proofs.Everything.{everything}
 ";
 
 fn print(examples: &[Example], header: &str, row: impl Fn(&Example, usize) -> (String, String), opened: &str) {
@@ -210,13 +210,13 @@ fn main() {
         .lines()
         .filter(|line| !line.is_empty() && !line.starts_with('#'))
         .map(Example::parse)
-        .filter(|example| if part == "boxes" { example.call == "reach" } else { PROVED.contains(&example.name) })
+        .filter(|example| if part == "lifting" { example.call == "reach" } else { PROVED.contains(&example.name) })
         .collect();
     match part.as_str() {
-        "boxes" => print(&examples, BOXES, reach_row, "sheet.everything everything"),
-        "decision" => print(&examples, DECISION, reply_row, "everything"),
+        "lifting" => print(&examples, LIFTING, reach_row, "sheet.everything everything"),
+        "safety" => print(&examples, SAFETY, reply_row, "everything"),
         _ => {
-            eprintln!("usage: print_proofs boxes|decision");
+            eprintln!("usage: print_proofs lifting|safety");
             std::process::exit(2);
         }
     }

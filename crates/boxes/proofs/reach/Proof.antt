@@ -6,7 +6,7 @@ use mir.Facts.{toZ-ofZ}
 use Rattle.layout.specs.Valid.{Valid}
 use Rattle.layout.proofs.Valid.{valid}
 use Rattle.rates.specs.Plant.{lawOf}
-use Rattle.boxes.specs.Reach.{reachOf, reachFile}
+use Rattle.lifting.specs.Reach.{reachOf, reachFile}
 use Rattle.boxes.proofs.CodeRefusals.{if-refused, if-accepted}
 use Rattle.boxes.proofs.reach.Statement.{statement}
 use Rattle.boxes.proofs.reach.Tie as tie

@@ -6,7 +6,7 @@ use lib.IntN.{ℤ}
 use mir.Facts.{toZ-ofZ}
 use borrow.Author.Needs.{needs}
 use denote.Enum.Declared.{tagOf}
-use Rattle.rates.specs.Machine.{Law, Machine, machine}
+use Rattle.machine.specs.Machine.{Law, Machine, machine}
 use Rattle.rates.specs.Plant.{Usable, lawOf, machineOf}
 use Rattle.rates.proofs.InPlace.{trim-trim}
 use Rattle.rates.proofs.Rates.{usable}

@@ -3,12 +3,12 @@ use mathlib.Core.Path.{_≡_, sym, ap, _∙_, subst}
 use Prim.Native.Nat.{ℕ}
 use native.Mathlib.Omega.{arith}
 use Rattle.layout.specs.Slots.{vars, recoveryBox}
-use Rattle.rates.specs.Box.{trim}
+use Rattle.machine.specs.Box.{trim}
 use Rattle.rates.specs.Plant.{Sides}
 use Rattle.boxes.proofs.CodeTurns.{trim-as}
-use Rattle.decision.specs.Decision.{recoveryOf}
+use Rattle.safety.specs.Decision.{recoveryOf}
 use Rattle.decision.specs.Code.{decided, startLimit}
-use Rattle.decision.proofs.Allowance.{recoveryOf-unspent}
+use Rattle.safety.proofs.Allowance.{recoveryOf-unspent}
 use Rattle.decision.proofs.CodeAnswers.{trial-checks}
 use Rattle.decision.proofs.CodeRecovery.{recovery-near}
 use Rattle.decision.proofs.check_on.Statement.{statement}

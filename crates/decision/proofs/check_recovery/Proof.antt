@@ -6,8 +6,8 @@ use borrow.Author.Needs.{needs}
 use Rattle.layout.specs.Slots.{vars, recoveryBox}
 use Rattle.layout.specs.Valid.{Valid}
 use Rattle.layout.proofs.Valid.{valid}
-use Rattle.rates.specs.Box.{trim}
-use Rattle.decision.specs.Decision.{recoveryOf, checkRecovery}
+use Rattle.machine.specs.Box.{trim}
+use Rattle.safety.specs.Decision.{recoveryOf, checkRecovery}
 use Rattle.decision.specs.Code.{checked}
 use Rattle.decision.proofs.CodeAnswers.{unless-refused, unless-passed}
 use Rattle.decision.proofs.CodeRecovery.{recovery-trimmed}

@@ -6,9 +6,9 @@ use lib.IntN.{ℤ}
 use borrow.Author.Needs.{needs}
 use Rattle.layout.specs.Valid.{Valid}
 use Rattle.layout.proofs.Valid.{valid}
-use Rattle.decision.specs.Decision.{decide}
+use Rattle.safety.specs.Decision.{decide}
 use Rattle.decision.specs.Code.{decided, decisionOn}
-use Rattle.decision.proofs.Allowance.{answer-allowed}
+use Rattle.safety.proofs.Allowance.{answer-allowed}
 use Rattle.decision.proofs.CodeAnswers.{unless-refused, unless-passed}
 use Rattle.decision.proofs.decide.Statement.{statement}
 use Rattle.decision.proofs.decide.Tie as tie

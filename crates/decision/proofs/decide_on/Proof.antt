@@ -12,7 +12,7 @@ use borrow.Author.Needs.{needs}
 use Rattle.layout.specs.Slots.{N, vars}
 use Rattle.rates.specs.Plant.{Sides}
 use Rattle.boxes.proofs.CodeTurns.{trim-as}
-use Rattle.decision.specs.Question.{questionLength, measured, questionRefusal}
+use Rattle.safety.specs.Question.{questionLength, measured, questionRefusal}
 use Rattle.decision.specs.Code.{decided, startLimit}
 use Rattle.decision.proofs.CodeQuestion.{asked-length, measured-near, measured-trimmed}
 use Rattle.decision.proofs.CodeAnswers.{unless-refused, unless-passed, trial-decides}

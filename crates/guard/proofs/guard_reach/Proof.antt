@@ -12,7 +12,7 @@ use Rattle.layout.specs.Sheet.{values}
 use Rattle.layout.specs.Valid.{Valid}
 use Rattle.layout.proofs.Valid.{valid}
 use Rattle.rates.specs.Plant.{Sides, lawOf}
-use Rattle.boxes.specs.Reach.{Answer, reachOf}
+use Rattle.lifting.specs.Reach.{Answer, reachOf}
 use Rattle.boxes.specs.Code.{answered}
 use Rattle.guard.specs.Calls.{startBox, reachedRefusal, reachedCall, reachedOut, reachAnswer, reachCall, reachOut}
 use Rattle.guard.proofs.Answers.{or-refused, or-unchanged, room-stop}

@@ -4,7 +4,7 @@ use Prim.Native.Nat.{_≤_}
 use native.Mathlib.Omega.{arith}
 use borrow.Author.Needs.{needs}
 use Rattle.decision.specs.declared.Decision.{Decision}
-use Rattle.decision.specs.Decision.{codeOf, widthOf, roundsOf, packed}
+use Rattle.safety.specs.Decision.{codeOf, widthOf, roundsOf, packed}
 use Rattle.decision.specs.Code.{decided}
 use Rattle.guard.proofs.pack_decision.Statement.{statement}
 use Rattle.guard.proofs.pack_decision.Tie as tie

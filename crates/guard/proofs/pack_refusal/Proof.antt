@@ -1,6 +1,6 @@
 -- `pack_refusal` is the number of a refusal. Assumes nothing.
 use borrow.Author.Needs.{needs}
-use Rattle.decision.specs.Decision.{codeOf, widthOf, roundsOf, packed}
+use Rattle.safety.specs.Decision.{codeOf, widthOf, roundsOf, packed}
 use Rattle.guard.proofs.pack_refusal.Statement.{statement}
 use Rattle.guard.proofs.pack_refusal.Tie as tie
 

@@ -3,7 +3,7 @@ use mathlib.Core.Path.{sym, ap}
 use borrow.Author.Needs.{needs}
 use Rattle.decision.specs.declared.Recovery.{Recovery}
 use Rattle.decision.specs.Code.{checked}
-use Rattle.decision.specs.Run.{isKeep}
+use Rattle.safety.specs.Run.{isKeep}
 use Rattle.listing.proofs.has_passed.Statement.{statement}
 use Rattle.listing.proofs.has_passed.Tie as tie
 

@@ -1,7 +1,7 @@
 -- `put_decision` goes by the decision's cases. Assumes nothing.
 use borrow.Author.Needs.{needs}
 use Rattle.decision.specs.Code.{decided}
-use Rattle.decision.specs.Listing.{decisionWord, replyText}
+use Rattle.safety.specs.Listing.{decisionWord, replyText}
 use Rattle.listing.proofs.put_decision.Statement.{statement}
 use Rattle.listing.proofs.put_decision.Tie as tie
 

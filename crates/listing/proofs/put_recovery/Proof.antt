@@ -1,7 +1,7 @@
 -- `put_recovery` goes by the answer's cases. Assumes nothing.
 use borrow.Author.Needs.{needs}
 use Rattle.decision.specs.Code.{checked}
-use Rattle.decision.specs.Listing.{checkWord, replyText}
+use Rattle.safety.specs.Listing.{checkWord, replyText}
 use Rattle.listing.proofs.put_recovery.Statement.{statement}
 use Rattle.listing.proofs.put_recovery.Tie as tie
 

@@ -3,7 +3,7 @@ use mathlib.Core.Path.{refl}
 use lib.IntN.{pos, negℤ}
 use mir.Facts.{toZ-ofZ}
 use Rattle.integers.proofs.Z.{ints}
-use Rattle.rates.proofs.Box.{le-is, le-not}
+use Rattle.machine.proofs.Box.{le-is, le-not}
 use Rattle.boxes.proofs.refusals.in_range.Statement.{statement}
 use Rattle.boxes.proofs.refusals.in_range.Tie as tie
 

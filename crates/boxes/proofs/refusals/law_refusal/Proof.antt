@@ -9,8 +9,8 @@ use borrow.Author.Needs.{needs, sfits-of}
 use Rattle.integers.proofs.Z.{ints}
 use Rattle.layout.specs.Slots.{leastCommand, greatestCommand}
 use Rattle.rates.specs.Plant.{lawOf}
-use Rattle.rates.proofs.Box.{le-is, le-not}
-use Rattle.boxes.specs.Reach.{lawRefusal}
+use Rattle.machine.proofs.Box.{le-is, le-not}
+use Rattle.lifting.specs.Reach.{lawRefusal}
 use Rattle.boxes.proofs.refusals.law_refusal.Statement.{statement}
 use Rattle.boxes.proofs.refusals.law_refusal.Tie as tie
 

@@ -5,7 +5,7 @@ use lib.IntN.{ℤ}
 use mir.Facts.{toZ-ofZ}
 use borrow.Author.Needs.{needs}
 use Rattle.rates.specs.Plant.{lawOf}
-use Rattle.boxes.specs.Reach.{lawRefusal, sidesRefusal, reachRefusal}
+use Rattle.lifting.specs.Reach.{lawRefusal, sidesRefusal, reachRefusal}
 use Rattle.boxes.proofs.CodeRefusals.{or-stop, or-go}
 use Rattle.boxes.proofs.refusals.reach_refusal.Statement.{statement}
 use Rattle.boxes.proofs.refusals.reach_refusal.Tie as tie

@@ -4,8 +4,8 @@ use Prim.Native.Nat.{_≤_, _-_}
 use native.Mathlib.Omega.{arith}
 use borrow.Author.Tests.{not-true, not-false}
 use Rattle.integers.proofs.Z.{told}
-use Rattle.rates.specs.Box.{all}
-use Rattle.boxes.specs.Reach.{sidesRefusal}
+use Rattle.machine.specs.Box.{all}
+use Rattle.lifting.specs.Reach.{sidesRefusal}
 use Rattle.boxes.proofs.CodeRefusals.{sideIn, sides-more, sides-stop}
 use Rattle.boxes.proofs.refusals.sides_refusal.Statement.{statement}
 use Rattle.boxes.proofs.refusals.sides_refusal.Tie as tie

@@ -2,7 +2,7 @@
 use mathlib.Core.Path.{refl}
 use native.Mathlib.Omega.{arith}
 use borrow.Author.Tests.{le-leb, lt-leb}
-use Rattle.boxes.specs.Reach.{ticksRefusal}
+use Rattle.lifting.specs.Reach.{ticksRefusal}
 use Rattle.boxes.proofs.refusals.ticks_refusal.Statement.{statement}
 use Rattle.boxes.proofs.refusals.ticks_refusal.Tie as tie
 

@@ -1,6 +1,6 @@
 -- `is_out` says whether a round is due and none is left. Assumes nothing.
 use mathlib.Core.Path.{refl}
-use Rattle.boxes.specs.Step.{isOut}
+use Rattle.lifting.specs.Step.{isOut}
 use Rattle.boxes.proofs.step.is_out.Statement.{statement}
 use Rattle.boxes.proofs.step.is_out.Tie as tie
 

@@ -4,11 +4,11 @@ use mathlib.Core.List.{List}
 use native.Mathlib.Omega.{arith}
 use lib.IntN.{ℤ}
 use borrow.Author.Needs.{needs}
-use Rattle.rates.specs.Box.{trim}
-use Rattle.rates.specs.Machine.{Machine}
+use Rattle.machine.specs.Box.{trim}
+use Rattle.machine.specs.Machine.{Machine}
 use Rattle.rates.specs.Plant.{Sides, machineOf}
 use Rattle.rates.proofs.Sides.{rates-bound}
-use Rattle.boxes.specs.Step.{settles}
+use Rattle.lifting.specs.Step.{settles}
 use Rattle.boxes.proofs.CodeTurns.{trim-as, settles-is, round-ends, round-grows}
 use Rattle.boxes.proofs.step.round.Statement.{statement}
 use Rattle.boxes.proofs.step.round.Tie as tie

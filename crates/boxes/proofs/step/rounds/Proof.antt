@@ -2,7 +2,7 @@
 use mathlib.Core.Path.{_≡_, sym, subst}
 use Prim.Native.Nat.{_≤_, _+_, _*_}
 use native.Mathlib.Omega.{arith}
-use Rattle.rates.specs.Box.{trim}
+use Rattle.machine.specs.Box.{trim}
 use Rattle.rates.specs.Plant.{Sides, machineOf}
 use Rattle.rates.proofs.Sides.{wider}
 use Rattle.boxes.specs.Code.{stepLimit}

@@ -7,11 +7,11 @@ use native.Mathlib.Omega.{arith}
 use lib.IntN.{ℤ}
 use borrow.Author.Needs.{needs}
 use Rattle.layout.specs.Slots.{unsafeBox}
-use Rattle.rates.specs.Box.{any, hull, meets, trim}
-use Rattle.rates.specs.Machine.{Machine}
+use Rattle.machine.specs.Box.{any, hull, meets, trim}
+use Rattle.machine.specs.Machine.{Machine}
 use Rattle.rates.specs.Plant.{machineOf}
-use Rattle.boxes.specs.Step.{step}
-use Rattle.boxes.specs.Reach.{clear}
+use Rattle.lifting.specs.Step.{step}
+use Rattle.lifting.specs.Reach.{clear}
 use Rattle.boxes.proofs.CodeTurns.{Stepping, leg-unsettled, leg-out, leg-clear, leg-unsafe}
 use Rattle.boxes.proofs.walk.leg.Statement.{statement}
 use Rattle.boxes.proofs.walk.leg.Tie as tie

@@ -7,11 +7,11 @@ use native.Mathlib.Omega.{arith}
 use lib.IntN.{ℤ}
 use borrow.Author.Needs.{needs}
 use denote.Enum.Declared.{tagOf}
-use Rattle.rates.specs.Box.{hull, trim}
+use Rattle.machine.specs.Box.{hull, trim}
 use Rattle.rates.specs.Plant.{Sides, machineOf}
 use Rattle.rates.proofs.InPlace.{trim-hull}
 use Rattle.rates.proofs.Sides.{wider}
-use Rattle.boxes.specs.Reach.{clear, leg}
+use Rattle.lifting.specs.Reach.{clear, leg}
 use Rattle.boxes.specs.Code.{walkLimit, legged}
 use Rattle.boxes.proofs.CodeBounds.{Covers, leg-covers}
 use Rattle.boxes.proofs.CodeTurns.{trim-as, Walking, walking-starts, walking-ends, walking-stops, walking-on}

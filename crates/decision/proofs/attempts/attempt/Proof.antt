@@ -12,16 +12,16 @@ use mir.Facts.{toZ-ofZ}
 use borrow.Author.Needs.{needs}
 use denote.Enum.Declared.{tagOf}
 use Rattle.layout.specs.Slots.{vars, recoveryBox}
-use Rattle.rates.specs.Box.{trim, within}
-use Rattle.rates.specs.Machine.{baseline, command, machine}
+use Rattle.machine.specs.Box.{trim, within}
+use Rattle.machine.specs.Machine.{baseline, command, machine}
 use Rattle.rates.specs.Plant.{Sides, lawOf, machineOf}
 use Rattle.rates.proofs.Sides.{wider}
 use Rattle.boxes.specs.declared.walk.Walked.{Walked}
 use Rattle.boxes.specs.declared.walk.Walked.the-variants.{Ended}
-use Rattle.boxes.specs.Step.{Got}
+use Rattle.lifting.specs.Step.{Got}
 use Rattle.boxes.specs.Code.{walked}
 use Rattle.boxes.proofs.walk.Walked.{the-type}
-use Rattle.decision.specs.Decision.{Phase, phase, attempt}
+use Rattle.safety.specs.Decision.{Phase, phase, attempt}
 use Rattle.decision.specs.Code.{summary, startLimit}
 use Rattle.decision.proofs.CodeAttempts.{reached, plant-usable, plant-vars, plant-trimmed, vars-trimmed, plant-reach, phase-near, phase-on, phase-stops, attempt-succeeds, attempt-fails, within-trim}
 use Rattle.decision.proofs.attempts.attempt.Statement.{statement}

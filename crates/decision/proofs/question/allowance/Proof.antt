@@ -1,6 +1,6 @@
 -- `allowance` reads a question's allowance. Assumes nothing.
 use borrow.Author.Needs.{needs}
-use Rattle.decision.specs.Question.{allowanceOf}
+use Rattle.safety.specs.Question.{allowanceOf}
 use Rattle.decision.proofs.question.allowance.Statement.{statement}
 use Rattle.decision.proofs.question.allowance.Tie as tie
 

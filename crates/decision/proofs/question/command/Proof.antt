@@ -5,7 +5,7 @@ use mir.Syntax.{w32}
 use mir.Val.{SFits}
 use mir.Facts.{toZ-ofZ}
 use Rattle.layout.specs.Fields.{decoded}
-use Rattle.decision.specs.Question.{commandOf}
+use Rattle.safety.specs.Question.{commandOf}
 use Rattle.decision.proofs.question.command.Statement.{statement}
 use Rattle.decision.proofs.question.command.Tie as tie
 

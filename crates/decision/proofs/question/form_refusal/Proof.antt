@@ -1,7 +1,7 @@
 -- `form_refusal` tests a question's length and its two letters. Assumes nothing.
 use borrow.Author.Needs.{needs}
 use borrow.Author.Tests.{eq-eqb, ne-eqb}
-use Rattle.decision.specs.Question.{formRefusal}
+use Rattle.safety.specs.Question.{formRefusal}
 use Rattle.decision.proofs.question.form_refusal.Statement.{statement}
 use Rattle.decision.proofs.question.form_refusal.Tie as tie
 

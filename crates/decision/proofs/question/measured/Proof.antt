@@ -1,6 +1,6 @@
 -- `measured` reads the measured box. Assumes nothing.
 use borrow.Author.Needs.{needs}
-use Rattle.decision.specs.Question.{measured}
+use Rattle.safety.specs.Question.{measured}
 use Rattle.decision.proofs.question.measured.Statement.{statement}
 use Rattle.decision.proofs.question.measured.Tie as tie
 

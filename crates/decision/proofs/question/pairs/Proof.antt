@@ -8,9 +8,9 @@ use borrow.Author.Needs.{needs}
 use Rattle.integers.proofs.Z.{up32, from32}
 use Rattle.layout.specs.Slots.{N}
 use Rattle.layout.specs.Fields.{decoded}
-use Rattle.rates.specs.Box.{sides}
-use Rattle.rates.proofs.Box.{sides-more}
-use Rattle.decision.specs.Question.{pairs}
+use Rattle.machine.specs.Box.{sides}
+use Rattle.machine.proofs.Box.{sides-more}
+use Rattle.safety.specs.Question.{pairs}
 use Rattle.decision.proofs.question.pairs.Statement.{statement}
 use Rattle.decision.proofs.question.pairs.Tie as tie
 

@@ -9,10 +9,10 @@ use mir.Syntax.{w32}
 use mir.Val.{SFits}
 use borrow.Author.Needs.{needs}
 use Rattle.layout.specs.Slots.{vars}
-use Rattle.rates.specs.Machine.{command}
+use Rattle.machine.specs.Machine.{command}
 use Rattle.rates.specs.Plant.{lawOf}
-use Rattle.boxes.specs.Reach.{lawRefusal, sidesRefusal}
-use Rattle.decision.specs.Question.{questionLength, allowanceOf, commandOf, measured, formRefusal}
+use Rattle.lifting.specs.Reach.{lawRefusal, sidesRefusal}
+use Rattle.safety.specs.Question.{questionLength, allowanceOf, commandOf, measured, formRefusal}
 use Rattle.decision.proofs.CodeQuestion.{form-length, stop-form, stop-allowance, stop-law, stop-sides}
 use Rattle.decision.proofs.question.refusal.Statement.{statement}
 use Rattle.decision.proofs.question.refusal.Tie as tie

@@ -4,13 +4,13 @@ use mir.Facts.{toZ-ofZ}
 use mir.Syntax.{w64}
 use mir.Val.{SFits}
 use lib.IntN.{ℤ, negℤ, natAbs}
-use lib.Signed.{_≤ℤ_}
 use borrow.Author.Needs.{needs}
 use Rattle.integers.specs.Order.{maxZ}
 use Rattle.integers.specs.Division.{ceilDiv}
-use Rattle.integers.proofs.Z.{ints, neg, bound-in, bound-neg, fits64, max-is}
-use Rattle.rates.specs.Machine.{clamp}
-use Rattle.rates.proofs.Numbers.{zero-less}
+use Rattle.integers.proofs.Z.{ints, neg, bound-neg, fits64}
+use Rattle.layout.specs.Valid.{Between}
+use Rattle.machine.specs.Machine.{clamp}
+use Rattle.rates.proofs.Numbers.{zero-less, within-bound}
 use Rattle.rates.proofs.Quotient.{mirror, raised-within}
 use Rattle.rates.proofs.arith.highest.Statement.{statement}
 use Rattle.rates.proofs.arith.highest.Tie as tie
@@ -19,26 +19,20 @@ module _ (c : tie.Start) where
   abbrev cap : ℤ
   cap = c .args .cap
 
-  z-low : negℤ cap ≤ℤ negℤ (c .args .z)
-  z-low = omega (ints, c .pre .1 .1 .1, neg cap, neg (c .args .z))
-
-  z-high : negℤ (c .args .z) ≤ℤ cap
-  z-high = omega (ints, c .pre .1 .1 .0, neg cap, neg (c .args .z))
+  z-within : Between (negℤ cap) cap (negℤ (c .args .z))
+  z-within = let p = c .pre .1 .1 in record { low = omega (ints, p .1, neg cap, neg (c .args .z)); high = omega (ints, p .0, neg cap, neg (c .args .z)) }
 
   n-fits : SFits w64 (negℤ (c .args .n))
   n-fits = fits64 (bound-neg (c .pre .0 .0)) tt
 
   z-fits : SFits w64 (negℤ (c .args .z))
-  z-fits = let b = c .pre .1 .0 .at-most in fits64 (bound-in {B = 1000} (omega (ints, z-low, neg cap, b)) (omega (ints, z-high, b))) tt
+  z-fits = fits64 (within-bound (c .pre .1 .0) z-within) tt
 
   abbrev out : ℤ
   out = maxZ (c .args .z) (clamp cap (ceilDiv (c .args .n) (natAbs (c .args .q))))
 
   out-fits : SFits w64 out
-  out-fits =
-      let b = c .pre .1 .0 .at-most in
-      let w = raised-within cap (c .args .z) (ceilDiv (c .args .n) (natAbs (c .args .q))) (c .pre .1 .1 .0) (c .pre .1 .1 .1) in
-      fits64 (bound-in {B = 1000} (omega (ints, w .0, neg cap, b)) (omega (ints, w .1, b))) tt
+  out-fits = fits64 (within-bound (c .pre .1 .0) (raised-within cap (c .args .z) (ceilDiv (c .args .n) (natAbs (c .args .q))) (c .pre .1 .1 .0) (c .pre .1 .1 .1))) tt
 
 sub-lowest : tie.Need-sub-lowest
 sub-lowest c = simp (toZ-ofZ, c .fits .n, zero-less) (n-fits c)
@@ -49,7 +43,7 @@ sub-lowest-2 c = simp (toZ-ofZ, c .fits .z, zero-less) (z-fits c)
 lowest-requires : tie.Need-lowest-requires
 lowest-requires c κs =
     simp (toZ-ofZ, c .fits .n, c .fits .q, c .fits .cap, c .fits .z, zero-less, n-fits c, z-fits c)
-    ((bound-neg (c .pre .0 .0), c .pre .0 .1), (c .pre .1 .0, (z-low c, z-high c)))
+    ((bound-neg (c .pre .0 .0), c .pre .0 .1), (c .pre .1 .0, (z-within c .low, z-within c .high)))
 
 -- what `lowest` answers for the negatives
 neg-is : (c : tie.After-lowest) → negℤ (c .lowest .result) ≡ out (c .before)

@@ -4,7 +4,7 @@ use mir.Facts.{toZ-ofZ}
 use mir.Syntax.{w64}
 use mir.Val.{SFits}
 use borrow.Author.Needs.{needs}
-use Rattle.rates.specs.Rate.{outer}
+use Rattle.machine.specs.Rate.{outer}
 use Rattle.rates.proofs.arith.outer.Statement.{statement}
 use Rattle.rates.proofs.arith.outer.Tie as tie
 

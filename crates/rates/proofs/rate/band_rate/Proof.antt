@@ -6,10 +6,10 @@ use mir.Syntax.{w64}
 use mir.Val.{SFits}
 use borrow.Author.Needs.{needs}
 use Rattle.integers.proofs.Z.{told}
-use Rattle.rates.specs.Box.{lo, hi}
-use Rattle.rates.specs.Machine.{bandMeets}
-use Rattle.rates.specs.Rate.{bandRate}
-use Rattle.rates.proofs.Sound.{outer-neutral}
+use Rattle.machine.specs.Box.{lo, hi}
+use Rattle.machine.specs.Machine.{bandMeets}
+use Rattle.machine.specs.Rate.{bandRate}
+use Rattle.machine.proofs.Sound.{outer-neutral}
 use Rattle.rates.proofs.rate.band_rate.Statement.{statement}
 use Rattle.rates.proofs.rate.band_rate.Tie as tie
 

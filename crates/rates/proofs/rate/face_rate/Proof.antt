@@ -12,9 +12,9 @@ use borrow.Author.Needs.{needs}
 use Rattle.integers.specs.Bound.{Bound}
 use Rattle.integers.proofs.Z.{ints, told, up32, bound-lit, bound-less, bound-mul, fits64}
 use Rattle.layout.specs.Slots.{_!_, boxSize, cap}
-use Rattle.rates.specs.Rate.{neighborhood, faceRate}
+use Rattle.machine.specs.Rate.{neighborhood, faceRate}
 use Rattle.rates.proofs.Numbers.{wide, times-low}
-use Rattle.rates.proofs.Neighborhood.{cut-below, cut-back}
+use Rattle.rates.proofs.Cut.{cut-below, cut-back}
 use Rattle.rates.proofs.Sides.{cap-bound, neighborhood-bound}
 use Rattle.rates.proofs.rate.face_rate.Statement.{statement}
 use Rattle.rates.proofs.rate.face_rate.Tie as tie

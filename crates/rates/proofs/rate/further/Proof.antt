@@ -11,8 +11,8 @@ use borrow.Author.Needs.{needs}
 use Rattle.integers.specs.Bound.{Bound}
 use Rattle.integers.proofs.Z.{up32, bound-sum, bound-sub, bound-less, fits64}
 use Rattle.layout.specs.Slots.{_!_, N, Row, rowAt}
-use Rattle.rates.specs.Machine.{change}
-use Rattle.rates.specs.Rate.{outer}
+use Rattle.machine.specs.Machine.{change}
+use Rattle.machine.specs.Rate.{outer}
 use Rattle.rates.specs.Plant.{word}
 use Rattle.rates.proofs.Rates.{row-read, row-bound}
 use Rattle.rates.proofs.rate.further.Statement.{statement}

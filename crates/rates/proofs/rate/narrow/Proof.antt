@@ -5,8 +5,8 @@ use mir.Syntax.{w64}
 use mir.Val.{SFits}
 use borrow.Author.Needs.{needs}
 use Rattle.integers.proofs.Z.{told, bound-sum, bound-sub, fits64}
-use Rattle.rates.specs.Box.{lo, hi}
-use Rattle.rates.specs.Rate.{neighborhood}
+use Rattle.machine.specs.Box.{lo, hi}
+use Rattle.machine.specs.Rate.{neighborhood}
 use Rattle.rates.proofs.rate.narrow.Statement.{statement}
 use Rattle.rates.proofs.rate.narrow.Tie as tie
 

@@ -4,7 +4,7 @@ use mir.Syntax.{w64}
 use mir.Val.{SFits}
 use lib.IntN.{negℤ}
 use Rattle.integers.proofs.Z.{bound-neg, fits64}
-use Rattle.rates.specs.Rate.{neutral}
+use Rattle.machine.specs.Rate.{neutral}
 use Rattle.rates.proofs.Numbers.{zero-less}
 use Rattle.rates.proofs.rate.neutral.Statement.{statement}
 use Rattle.rates.proofs.rate.neutral.Tie as tie

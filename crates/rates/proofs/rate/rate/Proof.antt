@@ -7,13 +7,13 @@ use mir.Syntax.{w64}
 use mir.Val.{SFits, toZ}
 use borrow.Author.Needs.{needs}
 use Rattle.integers.proofs.Z.{ints, up32}
-use Rattle.rates.specs.Machine.{cap}
-use Rattle.rates.specs.Rate.{outermost, neutral, bandRate, rate}
+use Rattle.machine.specs.Machine.{cap}
+use Rattle.machine.specs.Rate.{outermost, neutral, bandRate, rate}
 use Rattle.rates.specs.Plant.{machineOf}
 use Rattle.rates.proofs.Numbers.{wide}
 use Rattle.rates.proofs.Rates.{outermost-more}
 use Rattle.rates.proofs.Sides.{cap-bound}
-use Rattle.rates.proofs.Sound.{outermost-within}
+use Rattle.machine.proofs.Sound.{outermost-within}
 use Rattle.rates.proofs.rate.rate.Statement.{statement}
 use Rattle.rates.proofs.rate.rate.Tie as tie
 

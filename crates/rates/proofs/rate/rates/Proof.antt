@@ -9,10 +9,10 @@ use mir.Syntax.{w64}
 use mir.Val.{SFits}
 use borrow.Author.Needs.{needs}
 use Rattle.layout.specs.Slots.{N}
-use Rattle.rates.specs.Box.{sides}
-use Rattle.rates.specs.Rate.{faceRate, rates}
+use Rattle.machine.specs.Box.{sides}
+use Rattle.machine.specs.Rate.{faceRate, rates}
 use Rattle.rates.specs.Plant.{machineOf}
-use Rattle.rates.proofs.Box.{sides-more}
+use Rattle.machine.proofs.Box.{sides-more}
 use Rattle.rates.proofs.rate.rates.Statement.{statement}
 use Rattle.rates.proofs.rate.rates.Tie as tie
 

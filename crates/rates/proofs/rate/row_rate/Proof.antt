@@ -9,8 +9,8 @@ use mir.Val.{SFits}
 use borrow.Author.Needs.{needs}
 use Rattle.integers.proofs.Z.{told, up32, fits64}
 use Rattle.layout.specs.Slots.{rowSize, rowSlot, slots}
-use Rattle.rates.specs.Machine.{Machine, least, greatest}
-use Rattle.rates.specs.Rate.{bandRate}
+use Rattle.machine.specs.Machine.{Machine, least, greatest}
+use Rattle.machine.specs.Rate.{bandRate}
 use Rattle.rates.specs.Plant.{machineOf}
 use Rattle.rates.proofs.Numbers.{wide}
 use Rattle.rates.proofs.Rates.{least-is, greatest-is}

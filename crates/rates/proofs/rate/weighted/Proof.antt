@@ -10,11 +10,11 @@ use borrow.Author.Needs.{sfits-of}
 use Rattle.integers.specs.Bound.{Bound}
 use Rattle.integers.proofs.Z.{told, bound-of, bound-read, bound-sum, bound-mul, bound-less, bound-lit, fits64, fits-by}
 use Rattle.layout.specs.Slots.{_!_, N, rowAt}
-use Rattle.rates.specs.Box.{lo, hi, sum}
-use Rattle.rates.specs.Rate.{outer, weighted}
+use Rattle.machine.specs.Box.{lo, hi, sum}
+use Rattle.machine.specs.Rate.{outer, weighted}
 use Rattle.rates.specs.Plant.{limit, word}
-use Rattle.rates.proofs.Box.{sum-more}
-use Rattle.rates.proofs.Face.{outer-one}
+use Rattle.machine.proofs.Box.{sum-more}
+use Rattle.machine.proofs.Face.{outer-one}
 use Rattle.rates.proofs.rate.weighted.Statement.{statement}
 use Rattle.rates.proofs.rate.weighted.Tie as tie
 

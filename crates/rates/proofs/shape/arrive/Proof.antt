@@ -8,8 +8,8 @@ use mir.Val.{SFits}
 use borrow.Author.Needs.{needs}
 use Rattle.integers.proofs.Z.{told}
 use Rattle.layout.specs.Slots.{N}
-use Rattle.rates.specs.Box.{lo, hi, sides, trim, hull}
-use Rattle.rates.proofs.Box.{sides-more}
+use Rattle.machine.specs.Box.{lo, hi, sides, trim, hull}
+use Rattle.machine.proofs.Box.{sides-more}
 use Rattle.rates.proofs.InPlace.{filled, filled-none, filled-more, turn-lo, turn-hi, filled-sides}
 use Rattle.rates.proofs.shape.arrive.Statement.{statement}
 use Rattle.rates.proofs.shape.arrive.Tie as tie

@@ -5,9 +5,9 @@ use native.Mathlib.Omega.{arith}
 use borrow.Author.Needs.{needs}
 use Rattle.integers.proofs.Z.{up32}
 use Rattle.layout.specs.Slots.{N, boxAt}
-use Rattle.rates.specs.Box.{sides, trim}
+use Rattle.machine.specs.Box.{sides, trim}
 use Rattle.rates.proofs.Numbers.{wide}
-use Rattle.rates.proofs.Box.{sides-more, box-lo, box-hi}
+use Rattle.machine.proofs.Box.{sides-more, box-lo, box-hi}
 use Rattle.rates.proofs.shape.box_at.Statement.{statement}
 use Rattle.rates.proofs.shape.box_at.Tie as tie
 

@@ -14,8 +14,8 @@ use borrow.Author.Needs.{needs, sfits-of}
 use Rattle.integers.specs.Order.{minZ, maxZ}
 use Rattle.integers.proofs.Z.{told, bound-read}
 use Rattle.layout.specs.Slots.{N}
-use Rattle.rates.specs.Box.{lo, hi, all, hull, moved, within}
-use Rattle.rates.proofs.Box.{swept-lo, swept-hi, all-last, all-false}
+use Rattle.machine.specs.Box.{lo, hi, all, hull, moved, within}
+use Rattle.machine.proofs.Box.{swept-lo, swept-hi, all-last, all-false}
 use Rattle.rates.proofs.InPlace.{filled, filled-none, filled-more, turn-lo, turn-hi, turn-hi-set, filled-sides}
 use Rattle.rates.proofs.shape.grow.Statement.{statement}
 use Rattle.rates.proofs.shape.grow.Tie as tie

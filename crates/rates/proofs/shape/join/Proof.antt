@@ -9,7 +9,7 @@ use borrow.Author.Needs.{needs}
 use Rattle.integers.specs.Order.{minZ, maxZ}
 use Rattle.integers.proofs.Z.{told}
 use Rattle.layout.specs.Slots.{N}
-use Rattle.rates.specs.Box.{lo, hi, hull}
+use Rattle.machine.specs.Box.{lo, hi, hull}
 use Rattle.rates.proofs.InPlace.{filled, filled-none, filled-more, turn-lo, turn-hi-set, filled-sides}
 use Rattle.rates.proofs.shape.join.Statement.{statement}
 use Rattle.rates.proofs.shape.join.Tie as tie

@@ -10,9 +10,9 @@ use borrow.Author.Needs.{needs}
 use borrow.Author.Tests.{not-true, not-false}
 use Rattle.integers.proofs.Z.{told, up32}
 use Rattle.layout.specs.Slots.{_!_, N, boxAt}
-use Rattle.rates.specs.Box.{lo, hi, all, meets}
+use Rattle.machine.specs.Box.{lo, hi, all, meets}
 use Rattle.rates.proofs.Numbers.{wide}
-use Rattle.rates.proofs.Box.{all-more, all-stop, box-lo, box-hi}
+use Rattle.machine.proofs.Box.{all-more, all-stop, box-lo, box-hi}
 use Rattle.rates.proofs.shape.meets.Statement.{statement}
 use Rattle.rates.proofs.shape.meets.Tie as tie
 

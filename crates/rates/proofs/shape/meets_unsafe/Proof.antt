@@ -4,8 +4,8 @@ use mathlib.Core.Bool.{false}
 use Prim.Native.Nat.{_≤_, _-_}
 use native.Mathlib.Omega.{arith}
 use Rattle.layout.specs.Slots.{unsafeBox}
-use Rattle.rates.specs.Box.{any, meets}
-use Rattle.rates.proofs.Box.{any-more, any-at}
+use Rattle.machine.specs.Box.{any, meets}
+use Rattle.machine.proofs.Box.{any-more, any-at}
 use Rattle.rates.proofs.shape.meets_unsafe.Statement.{statement}
 use Rattle.rates.proofs.shape.meets_unsafe.Tie as tie
 

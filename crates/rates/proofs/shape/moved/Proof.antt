@@ -8,8 +8,8 @@ use mir.Val.{SFits}
 use borrow.Author.Needs.{needs, sfits-of}
 use Rattle.integers.proofs.Z.{told, bound-read}
 use Rattle.layout.specs.Slots.{N}
-use Rattle.rates.specs.Box.{sides, moved}
-use Rattle.rates.proofs.Box.{sides-more}
+use Rattle.machine.specs.Box.{sides, moved}
+use Rattle.machine.proofs.Box.{sides-more}
 use Rattle.rates.proofs.shape.moved.Statement.{statement}
 use Rattle.rates.proofs.shape.moved.Tie as tie
 

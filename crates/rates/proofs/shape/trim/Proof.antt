@@ -3,8 +3,8 @@ use mathlib.Core.Path.{_≡_, refl}
 use Prim.Native.Nat.{_≤_, _-_}
 use native.Mathlib.Omega.{arith}
 use Rattle.integers.proofs.Z.{told}
-use Rattle.rates.specs.Box.{sides, trim}
-use Rattle.rates.proofs.Box.{sides-more}
+use Rattle.machine.specs.Box.{sides, trim}
+use Rattle.machine.proofs.Box.{sides-more}
 use Rattle.rates.proofs.shape.trim.Statement.{statement}
 use Rattle.rates.proofs.shape.trim.Tie as tie
 

@@ -6,8 +6,8 @@ use native.Mathlib.Omega.{arith}
 use lib.Signed.{leZ}
 use borrow.Author.Tests.{not-true, not-false}
 use Rattle.integers.proofs.Z.{told}
-use Rattle.rates.specs.Box.{lo, hi, all, within}
-use Rattle.rates.proofs.Box.{all-more, all-stop}
+use Rattle.machine.specs.Box.{lo, hi, all, within}
+use Rattle.machine.proofs.Box.{all-more, all-stop}
 use Rattle.rates.proofs.shape.within.Statement.{statement}
 use Rattle.rates.proofs.shape.within.Tie as tie
 

@@ -1,0 +1,9 @@
+pub mod Everything
+mod Examples
+pub mod Stages
+pub mod Settled
+pub mod Sound
+pub mod Count
+pub mod Order
+pub mod Ranges
+mod Reference

@@ -1,0 +1,12 @@
+pub mod Everything
+pub mod Box
+pub mod Face
+pub mod Inside
+pub mod Neighborhood
+pub mod Bands
+pub mod Sound
+pub mod Progress
+pub mod Order
+pub mod Ranges
+mod Examples
+mod Shortcuts

@@ -1,0 +1,3 @@
+pub mod Box
+pub mod Machine
+pub mod Rate

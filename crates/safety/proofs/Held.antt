@@ -1,0 +1,119 @@
+-- What a run keeps up from tick to tick: the state is covered by the laws to come, and is so far inside ±2,000,000 that these ticks cannot lead out of it.
+-- Assumes nothing.
+use mathlib.Core.Path.{_≡_, refl}
+use mathlib.Core.Bool.{true, false}
+use mathlib.Core.List.{List, [], _∷_, _++_, append-nil}
+use Prim.Native.Nat.{ℕ, zero, suc, _+_, _*_, _≤_, _<_, max}
+use native.Mathlib.Omega.{arith}
+use lib.Dec.{T}
+use lib.IntN.{ℤ, pos, negsuc, negℤ, _-ℤ_}
+use lib.Signed.{_≤ℤ_}
+use lib.ListN.{length, replicate, length-append, length-replicate}
+use Rattle.integers.specs.Bound.{size}
+use Rattle.integers.proofs.Z.{ints, sub, neg}
+use Rattle.layout.specs.Slots.{_!_, vars, δ, α, ρ, recoveryBox}
+use Rattle.layout.specs.Valid.{Valid}
+use Rattle.machine.specs.Box.{In}
+use Rattle.machine.specs.Machine.{Law, baseline, command, machine, Tick}
+use Rattle.machine.specs.Rate.{neutral}
+use Rattle.machine.proofs.Sound.{proper, cap-bounds}
+use Rattle.lifting.specs.Reach.{orNext, lawRefusal}
+use Rattle.lifting.proofs.Sound.{Ticks}
+use Rattle.lifting.proofs.Ranges.{Sized, start-sized, recovery-sized}
+use Rattle.safety.specs.Question.{questionRefusal, formRefusal, allowanceRefusal, allowanceOf, commandOf, measured}
+use Rattle.safety.specs.Decision.{recoveryOf, decisionOf}
+use Rattle.safety.specs.Run.{isKeep}
+use Rattle.safety.proofs.Cover.{Covered}
+use Rattle.safety.proofs.Attempt.{recovery-sound, decision-sound}
+
+pub record Held (v : List ℤ) (ls : List Law) (x : List ℤ) : Type 0 where
+  pub covered : Covered v ls x
+  pub near : (i : ℕ) → i < vars v → size (x ! i) + 1000 * length ls ≤ 2000000
+
+-- ---- a tick moves it on
+
+-- a tick changes a variable by at most 1,000
+change-size : {v : List ℤ} {l : Law} {x y : List ℤ} → Valid v → Tick (machine v l) x y → (i : ℕ) → i < vars v → size (y ! i) ≤ size (x ! i) + 1000
+unfolding neutral
+change-size {v} {l} {x} {y} ok t i h =
+    step (x ! i) (y ! i) _ (ok .caps i h .high) (cap-bounds (proper l ok) t i h false .order) (cap-bounds (proper l ok) t i h true .order)
+  where
+    step : (a b c : ℤ) → c ≤ℤ pos 1000 → negℤ c ≤ℤ (b -ℤ a) → (b -ℤ a) ≤ℤ c → size b ≤ size a + 1000
+    step a (pos b) c k f g = omega (ints, sub (pos b) a)
+    step a (negsuc b) c k f g = omega (ints, sub (negsuc b) a, neg c)
+
+module _ {v : List ℤ} (ok : Valid v) where
+  pub held-tick : {l : Law} {ls : List Law} {x y : List ℤ} → Held v (l ∷ ls) x → Tick (machine v l) x y → Held v ls y
+  unfolding Covered
+  held-tick {y} s t = record {
+    covered = s .covered .1 y t;
+    near = λ i h. omega (arith, s .near i h, change-size ok t i h);
+  }
+
+  -- so do k ticks under one law
+  pub held-after : {l : Law} {ls : List Law} (k : ℕ) (x : ℕ → List ℤ) → Held v (replicate k l ++ ls) (x 0) → Ticks (machine v l) x k → Held v ls (x k)
+  held-after zero x s f = s
+  held-after (suc k) x s f = held-after k (λ t. x (suc t)) (held-tick s (f 0 (omega arith))) (λ i h. f (suc i) (omega arith))
+
+  -- and those of the plain law end in the recovery box
+  pub held-returns : (k : ℕ) (x : ℕ → List ℤ) → Held v (replicate k baseline) (x 0) → Ticks (machine v baseline) x k → In (vars v) (recoveryBox v) (x k)
+  unfolding Covered
+  held-returns k x s f = held-after {l = baseline} {ls = []} k x (rw append-nil s) f .covered
+
+-- ---- where it starts: in a measured box and in the recovery box, which lie within ±1,000,000
+
+hold : {v : List ℤ} {ls : List Law} {B x : List ℤ} → length ls ≤ 1000 → Sized (vars v) 1000000 B → In (vars v) B x → Covered v ls x → Held v ls x
+hold {x} few s b c = record {
+  covered = c;
+  near = λ i h. omega (arith, between (x ! i) (s .near .at false i h .at-most) (s .near .at true i h .at-most) (b .low i h) (b .high i h));
+}
+  where
+    between : {l u : ℤ} {k : ℕ} (z : ℤ) → size l ≤ k → size u ≤ k → l ≤ℤ z → z ≤ℤ u → size z ≤ k
+    between (pos n) a b h k = omega ints
+    between (negsuc n) a b h k = omega ints
+
+or-none : (a b : ℕ) → orNext a b ≡ 0 → (a ≡ 0) × (b ≡ 0)
+or-none zero b e = (refl, e)
+or-none (suc a) b e = absurd (omega arith)
+
+measured-sized : (v : List ℤ) (g : List ℕ) → questionRefusal v g ≡ 0 → Sized (vars v) 1000000 (measured (vars v) g)
+unfolding questionRefusal
+measured-sized v g e =
+    start-sized (vars v) (measured (vars v) g)
+    (or-none (lawRefusal v (command (commandOf g))) _ (or-none (allowanceRefusal g) _ (or-none (formRefusal (vars v) g) _ e .1) .1) .1)
+
+pub keep-held : {v x : List ℤ} (g : List ℕ) → Valid v → questionRefusal v g ≡ 0
+    → T (isKeep (decisionOf v (measured (vars v) g) (commandOf g) (allowanceOf g))) → In (vars v) (measured (vars v) g) x
+    → Held v (replicate (δ v) (command (commandOf g)) ++ replicate (α v) baseline) x
+keep-held {v} g ok e t b =
+    let few : length (replicate (δ v) (command (commandOf g)) ++ replicate (α v) baseline) ≤ 1000 = simp (length-append, length-replicate) (ok .sum-high) in
+    hold few (measured-sized v g e) b (decision-sound ok (commandOf g) (allowanceOf g) t b)
+
+-- ---- the way back to the recovery box
+
+-- under the plain law the state comes to the recovery box in `left` + 1 ticks
+pub record Returning (v x : List ℤ) : Type 0 where
+  pub left : ℕ
+  pub soon : left < max (α v) (ρ v)
+  pub held : Held v (replicate (suc left) baseline) x
+
+-- a sheet whose recovery check passed
+module _ {v : List ℤ} (ok : Valid v) (passed : T (isKeep (recoveryOf v))) where
+  -- a state of the recovery box comes back to it in ρ ticks
+  pub recovered : {x : List ℤ} → In (vars v) (recoveryBox v) x → Returning v x
+  recovered {x} b =
+      let few : length (replicate (ρ v) baseline) ≤ 1000 = rw (length-replicate (ρ v) baseline) (ok .ρ-high) in
+      from (ρ v) (ok .ρ-low) (omega arith) (hold few (recovery-sized ok) b (recovery-sound ok passed b))
+    where
+      from : (k : ℕ) → 1 ≤ k → k ≤ max (α v) (ρ v) → Held v (replicate k baseline) x → Returning v x
+      from zero h few s = absurd (omega arith)
+      from (suc k) h few s = record { left = k; soon = few; held = s }
+
+  -- and so does each state that the plain law brings there
+  pub returning : {x : List ℤ} (k : ℕ) → k ≤ max (α v) (ρ v) → Held v (replicate k baseline) x → Returning v x
+  unfolding Covered
+  returning zero few s = recovered (s .covered)
+  returning (suc k) few s = record { left = k; soon = few; held = s }
+
+  pub returning-tick : {x y : List ℤ} → Returning v x → Tick (machine v baseline) x y → Returning v y
+  returning-tick r t = returning (r .left) (omega (arith, r .soon)) (held-tick ok (r .held) t)
