@@ -8,7 +8,8 @@ use lib.IntN.{ℤ}
 use Rattle.machine.specs.Box.{moved}
 use Rattle.machine.specs.Machine.{Machine}
 use Rattle.machine.specs.Rate.{rates}
-use Rattle.rates.specs.Plant.{Sides, Usable}
+use Rattle.arithmetic.specs.Limits.{Sides}
+use Rattle.rates.specs.Plant.{Usable}
 use Rattle.rates.proofs.Sides.{wider, hull-bound, moved-bound, rates-bound}
 use Rattle.boxes.specs.declared.step.Stepped.{Stepped}
 use Rattle.boxes.specs.declared.step.Stepped.the-variants.{Unsettled}

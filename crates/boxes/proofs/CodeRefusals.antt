@@ -11,7 +11,7 @@ use Rattle.integers.proofs.Z.{bound-in, ints, le-true}
 use Rattle.layout.specs.Slots.{vars}
 use Rattle.machine.specs.Box.{lo, hi, all, trim}
 use Rattle.machine.specs.Machine.{Law, Machine, machine}
-use Rattle.rates.specs.Plant.{Sides}
+use Rattle.arithmetic.specs.Limits.{Sides}
 use Rattle.machine.proofs.Box.{and-both, all-at, all-more, all-stop}
 use Rattle.rates.proofs.Sides.{sides-bound}
 use Rattle.boxes.specs.declared.walk.Walked.{Walked}

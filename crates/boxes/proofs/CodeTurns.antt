@@ -12,7 +12,7 @@ use Rattle.layout.specs.Slots.{N}
 use Rattle.machine.specs.Box.{hull, within, moved, trim}
 use Rattle.machine.specs.Machine.{Machine}
 use Rattle.machine.specs.Rate.{rates}
-use Rattle.rates.proofs.InPlace.{trim-hull, trim-moved}
+use Rattle.shapes.proofs.InPlace.{trim-hull, trim-moved}
 use Rattle.boxes.specs.declared.step.Stepped.{Stepped}
 use Rattle.boxes.specs.declared.step.Stepped.the-variants.{Settled, Unsettled, Out}
 use Rattle.boxes.specs.declared.walk.Walked.{Walked}

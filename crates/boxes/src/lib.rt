@@ -22,7 +22,7 @@ use layout::slots::BOX_SIZE;
 use layout::slots::SLOTS;
 use layout::slots::VARS;
 use rates::Plant;
-use rates::shape::trim;
+use shapes::trim;
 use sheet::read_into;
 
 // The machine of an accepted sheet's value under a law: the baseline, or else one command.

@@ -2,15 +2,16 @@
 ghost use mathlib.Core.Path.{_≡_};
 ghost use Prim.Native.Nat.{_+_, _*_, _≤_, _<_};
 ghost use Rattle.machine.specs.Box.{trim};
-ghost use Rattle.rates.specs.Plant.{Sides, Usable, limit, machineOf};
+ghost use Rattle.arithmetic.specs.Limits.{Sides, limit};
+ghost use Rattle.rates.specs.Plant.{Usable, machineOf};
 ghost use Rattle.lifting.specs.Step.{isOut, rounds, settles, step};
 ghost use Rattle.boxes.specs.Code.{countLimit, roundBox, stepLimit, stepped};
 use layout::slots::BOX_SIZE;
 use layout::slots::SLOTS;
 use rates::Plant;
 use rates::rate::rates;
-use rates::shape::grow;
-use rates::shape::moved;
+use shapes::grow;
+use shapes::moved;
 
 // A round is due only while the count is not the allowance, if there is one.
 pub struct Budget {

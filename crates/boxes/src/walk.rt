@@ -3,7 +3,8 @@ ghost use mathlib.Core.Path.{_≡_};
 ghost use Prim.Native.Nat.{_+_, _*_, _≤_, _<_, min};
 ghost use Rattle.layout.specs.Slots as slots;
 ghost use Rattle.machine.specs.Box as spec;
-ghost use Rattle.rates.specs.Plant.{Sides, Usable, machineOf};
+ghost use Rattle.arithmetic.specs.Limits.{Sides};
+ghost use Rattle.rates.specs.Plant.{Usable, machineOf};
 ghost use Rattle.lifting.specs.Reach.{clear, leg, reach};
 ghost use Rattle.boxes.specs.Code.{countLimit, legged, stepLimit, walkLimit, walked};
 use crate::step::Budget;
@@ -12,9 +13,9 @@ use crate::step::step;
 use layout::slots::BOX_SIZE;
 use layout::slots::SLOTS;
 use rates::Plant;
-use rates::shape::arrive;
-use rates::shape::join;
-use rates::shape::meets_unsafe;
+use shapes::arrive;
+use shapes::join;
+use shapes::meets_unsafe;
 
 // What a leg or a walk came to, with the count of rounds after it. The boxes are lent beside it.
 pub enum Walked {

@@ -13,7 +13,8 @@ use Rattle.layout.specs.Valid.{Valid}
 use Rattle.machine.specs.Box.{all, trim, within}
 use Rattle.rates.specs.declared.Plant.{Plant}
 use Rattle.machine.specs.Machine.{Law, Machine, machine}
-use Rattle.rates.specs.Plant.{Sides, Usable, machineOf}
+use Rattle.arithmetic.specs.Limits.{Sides}
+use Rattle.rates.specs.Plant.{Usable, machineOf}
 use Rattle.rates.proofs.Rates.{usable}
 use Rattle.machine.proofs.Box.{trim-lo, trim-hi}
 use Rattle.boxes.specs.declared.walk.Walked.{Walked}

@@ -11,9 +11,9 @@ use lib.ListN.{length, getD}
 use Rattle.layout.specs.Slots.{N, vars}
 use Rattle.machine.specs.Box.{trim}
 use Rattle.machine.specs.Machine.{command}
-use Rattle.rates.specs.Plant.{Sides}
+use Rattle.arithmetic.specs.Limits.{Sides}
 use Rattle.machine.proofs.Box.{and-both}
-use Rattle.rates.proofs.InPlace.{trim-sides}
+use Rattle.shapes.proofs.InPlace.{trim-sides}
 use Rattle.lifting.specs.Reach.{lawRefusal, sidesRefusal, orNext}
 use Rattle.lifting.proofs.Count.{cond-zero}
 use Rattle.boxes.proofs.CodeRefusals.{or-stop, or-go, or-none, sides-near}

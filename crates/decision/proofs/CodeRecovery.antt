@@ -15,7 +15,7 @@ use Rattle.layout.specs.Valid.{Valid}
 use Rattle.layout.proofs.Streams.{lt-or-le}
 use Rattle.layout.proofs.Valid.{valid, recovery-beyond}
 use Rattle.machine.specs.Box.{lo, hi, sides, trim}
-use Rattle.rates.specs.Plant.{Sides}
+use Rattle.arithmetic.specs.Limits.{Sides}
 use Rattle.machine.proofs.Box.{sides-length, sides-lo, sides-hi, box-lo, box-hi}
 use Rattle.rates.proofs.Sides.{sides-bound}
 use Rattle.decision.specs.Code.{startLimit}

@@ -6,7 +6,7 @@ ghost use lib.IntN.{ℤ};
 ghost use Rattle.layout.specs.Slots.{vars};
 ghost use Rattle.layout.specs.Valid.{Valid};
 ghost use Rattle.machine.specs.Box.{trim};
-ghost use Rattle.rates.specs.Plant.{Sides};
+ghost use Rattle.arithmetic.specs.Limits.{Sides};
 ghost use Rattle.boxes.specs.Code.{countLimit, walked};
 ghost use Rattle.safety.specs.Decision.{tries};
 ghost use Rattle.decision.specs.Code.{attemptOf, decided, startLimit, summary};
@@ -19,8 +19,8 @@ use layout::slots::BOX_SIZE;
 use layout::slots::BOXES;
 use layout::slots::RECOVERY;
 use layout::slots::SLOTS;
-use rates::shape::box_at;
-use rates::shape::within;
+use shapes::box_at;
+use shapes::within;
 
 // What is tried: `first` ticks under the command, then `then` ticks under the baseline, within a budget of rounds.
 pub struct Trial {

@@ -23,7 +23,7 @@ use layout::slots::RECOVERY;
 use layout::slots::RHO;
 use layout::slots::SLOTS;
 use layout::slots::VARS;
-use rates::shape::box_at;
+use shapes::box_at;
 use sheet::read_into;
 
 // A decision: a verdict with the width and the rounds over all widths, or the number of a refusal.

@@ -15,7 +15,8 @@ use Rattle.layout.specs.Sheet.{refusal, values}
 use Rattle.layout.specs.Valid.{Valid}
 use Rattle.machine.specs.Box.{sides, trim}
 use Rattle.machine.specs.Machine.{Law, Machine, machine}
-use Rattle.rates.specs.Plant.{Sides, Usable, lawOf}
+use Rattle.arithmetic.specs.Limits.{Sides}
+use Rattle.rates.specs.Plant.{Usable, lawOf}
 use Rattle.rates.proofs.Rates.{usable}
 use Rattle.rates.proofs.Sides.{wider, sides-bound, hull-bound, moved-bound, rates-bound}
 use Rattle.lifting.specs.Step.{Failure, Got, Step, endBox, swept}

@@ -6,7 +6,7 @@ ghost use Prim.Native.Nat.{_+_, _*_, _^_, _≤_};
 ghost use Rattle.safety.specs.Decision.{packed, refused, widthOf};
 ghost use Rattle.decision.specs.Code.{checked, decided};
 ghost use Rattle.layout.specs.Slots as slots;
-ghost use Rattle.rates.specs.Plant.{Sides};
+ghost use Rattle.arithmetic.specs.Limits.{Sides};
 ghost use Rattle.boxes.specs.Code.{answered};
 ghost use Rattle.guard.specs.Calls.{decideCall, reachCall, reachOut, reachedCall, reachedOut, readCall, readOut, recoveryCall, sheetCall, startBox, writeCall, writeOut};
 

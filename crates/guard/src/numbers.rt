@@ -5,7 +5,7 @@ ghost use lib.ListN.{getD, length};
 ghost use lib.Seq.{sets};
 ghost use Rattle.layout.specs.Slots as slots;
 ghost use Rattle.layout.specs.Sheet.{zeros};
-ghost use Rattle.rates.specs.Plant.{Sides};
+ghost use Rattle.arithmetic.specs.Limits.{Sides};
 ghost use Rattle.guard.specs.Calls.{numberAt, numberBytes, sheetIn, sidesOf};
 use encoding::bytes::get_i32;
 use encoding::bytes::put_i32;

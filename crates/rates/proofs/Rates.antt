@@ -17,8 +17,9 @@ use Rattle.layout.specs.Slots.{_!_, N, edge, safetyLeast, safetyGreatest}
 use Rattle.layout.specs.Valid.{Valid}
 use Rattle.machine.specs.Machine.{Law, machine, leastOf, greatestOf, bandMeets}
 use Rattle.machine.specs.Rate.{outer, outermost}
-use Rattle.rates.specs.Plant.{Usable, lawOf, word}
-use Rattle.rates.proofs.Numbers.{wide}
+use Rattle.arithmetic.specs.Limits.{word}
+use Rattle.rates.specs.Plant.{Usable, lawOf}
+use Rattle.arithmetic.proofs.Numbers.{wide}
 use Rattle.machine.proofs.Box.{le-is, le-not}
 
 pub outermost-more : (up : Bool) (z : ℤ) (n : ℕ) (f : ℕ → ℤ) → outermost up z (n + 1) f ≡ outer up (outermost up z n f) (f n)

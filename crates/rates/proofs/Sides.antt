@@ -12,7 +12,8 @@ use Rattle.layout.specs.Slots.{_!_, N, boxSize}
 use Rattle.machine.specs.Box.{lo, hi, sides, trim, hull, moved}
 use Rattle.machine.specs.Machine.{Machine, cap}
 use Rattle.machine.specs.Rate.{outer, rate, neighborhood, faceRate, rates}
-use Rattle.rates.specs.Plant.{Usable, Sides}
+use Rattle.arithmetic.specs.Limits.{Sides}
+use Rattle.rates.specs.Plant.{Usable}
 use Rattle.machine.proofs.Face.{outer-one}
 use Rattle.machine.proofs.Sound.{rate-within}
 

@@ -4,8 +4,7 @@ use mathlib.Core.List.{List}
 use Prim.Native.Nat.{ℕ, _+_, _≤_, _<_}
 use lib.IntN.{ℤ, pos}
 use lib.Signed.{_≤ℤ_}
-use Rattle.integers.specs.Bound.{Bound}
-use Rattle.layout.specs.Slots.{_!_, N, maxBands}
+use Rattle.layout.specs.Slots.{N, maxBands}
 use Rattle.layout.specs.Valid.{Between}
 use Rattle.rates.specs.declared.Plant.{Plant}
 use Rattle.machine.specs.Machine.{Law, baseline, command, Machine, cap, rowOf}
@@ -25,23 +24,11 @@ pub record Usable (m : Machine) : Type 0 where
   pub caps : (i : ℕ) → i < m .n → Between (pos 1) (pos 1000) (cap m i)
   pub divisors : (k i : ℕ) → k < m .bands → i < m .n → pos 1 ≤ℤ rowOf m k i .q
 
--- each number of the box is at most b, without its sign
-pub record Sides (b : ℕ) (B : List ℤ) : Type 0 where
-  pub at : (i : ℕ) → Bound (B ! i) b
-
 -- the place of the side that the neighborhood of a face of variable i cuts: that of the other face
 unfoldable pub cutAt : Bool → ℕ → ℕ
 cutAt false i = i + N
 cutAt true i = i
 
--- no side that the code takes is greater
-abbrev pub limit : ℕ
-limit = 16777216
-
--- nor a number of 32 bits
-abbrev pub word : ℕ
-word = 2147483648
-
--- nor a row's number N over such a box
+-- no number N of a row over a box that the code takes is greater
 abbrev pub rowLimit : ℕ
 rowLimit = 9000000000000000000

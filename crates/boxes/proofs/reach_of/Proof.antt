@@ -8,7 +8,7 @@ use borrow.Author.Needs.{needs}
 use denote.Enum.Declared.{tagOf}
 use Rattle.machine.specs.Machine.{Law, Machine, machine}
 use Rattle.rates.specs.Plant.{Usable, lawOf, machineOf}
-use Rattle.rates.proofs.InPlace.{trim-trim}
+use Rattle.shapes.proofs.InPlace.{trim-trim}
 use Rattle.rates.proofs.Rates.{usable}
 use Rattle.rates.proofs.Sides.{wider}
 use Rattle.boxes.proofs.CodeRefusals.{Refusal, reach-refused, walkable, reach-ended, reach-failed}

@@ -4,7 +4,7 @@ use Prim.Native.Nat.{ℕ}
 use native.Mathlib.Omega.{arith}
 use Rattle.layout.specs.Slots.{vars, recoveryBox}
 use Rattle.machine.specs.Box.{trim}
-use Rattle.rates.specs.Plant.{Sides}
+use Rattle.arithmetic.specs.Limits.{Sides}
 use Rattle.boxes.proofs.CodeTurns.{trim-as}
 use Rattle.safety.specs.Decision.{recoveryOf}
 use Rattle.decision.specs.Code.{decided, startLimit}

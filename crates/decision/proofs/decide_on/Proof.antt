@@ -10,7 +10,7 @@ use mir.Syntax.{w32}
 use mir.Val.{SFits}
 use borrow.Author.Needs.{needs}
 use Rattle.layout.specs.Slots.{N, vars}
-use Rattle.rates.specs.Plant.{Sides}
+use Rattle.arithmetic.specs.Limits.{Sides}
 use Rattle.boxes.proofs.CodeTurns.{trim-as}
 use Rattle.safety.specs.Question.{questionLength, measured, questionRefusal}
 use Rattle.decision.specs.Code.{decided, startLimit}

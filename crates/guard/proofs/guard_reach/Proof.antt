@@ -11,7 +11,8 @@ use Rattle.layout.specs.Slots.{N, vars}
 use Rattle.layout.specs.Sheet.{values}
 use Rattle.layout.specs.Valid.{Valid}
 use Rattle.layout.proofs.Valid.{valid}
-use Rattle.rates.specs.Plant.{Sides, lawOf}
+use Rattle.arithmetic.specs.Limits.{Sides}
+use Rattle.rates.specs.Plant.{lawOf}
 use Rattle.lifting.specs.Reach.{Answer, reachOf}
 use Rattle.boxes.specs.Code.{answered}
 use Rattle.guard.specs.Calls.{startBox, reachedRefusal, reachedCall, reachedOut, reachAnswer, reachCall, reachOut}

@@ -6,7 +6,8 @@ use lib.IntN.{ℤ}
 use borrow.Author.Needs.{needs}
 use Rattle.machine.specs.Box.{trim}
 use Rattle.machine.specs.Machine.{Machine}
-use Rattle.rates.specs.Plant.{Sides, machineOf}
+use Rattle.arithmetic.specs.Limits.{Sides}
+use Rattle.rates.specs.Plant.{machineOf}
 use Rattle.rates.proofs.Sides.{rates-bound}
 use Rattle.lifting.specs.Step.{settles}
 use Rattle.boxes.proofs.CodeTurns.{trim-as, settles-is, round-ends, round-grows}

@@ -3,7 +3,8 @@ use mathlib.Core.Path.{_≡_, sym, subst}
 use Prim.Native.Nat.{_≤_, _+_, _*_}
 use native.Mathlib.Omega.{arith}
 use Rattle.machine.specs.Box.{trim}
-use Rattle.rates.specs.Plant.{Sides, machineOf}
+use Rattle.arithmetic.specs.Limits.{Sides}
+use Rattle.rates.specs.Plant.{machineOf}
 use Rattle.rates.proofs.Sides.{wider}
 use Rattle.boxes.specs.Code.{stepLimit}
 use Rattle.boxes.proofs.CodeBounds.{round-bound}

@@ -8,8 +8,9 @@ use lib.IntN.{ℤ}
 use borrow.Author.Needs.{needs}
 use denote.Enum.Declared.{tagOf}
 use Rattle.machine.specs.Box.{hull, trim}
-use Rattle.rates.specs.Plant.{Sides, machineOf}
-use Rattle.rates.proofs.InPlace.{trim-hull}
+use Rattle.arithmetic.specs.Limits.{Sides}
+use Rattle.rates.specs.Plant.{machineOf}
+use Rattle.shapes.proofs.InPlace.{trim-hull}
 use Rattle.rates.proofs.Sides.{wider}
 use Rattle.lifting.specs.Reach.{clear, leg}
 use Rattle.boxes.specs.Code.{walkLimit, legged}

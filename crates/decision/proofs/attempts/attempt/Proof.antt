@@ -14,7 +14,8 @@ use denote.Enum.Declared.{tagOf}
 use Rattle.layout.specs.Slots.{vars, recoveryBox}
 use Rattle.machine.specs.Box.{trim, within}
 use Rattle.machine.specs.Machine.{baseline, command, machine}
-use Rattle.rates.specs.Plant.{Sides, lawOf, machineOf}
+use Rattle.arithmetic.specs.Limits.{Sides}
+use Rattle.rates.specs.Plant.{lawOf, machineOf}
 use Rattle.rates.proofs.Sides.{wider}
 use Rattle.boxes.specs.declared.walk.Walked.{Walked}
 use Rattle.boxes.specs.declared.walk.Walked.the-variants.{Ended}

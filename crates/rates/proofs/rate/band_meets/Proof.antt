@@ -3,7 +3,7 @@ use mathlib.Core.Path.{sym}
 use mir.Facts.{toZ-ofZ}
 use borrow.Author.Needs.{needs}
 use Rattle.integers.proofs.Z.{up32, lt-true, lt-false}
-use Rattle.rates.proofs.Numbers.{wide}
+use Rattle.arithmetic.proofs.Numbers.{wide}
 use Rattle.rates.proofs.Rates.{meets-below, meets-last, meets-next}
 use Rattle.rates.proofs.rate.band_meets.Statement.{statement}
 use Rattle.rates.proofs.rate.band_meets.Tie as tie

@@ -12,7 +12,8 @@ use Rattle.integers.specs.Bound.{Bound}
 use Rattle.integers.proofs.Z.{told, up32, from32, bound-of, bound-sum, bound-mul, bound-less, fits64}
 use Rattle.layout.specs.Slots.{_!_, N, Row, rowAt}
 use Rattle.machine.specs.Rate.{outer, weighted, bound}
-use Rattle.rates.specs.Plant.{limit, rowLimit, word}
+use Rattle.arithmetic.specs.Limits.{limit, word}
+use Rattle.rates.specs.Plant.{rowLimit}
 use Rattle.machine.proofs.Face.{outer-one}
 use Rattle.rates.proofs.Rates.{row-read, row-bound}
 use Rattle.rates.proofs.rate.bound.Statement.{statement}

@@ -13,7 +13,7 @@ use Rattle.integers.specs.Bound.{Bound}
 use Rattle.integers.proofs.Z.{ints, told, up32, bound-lit, bound-less, bound-mul, fits64}
 use Rattle.layout.specs.Slots.{_!_, boxSize, cap}
 use Rattle.machine.specs.Rate.{neighborhood, faceRate}
-use Rattle.rates.proofs.Numbers.{wide, times-low}
+use Rattle.arithmetic.proofs.Numbers.{wide, times-low}
 use Rattle.rates.proofs.Cut.{cut-below, cut-back}
 use Rattle.rates.proofs.Sides.{cap-bound, neighborhood-bound}
 use Rattle.rates.proofs.rate.face_rate.Statement.{statement}

@@ -13,7 +13,7 @@ use Rattle.integers.proofs.Z.{up32, bound-sum, bound-sub, bound-less, fits64}
 use Rattle.layout.specs.Slots.{_!_, N, Row, rowAt}
 use Rattle.machine.specs.Machine.{change}
 use Rattle.machine.specs.Rate.{outer}
-use Rattle.rates.specs.Plant.{word}
+use Rattle.arithmetic.specs.Limits.{word}
 use Rattle.rates.proofs.Rates.{row-read, row-bound}
 use Rattle.rates.proofs.rate.further.Statement.{statement}
 use Rattle.rates.proofs.rate.further.Tie as tie

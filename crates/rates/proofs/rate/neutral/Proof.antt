@@ -5,7 +5,7 @@ use mir.Val.{SFits}
 use lib.IntN.{negℤ}
 use Rattle.integers.proofs.Z.{bound-neg, fits64}
 use Rattle.machine.specs.Rate.{neutral}
-use Rattle.rates.proofs.Numbers.{zero-less}
+use Rattle.arithmetic.proofs.Numbers.{zero-less}
 use Rattle.rates.proofs.rate.neutral.Statement.{statement}
 use Rattle.rates.proofs.rate.neutral.Tie as tie
 

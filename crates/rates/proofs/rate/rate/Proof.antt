@@ -10,7 +10,7 @@ use Rattle.integers.proofs.Z.{ints, up32}
 use Rattle.machine.specs.Machine.{cap}
 use Rattle.machine.specs.Rate.{outermost, neutral, bandRate, rate}
 use Rattle.rates.specs.Plant.{machineOf}
-use Rattle.rates.proofs.Numbers.{wide}
+use Rattle.arithmetic.proofs.Numbers.{wide}
 use Rattle.rates.proofs.Rates.{outermost-more}
 use Rattle.rates.proofs.Sides.{cap-bound}
 use Rattle.machine.proofs.Sound.{outermost-within}

@@ -12,7 +12,7 @@ use Rattle.layout.specs.Slots.{rowSize, rowSlot, slots}
 use Rattle.machine.specs.Machine.{Machine, least, greatest}
 use Rattle.machine.specs.Rate.{bandRate}
 use Rattle.rates.specs.Plant.{machineOf}
-use Rattle.rates.proofs.Numbers.{wide}
+use Rattle.arithmetic.proofs.Numbers.{wide}
 use Rattle.rates.proofs.Rates.{least-is, greatest-is}
 use Rattle.rates.proofs.Sides.{cap-bound}
 use Rattle.rates.proofs.rate.row_rate.Statement.{statement}

@@ -12,7 +12,7 @@ use Rattle.integers.proofs.Z.{told, bound-of, bound-read, bound-sum, bound-mul,
 use Rattle.layout.specs.Slots.{_!_, N, rowAt}
 use Rattle.machine.specs.Box.{lo, hi, sum}
 use Rattle.machine.specs.Rate.{outer, weighted}
-use Rattle.rates.specs.Plant.{limit, word}
+use Rattle.arithmetic.specs.Limits.{limit, word}
 use Rattle.machine.proofs.Box.{sum-more}
 use Rattle.machine.proofs.Face.{outer-one}
 use Rattle.rates.proofs.rate.weighted.Statement.{statement}
