@@ -20,6 +20,7 @@ use Rattle.boxes.specs.declared.walk.Walked.the-variants.{Ended, Unsafe}
 use Rattle.boxes.specs.declared.walk.Walked.the-variants as walked
 use Rattle.lifting.specs.Step.{lifted, settles, endBox, grown, Got, got, failed, unsettled, unsafe, andThen, orElse, isOut, Step, rounds, halving, step, swept}
 use Rattle.lifting.specs.Reach.{Reached, leg, walk, reach}
+use Rattle.lifting.proofs.Settled.{settles-one}
 use Rattle.boxes.specs.Code.{roundBox, stepped, said, legged, walked}
 
 pub pick-yes : {A : Type 0} (b : Bool) (x y : A) → b ≡ true → (elim b as (λ _. A) [ true ↦ x | false ↦ y ]) ≡ x
@@ -54,9 +55,17 @@ module _ (m : Machine) (S : List ℤ) (k : ℕ) (E : List ℤ) {r F : List ℤ} 
   unfolding roundBox grown
   round-grows t p = p ∙ ap (λ (X : List ℤ). hull (m .n) X M) f ∙ ap (hull (m .n) E) lifted-is ∙ sym (pick-no (settles m S k E) _ _ t)
 
+-- a step of one tick settles in its first round
+pub settles-first : (m : Machine) (S : List ℤ) (k : ℕ) {E : List ℤ} → m .n ≤ N → k ≡ 1 → E ≡ S → settles m S k E ≡ true
+settles-first m S k {E} h one e = ap (λ (j : ℕ). settles m S j E) one ∙ (ap (settles m S 1) e ∙ settles-one m S h)
+
 -- a box that equals a trimmed box is trimmed
 pub trim-as : (n : ℕ) {A B : List ℤ} → A ≡ B → trim n B ≡ B → trim n A ≡ A
 trim-as n e h = subst (λ (X : List ℤ). trim n X ≡ X) (sym e) h
+
+-- and so is one that equals a hull
+pub trim-as-hull : (n : ℕ) {A : List ℤ} (B C : List ℤ) → n ≤ N → A ≡ hull n B C → trim n A ≡ A
+trim-as-hull n B C h e = trim-as n e (trim-hull n h B C)
 
 -- what a round leaves has nothing beyond its sides
 pub round-trimmed : (m : Machine) (S : List ℤ) (k : ℕ) (E : List ℤ) → m .n ≤ N → trim (m .n) (roundBox m S k E) ≡ roundBox m S k E

@@ -38,13 +38,15 @@ fn round(
 ) -> bool
     requires { ⌜ Usable (machineOf p (now sheet)) ⌝ }
     requires { ⌜ ((0 < k) × (k ≤ 1000)) × (Sides limit (now start) × (Sides limit (now e) × (trim (p .n) (now e) ≡ now e))) ⌝ }
+    requires { ⌜ (k ≡ 1 → now e ≡ now start) ⌝ }
     ensures { λ r. ⌜ r ≡ settles (machineOf p (now (sheet .entry))) (now (start .entry)) k (now (e .entry)) ⌝ }
     ensures { λ r. ⌜ now (e .exit) ≡ roundBox (machineOf p (now (sheet .entry))) (now (start .entry)) k (now (e .entry)) ⌝ }
 {
     let n = p.n;
     let mut r: [i64; BOX_SIZE] = [0; BOX_SIZE];
     rates(p, sheet, start, k, e, &mut r);
-    if grow(n, start, k - 1, &r, e) {
+    // A step of one tick settles in its first round: there is nothing to test.
+    if k == 1 || grow(n, start, k - 1, &r, e) {
         moved(n, start, k, &r, e);
         return true;
     }

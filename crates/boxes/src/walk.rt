@@ -51,7 +51,7 @@ fn leg(
 ) -> Walked
     requires { ⌜ Usable (machineOf p (now sheet)) × (boxes ≤ slots.maxBoxes) ⌝ }
     requires { ⌜ ((0 < width) × (width ≤ 1000)) × ((0 < left) × (Sides stepLimit (now at) × (count + 8 * width ≤ countLimit))) ⌝ }
-    requires { ⌜ (now end ≡ now at) × (spec.trim (p .n) (now at) ≡ now at) ⌝ }
+    requires { ⌜ (now end ≡ now at) × ((spec.trim (p .n) (now at) ≡ now at) × (spec.trim (p .n) (now swept) ≡ now swept)) ⌝ }
     ensures { λ r. ⌜ legged (now (end .exit)) (now (swept .exit)) r ≡ leg (b .limited) (b .allowance) (machineOf p (now (sheet .entry))) (clear (p .n) (now (sheet .entry)) boxes) width (now (at .entry)) left count ⌝ }
     ensures { λ r. ⌜ now (swept .exit) ≡ spec.hull (p .n) (now (at .entry)) (now (end .exit)) ⌝ }
     ensures { λ r. ⌜ (now (at .exit) ≡ now (end .exit)) × (spec.trim (p .n) (now (end .exit)) ≡ now (end .exit)) ⌝ }

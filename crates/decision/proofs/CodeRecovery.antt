@@ -51,7 +51,7 @@ pub recovery-trimmed : (f : List ℕ) → refusal f ≡ 0 → trim (vars (values
 recovery-trimmed f e =
     let ok = valid f e in
     let v = values f in
-    trim-same (vars v) (recoveryBox v) (ok .vars-high) (omega (arith, length-take boxSize (drop recoverySlot v), length-drop recoverySlot v, ok .size))
+    trim-same (vars v) (recoveryBox v) (omega (arith, ok .vars-high)) (omega (arith, length-take boxSize (drop recoverySlot v), length-drop recoverySlot v, ok .size))
     (λ i h l. (box-lo v recoverySlot i l ∙ zero-at i 0 _ h l (omega arith) (omega arith), box-hi v recoverySlot i l ∙ zero-at i 1 _ h l (omega arith) (omega arith)))
   where
     zero-at : (i q slot : ℕ) → vars (values f) ≤ i → i < N → q < 2 → slot ≡ recoverySlot + i + q * N → values f ! slot ≡ pos 0

@@ -69,7 +69,7 @@ reach-far {v} ok ticks w l B = by (reachRefusal v ticks w l B) refl
     by zero e =
         let t = or-none (ticksRefusal ticks w) _ e in
         let k = ticks-width ticks w (t .0) in
-        far (sides-near (vars v) B (or-none (lawRefusal v l) _ (t .1) .1)) (k .0) (reach-takes false 0 (machine v l) (clear (vars v) v 0) w 9 (ok .vars-high) (k .1) (omega (arith, k .2)) (trim (vars v) B) ticks 0)
+        far (sides-near (vars v) B (or-none (lawRefusal v l) _ (t .1) .1)) (k .0) (reach-takes false 0 (machine v l) (clear (vars v) v 0) w 9 (omega (arith, ok .vars-high)) (k .1) (omega (arith, k .2)) (trim (vars v) B) ticks 0)
 
 -- ---- bytes
 

@@ -67,10 +67,9 @@ pub fn moved(
     out: &mut [i64; BOX_SIZE],
 )
     requires { ⌜ (n ≤ slots.N) × (k ≤ 1000) ⌝ }
-    requires { ⌜ Sides limit (now a) × Sides 1000 (now rates) ⌝ }
+    requires { ⌜ Sides limit (now a) × (Sides 1000 (now rates) × (trim n (now out) ≡ now out)) ⌝ }
     ensures { λ _. ⌜ now (out .exit) ≡ moved n (now (a .entry)) k (now (rates .entry)) ⌝ }
 {
-    *out = [0; BOX_SIZE];
     let mut i: usize = 0;
     while i < n {
         let h = i + N;
@@ -109,11 +108,10 @@ pub fn grow(
 
 // `path` becomes the hull of `at` and e, and `at` becomes e.
 pub fn arrive(n: usize, e: &[i64; BOX_SIZE], at: &mut [i64; BOX_SIZE], path: &mut [i64; BOX_SIZE])
-    requires { ⌜ (n ≤ slots.N) × ((trim n (now e) ≡ now e) × (trim n (now at) ≡ now at)) ⌝ }
+    requires { ⌜ (n ≤ slots.N) × ((trim n (now e) ≡ now e) × ((trim n (now at) ≡ now at) × (trim n (now path) ≡ now path))) ⌝ }
     ensures { λ _. ⌜ now (at .exit) ≡ now (e .entry) ⌝ }
     ensures { λ _. ⌜ now (path .exit) ≡ hull n (now (at .entry)) (now (e .entry)) ⌝ }
 {
-    *path = [0; BOX_SIZE];
     let mut i: usize = 0;
     while i < n {
         let h = i + N;

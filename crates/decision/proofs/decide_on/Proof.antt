@@ -31,7 +31,7 @@ module _ (c : tie.After-count) where
   g = s .args .g .now
 
   room : vars v ≤ N
-  room = s .pre .vars-high
+  room = omega (arith, s .pre .vars-high)
 
 -- behind the refusals
 module _ (c : tie.Else1) where

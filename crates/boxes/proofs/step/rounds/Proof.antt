@@ -1,21 +1,24 @@
 -- `rounds` does what eight rounds of the definition do. Assumes nothing.
-use mathlib.Core.Path.{_≡_, sym, subst}
+use mathlib.Core.Path.{_≡_, sym, _∙_, subst}
+use mathlib.Core.Bool.{true}
 use Prim.Native.Nat.{_≤_, _+_, _*_}
 use native.Mathlib.Omega.{arith}
 use Rattle.machine.specs.Box.{trim}
+use Rattle.machine.proofs.Box.{differ}
 use Rattle.arithmetic.specs.Limits.{Sides}
 use Rattle.rates.specs.Plant.{machineOf}
 use Rattle.rates.proofs.Sides.{wider}
 use Rattle.boxes.specs.Code.{stepLimit}
 use Rattle.boxes.proofs.CodeBounds.{round-bound}
-use Rattle.boxes.proofs.CodeTurns.{trim-as, round-trimmed, Rounding, rounding-starts, rounding-ends, rounding-out, rounding-settles, rounding-on}
+use Rattle.boxes.proofs.CodeTurns.{trim-as, settles-first, round-trimmed, Rounding, rounding-starts, rounding-ends, rounding-out, rounding-settles, rounding-on}
 use Rattle.boxes.proofs.step.rounds.Statement.{statement}
 use Rattle.boxes.proofs.step.rounds.Tie as tie
 
 abbrev Inv-loop : tie.InvT-loop
 Inv-loop b p sheet start k count end₀ c₀ left₀ end c left =
     ((c + left ≤ count + 8) × (trim (p .n) end ≡ end)) × (Sides (stepLimit + k * 1000) end
-    × Rounding (b .limited) (b .allowance) (machineOf p sheet) start k count left end c)
+    × (Rounding (b .limited) (b .allowance) (machineOf p sheet) start k count left end c
+    × (k ≡ 1 → end ≡ start)))
 
 abbrev μ-loop : tie.MeasureT-loop
 μ-loop b p sheet start k count end₀ c₀ left₀ end c left = left
@@ -25,19 +28,19 @@ loop-holds c =
     let p = c .pre .1 in
     let e = p .1 .0 in (
       (omega arith, trim-as (c .args .p .n) e (p .1 .1)),
-      (subst (Sides (stepLimit + c .args .k * 1000)) (sym e) (wider (omega arith) (p .0 .1 .0)), rounding-starts (c .args .b .limited) (c .args .b .allowance) _ (c .args .k) (c .args .count) e),
+      (subst (Sides (stepLimit + c .args .k * 1000)) (sym e) (wider (omega arith) (p .0 .1 .0)), (rounding-starts (c .args .b .limited) (c .args .b .allowance) _ (c .args .k) (c .args .count) e, λ one. e)),
     )
 
 returns : tie.Need-returns Inv-loop μ-loop
 returns c =
     let i = c .before .before .before .loop .inv in
-    (rounding-out (i .1 .1) (omega arith) _ (c .before .is-out .ensures) (c .if1 .taken), i .0 .1)
+    (rounding-out (i .1 .1 .0) (omega arith) _ (c .before .is-out .ensures) (c .if1 .taken), i .0 .1)
 
 round-requires : tie.Need-round-requires Inv-loop μ-loop
 round-requires c κs =
     let d = c .before .before .before .before in
     let p = d .before .pre in
-    (p .0, (p .1 .0 .0, (wider (omega arith) (p .1 .0 .1 .0), (wider (omega (arith, p .1 .0 .0)) (d .loop .inv .1 .0), d .loop .inv .0 .1))))
+    (p .0, ((p .1 .0 .0, (wider (omega arith) (p .1 .0 .1 .0), (wider (omega (arith, p .1 .0 .0)) (d .loop .inv .1 .0), d .loop .inv .0 .1))), d .loop .inv .1 .1 .1))
 
 -- behind a round
 module _ (r : tie.After-round Inv-loop μ-loop) where
@@ -53,10 +56,13 @@ module _ (r : tie.After-round Inv-loop μ-loop) where
   trimmed : trim (s .args .p .n) (r .round .last .1 .1 .1 .1 .0) ≡ r .round .last .1 .1 .1 .1 .0
   trimmed = trim-as (s .args .p .n) (r .round .ensures .1) (round-trimmed _ (s .args .start .now) (s .args .k) (d .loop .end) (s .pre .0 .vars))
 
+  one-tick : s .args .k ≡ 1 → r .round .result ≡ true
+  one-tick one = r .round .ensures .0 ∙ settles-first _ (s .args .start .now) (s .args .k) (s .pre .0 .vars) one (d .loop .inv .1 .1 .1 one)
+
 returns-2 : tie.Need-returns-2 Inv-loop μ-loop
 returns-2 c =
     let r = c .before in
-    (rounding-settles (d r .loop .inv .1 .1) (omega arith) _ (f r .before .is-out .ensures) (f r .if1 .left) _ (r .round .ensures .1) _ (r .round .ensures .0) (c .if2 .taken), trimmed r)
+    (rounding-settles (d r .loop .inv .1 .1 .0) (omega arith) _ (f r .before .is-out .ensures) (f r .if1 .left) _ (r .round .ensures .1) _ (r .round .ensures .0) (c .if2 .taken), trimmed r)
 
 loop-again : tie.Need-loop-again Inv-loop μ-loop
 loop-again c =
@@ -64,11 +70,17 @@ loop-again c =
     let p = s r .pre in
     let near = round-bound (p .0) (s r .args .start .now) (s r .args .k) stepLimit (p .1 .0 .1 .0) (d r .loop .end) (d r .loop .inv .1 .0) in (
       (omega arith, trimmed r),
-      (rw (r .round .ensures .1) near, rounding-on (d r .loop .inv .1 .1) (omega arith) _ (f r .before .is-out .ensures) (f r .if1 .left) _ (r .round .ensures .1) _ (r .round .ensures .0) (c .if2 .left)),
+      (
+        rw (r .round .ensures .1) near,
+        (
+          rounding-on (d r .loop .inv .1 .1 .0) (omega arith) _ (f r .before .is-out .ensures) (f r .if1 .left) _ (r .round .ensures .1) _ (r .round .ensures .0) (c .if2 .left),
+          λ one. absurd (differ (one-tick r one) (c .if2 .left)),
+        ),
+      ),
     )
 
 returns-3 : tie.Need-returns-3 Inv-loop μ-loop
-returns-3 c = let i = c .before .loop .inv in (rounding-ends (i .1 .1) (omega arith), i .0 .1)
+returns-3 c = let i = c .before .loop .inv in (rounding-ends (i .1 .1 .0) (omega arith), i .0 .1)
 
 pub rounds-spec : {M : Type 1} → statement M
 rounds-spec =

@@ -58,7 +58,7 @@ step-requires c κs =
     let p = c .before .before .before .pre in
     let q = c .before .smaller .ensures in
     let i = p .1 .0 in
-    (p .0 .0, (((omega (arith, q, i), omega (arith, q, i)), (i .1 .1 .0, omega (arith, q, i .1 .1 .1))), p .1 .1))
+    (p .0 .0, (((omega (arith, q, i), omega (arith, q, i)), (i .1 .1 .0, omega (arith, q, i .1 .1 .1))), (p .1 .1 .0, p .1 .1 .1 .0)))
 
 arrive-requires : tie.Need-arrive-requires
 arrive-requires c κs =

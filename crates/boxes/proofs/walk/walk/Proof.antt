@@ -10,19 +10,18 @@ use denote.Enum.Declared.{tagOf}
 use Rattle.machine.specs.Box.{hull, trim}
 use Rattle.arithmetic.specs.Limits.{Sides}
 use Rattle.rates.specs.Plant.{machineOf}
-use Rattle.shapes.proofs.InPlace.{trim-hull}
 use Rattle.rates.proofs.Sides.{wider}
 use Rattle.lifting.specs.Reach.{clear, leg}
 use Rattle.boxes.specs.Code.{walkLimit, legged}
 use Rattle.boxes.proofs.CodeBounds.{Covers, leg-covers}
-use Rattle.boxes.proofs.CodeTurns.{trim-as, Walking, walking-starts, walking-ends, walking-stops, walking-on}
+use Rattle.boxes.proofs.CodeTurns.{trim-as, trim-as-hull, Walking, walking-starts, walking-ends, walking-stops, walking-on}
 use Rattle.boxes.proofs.walk.Walked.{the-type}
 use Rattle.boxes.proofs.walk.walk.Statement.{statement}
 use Rattle.boxes.proofs.walk.walk.Tie as tie
 
 abbrev Inv-loop : tie.InvT-loop
 Inv-loop b p sheet boxes width ticks count end₀ swept₀ work₀ path₀ left₀ c₀ end swept work path left c =
-    ((left ≤ ticks) × (c + 73 * left ≤ count + 73 * ticks)) × (((work ≡ end) × ((trim (p .n) end ≡ end) × (trim (p .n) swept ≡ swept)))
+    ((left ≤ ticks) × (c + 73 * left ≤ count + 73 * ticks)) × (((work ≡ end) × ((trim (p .n) end ≡ end) × ((trim (p .n) swept ≡ swept) × (trim (p .n) path ≡ path))))
     × (Sides (walkLimit + (ticks - left) * 1000) end
     × Walking (b .limited) (b .allowance) (machineOf p sheet) (clear (p .n) sheet boxes) width end₀ ticks count end swept left c))
 
@@ -80,7 +79,7 @@ loop-holds c =
     let p = s .pre .1 in (
       (omega arith, omega arith),
       (
-        (refl, (p .1, p .1)),
+        (refl, (p .1, (p .1, p .1))),
         (wider (omega arith) (p .0 .1 .1 .0), walking-starts (s .args .b .limited) (s .args .b .allowance) _ _ (s .args .width) _ (s .args .ticks) (s .args .count)),
       ),
     )
@@ -91,7 +90,7 @@ leg-requires c κs =
     let p = d .before .before .before .before .pre in
     let q = p .1 .0 in
     let v = d .loop .inv in
-    (p .0, ((q .0, (omega arith, (wider (omega (arith, q .1 .0)) (v .1 .1 .0), omega (arith, v .0, q .1)))), (v .1 .0 .0, v .1 .0 .1 .0)))
+    (p .0, ((q .0, (omega arith, (wider (omega (arith, q .1 .0)) (v .1 .1 .0), omega (arith, v .0, q .1)))), (v .1 .0 .0, (v .1 .0 .1 .0, v .1 .0 .1 .1 .1))))
 
 returns : tie.Need-returns Inv-loop μ-loop
 returns c =
@@ -104,16 +103,18 @@ returns c =
 join-requires : tie.Need-join-requires Inv-loop μ-loop
 join-requires c κs =
     let g = c .before .before .before .before .before in
-    (s g .pre .0 .0 .vars, d g .loop .inv .1 .0 .1 .1)
+    (s g .pre .0 .0 .vars, d g .loop .inv .1 .0 .1 .1 .0)
 
 loop-again : tie.Need-loop-again Inv-loop μ-loop
 loop-again c =
     let n = covers c in
     let g = came c in
+    let m = s g .args .p .n in
+    let room = s g .pre .0 .0 .vars in
     let v = d g .loop .inv in (
       (omega (arith, v .0), omega (arith, v .0, n .1, n .0 .some, n .0 .most)),
       (
-        (sym (g .leg .ensures .1 .1 .0), (trimmed g, trim-as (s g .args .p .n) (c .join .ensures) (trim-hull (s g .args .p .n) (s g .pre .0 .0 .vars) (d g .loop .swept) (P g)))),
+        (sym (g .leg .ensures .1 .1 .0), (trimmed g, (trim-as-hull m (d g .loop .swept) (P g) room (c .join .ensures), trim-as-hull m (d g .loop .end) (E g) room (swept-is g)))),
         (
           wider (omega (arith, n .0 .some, n .0 .most, v .0)) (n .0 .sides),
           walking-on (v .1 .1 .1) (g .leg .result) _ (P g) (omega arith) (legged-is g) (t c) (i c) (k c .r .given .1) (n .0 .some) (n .0 .most) (swept-is g) _ (c .join .ensures),
