@@ -1,46 +1,57 @@
 -- How far the counts and the boxes of rounds, steps and walks go. Assumes nothing.
 use mathlib.Core.Path.{_≡_, sym, ap, _∙_}
-use mathlib.Core.Bool.{Bool, true, false}
+use mathlib.Core.Bool.{Bool}
 use mathlib.Core.List.{List}
-use Prim.Native.Nat.{ℕ, _+_, _*_, _-_, _≤_, _<_}
+use Prim.Native.Nat.{ℕ, _+_, _*_, _-_, _≤_, _<_, min}
 use native.Mathlib.Omega.{arith}
-use lib.IntN.{ℤ}
-use Rattle.machine.specs.Box.{moved}
+use lib.IntN.{ℤ, pos}
+use lib.ListN.{replicate}
+use Rattle.layout.specs.Slots.{N, boxSize}
+use Rattle.machine.specs.Box.{moved, sides}
 use Rattle.machine.specs.Machine.{Machine}
 use Rattle.machine.specs.Rate.{rates}
 use Rattle.arithmetic.specs.Limits.{Sides}
 use Rattle.rates.specs.Plant.{Usable}
-use Rattle.rates.proofs.Sides.{wider, hull-bound, moved-bound, rates-bound}
+use Rattle.rates.proofs.Sides.{wider, sides-bound, hull-bound, moved-bound, rates-bound}
 use Rattle.boxes.specs.declared.step.Stepped.{Stepped}
-use Rattle.boxes.specs.declared.step.Stepped.the-variants.{Unsettled}
+use Rattle.boxes.specs.declared.step.Stepped.the-variants as code
 use Rattle.boxes.specs.declared.walk.Walked.{Walked}
 use Rattle.boxes.specs.declared.walk.Walked.the-variants.{Ended}
-use Rattle.lifting.specs.Step.{lifted, settles, endBox, grown, got, rounds, Step}
+use Rattle.lifting.specs.Step.{lifted, endBox, grown, got, rounds, step, Step}
 use Rattle.lifting.specs.Reach.{Reached, leg, reach}
-use Rattle.boxes.specs.Code.{roundBox, stepped, said, legged}
-use Rattle.boxes.proofs.CodeTurns.{Halving, Walking}
+use Rattle.boxes.specs.Code.{stepped, said, legged}
+use Rattle.boxes.proofs.CodeTurns.{Halving, Stepping, Walking}
 use Rattle.lifting.proofs.Stages.{value-of, failure-of}
-use Rattle.lifting.proofs.Settled.{Settled, starts, rounds-take, Place, start, Walks, here, next, leg-takes, reach-takes}
+use Rattle.lifting.proofs.Settled.{Settled, starts, rounds-take, step-takes, Place, start, Walks, here, next, leg-takes, reach-takes}
 
 -- eight rounds add at most eight
 pub halving-count : {l : Bool} {a : ℕ} {m : Machine} {S : List ℤ} {w c k d : ℕ} → Halving l a m S w c k d
-    → (r : Stepped) (E : List ℤ) → stepped E r ≡ rounds l a m S k 8 S d → (i : ℕ) → r ≡ Unsettled i → i ≤ d + 8
+    → (r : Stepped) (R : List ℤ) → stepped (m .n) S R r ≡ rounds l a m S k 8 S d → (i : ℕ) → r ≡ code.Unsettled i → i ≤ d + 8
 unfolding stepped
-halving-count {l} {a} {m} {S} {k = k} {d = d} h r E e i q = failure-of (rounds-take l a m S k 8 S d (h .some) starts) (sym e ∙ ap (stepped E) q) .1 .few
+halving-count {l} {a} {m} {S} {k = k} {d = d} h r R e i q = failure-of (rounds-take l a m S k 8 S d (h .some) starts) (sym e ∙ ap (stepped (m .n) S R) q) .1 .few
+
+-- a step covers at most its width
+pub step-ticks : {l : Bool} {a : ℕ} {m : Machine} {w : ℕ} {S : List ℤ} {left c : ℕ} {r : Stepped} {R : List ℤ} → Stepping l a m w S left c r R
+    → m .n ≤ N → 0 < w → w ≤ 1000 → 0 < left → (t i : ℕ) → r ≡ code.Settled t i → t ≤ w
+unfolding stepped
+step-ticks {l} {a} {m} {w} {S} {left} {c} {R = R} h room z u f t i q =
+    let g = value-of (step-takes l a m S room (min w left) c 9 (omega arith) (omega arith)) (sym (h .same) ∙ ap (stepped (m .n) S R) q) in
+    omega (arith, g .0 .most)
 
 -- ---- boxes
+
+-- the rates before the first round
+pub zero-bound : Sides 1000 (replicate boxSize (pos 0))
+unfolding sides
+zero-bound = sides-bound 1000 0 (λ i. pos 0) (λ i. pos 0) (λ i l. omega arith) (λ i l. omega arith)
 
 module _ {m : Machine} (ok : Usable m) (S : List ℤ) (k b : ℕ) (h : Sides b S) where
   rates-near : (j : ℕ) (E : List ℤ) → Sides (b + j * 1000) (moved (m .n) S j (rates m S k E))
   rates-near j E = moved-bound (m .n) S j (rates m S k E) h (rates-bound ok S k E)
 
-  pub round-bound : (E : List ℤ) → Sides (b + k * 1000) E → Sides (b + k * 1000) (roundBox m S k E)
-  unfolding roundBox endBox grown lifted
-  round-bound E u = either (settles m S k E)
-    where
-      either : (t : Bool) → Sides (b + k * 1000) (elim t [ true ↦ endBox m S k E | false ↦ grown m S k E ])
-      either true = rates-near k E
-      either false = hull-bound (m .n) E _ u (hull-bound (m .n) S _ (wider (omega arith) h) (wider (omega arith) (rates-near (k - 1) E)))
+  pub grown-bound : (E : List ℤ) → Sides (b + k * 1000) E → Sides (b + k * 1000) (grown m S k E)
+  unfolding grown lifted
+  grown-bound E u = hull-bound (m .n) E _ u (hull-bound (m .n) S _ (wider (omega arith) h) (wider (omega arith) (rates-near (k - 1) E)))
 
 -- ---- steps and walks
 

@@ -12,7 +12,7 @@ use Rattle.layout.specs.Slots.{N}
 use Rattle.machine.specs.Box.{hull, within, moved, trim}
 use Rattle.machine.specs.Machine.{Machine}
 use Rattle.machine.specs.Rate.{rates}
-use Rattle.shapes.proofs.InPlace.{trim-hull, trim-moved}
+use Rattle.shapes.proofs.InPlace.{trim-hull}
 use Rattle.boxes.specs.declared.step.Stepped.{Stepped}
 use Rattle.boxes.specs.declared.step.Stepped.the-variants.{Settled, Unsettled, Out}
 use Rattle.boxes.specs.declared.walk.Walked.{Walked}
@@ -21,7 +21,7 @@ use Rattle.boxes.specs.declared.walk.Walked.the-variants as walked
 use Rattle.lifting.specs.Step.{lifted, settles, endBox, grown, Got, got, failed, unsettled, unsafe, andThen, orElse, isOut, Step, rounds, halving, step, swept}
 use Rattle.lifting.specs.Reach.{Reached, leg, walk, reach}
 use Rattle.lifting.proofs.Settled.{settles-one}
-use Rattle.boxes.specs.Code.{roundBox, stepped, said, legged, walked}
+use Rattle.boxes.specs.Code.{stepped, said, legged, walked}
 
 pub pick-yes : {A : Type 0} (b : Bool) (x y : A) → b ≡ true → (elim b as (λ _. A) [ true ↦ x | false ↦ y ]) ≡ x
 pick-yes {A} b x y e = subst (λ (t : Bool). (elim t as (λ _. A) [ true ↦ x | false ↦ y ]) ≡ x) (sym e) refl
@@ -47,13 +47,9 @@ module _ (m : Machine) (S : List ℤ) (k : ℕ) (E : List ℤ) {r F : List ℤ} 
   unfolding settles
   settles-is p = p ∙ ap (within (m .n) M) f ∙ ap (λ (X : List ℤ). within (m .n) X E) lifted-is
 
-  pub round-ends : {B : List ℤ} → settles m S k E ≡ true → B ≡ moved (m .n) S k r → B ≡ roundBox m S k E
-  unfolding roundBox endBox
-  round-ends t p = p ∙ ap (moved (m .n) S k) e ∙ sym (pick-yes (settles m S k E) _ _ t)
-
-  pub round-grows : {B : List ℤ} → settles m S k E ≡ false → B ≡ hull (m .n) F M → B ≡ roundBox m S k E
-  unfolding roundBox grown
-  round-grows t p = p ∙ ap (λ (X : List ℤ). hull (m .n) X M) f ∙ ap (hull (m .n) E) lifted-is ∙ sym (pick-no (settles m S k E) _ _ t)
+  pub grown-is : {B : List ℤ} → B ≡ hull (m .n) F M → B ≡ grown m S k E
+  unfolding grown
+  grown-is p = p ∙ ap (λ (X : List ℤ). hull (m .n) X M) f ∙ ap (hull (m .n) E) lifted-is
 
 -- a step of one tick settles in its first round
 pub settles-first : (m : Machine) (S : List ℤ) (k : ℕ) {E : List ℤ} → m .n ≤ N → k ≡ 1 → E ≡ S → settles m S k E ≡ true
@@ -67,15 +63,6 @@ trim-as n e h = subst (λ (X : List ℤ). trim n X ≡ X) (sym e) h
 pub trim-as-hull : (n : ℕ) {A : List ℤ} (B C : List ℤ) → n ≤ N → A ≡ hull n B C → trim n A ≡ A
 trim-as-hull n B C h e = trim-as n e (trim-hull n h B C)
 
--- what a round leaves has nothing beyond its sides
-pub round-trimmed : (m : Machine) (S : List ℤ) (k : ℕ) (E : List ℤ) → m .n ≤ N → trim (m .n) (roundBox m S k E) ≡ roundBox m S k E
-unfolding roundBox endBox grown
-round-trimmed m S k E h = either (settles m S k E)
-  where
-    either : (t : Bool) → let B : List ℤ = elim t [ true ↦ endBox m S k E | false ↦ grown m S k E ] in trim (m .n) B ≡ B
-    either true = trim-moved (m .n) h S k (rates m S k E)
-    either false = trim-hull (m .n) h E (lifted m S k E)
-
 -- ---- rounds
 
 -- eight rounds of k ticks after c rounds, where the loop has the working box E after d rounds, and `left` are left
@@ -87,33 +74,35 @@ pub rounding-starts : (l : Bool) (a : ℕ) (m : Machine) {S : List ℤ} (k c : �
 rounding-starts l a m {S} k c e = record { few = omega arith; same = ap (λ (F : List ℤ). rounds l a m S k 8 F c) (sym e) }
 
 module _ {l : Bool} {a : ℕ} {m : Machine} {S : List ℤ} {k c left : ℕ} {E : List ℤ} {d : ℕ} (h : Rounding l a m S k c left E d) where
-  pub rounding-ends : left ≡ 0 → stepped E (Unsettled d) ≡ rounds l a m S k 8 S c
+  pub rounding-ends : (R : List ℤ) → left ≡ 0 → stepped (m .n) S R (Unsettled d) ≡ rounds l a m S k 8 S c
   unfolding rounds stepped
-  rounding-ends z = sym (h .same ∙ ap (λ (j : ℕ). rounds l a m S k j E d) z)
+  rounding-ends R z = sym (h .same ∙ ap (λ (j : ℕ). rounds l a m S k j E d) z)
 
   -- a round is due where t is not true
   module _ (some : 0 < left) (t : Bool) (o : t ≡ isOut l a d) where
     turn : rounds l a m S k 8 S c ≡ rounds l a m S k (suc (left - 1)) E d
     turn = h .same ∙ ap (λ (j : ℕ). rounds l a m S k j E d) (suc-of left some)
 
-    pub rounding-out : t ≡ true → stepped E (Out d) ≡ rounds l a m S k 8 S c
+    pub rounding-out : (R : List ℤ) → t ≡ true → stepped (m .n) S R (Out d) ≡ rounds l a m S k 8 S c
     unfolding rounds stepped
-    rounding-out e = sym (turn ∙ pick-yes (isOut l a d) _ _ (sym o ∙ e))
+    rounding-out R e = sym (turn ∙ pick-yes (isOut l a d) _ _ (sym o ∙ e))
 
-    -- the round leaves B, and has settled where u is true
-    module _ (due : t ≡ false) (B : List ℤ) (b : B ≡ roundBox m S k E) (u : Bool) (q : u ≡ settles m S k E) where
-      pub rounding-settles : u ≡ true → stepped B (Settled k (d + 1)) ≡ rounds l a m S k 8 S c
-      unfolding rounds stepped roundBox
-      rounding-settles e =
-          ap (λ (F : List ℤ). got (record { ticks = k; end = F }) (d + 1)) (b ∙ pick-yes (settles m S k E) _ _ (sym q ∙ e))
+    -- the round has settled where u is true
+    module _ (due : t ≡ false) (u : Bool) (q : u ≡ settles m S k E) where
+      -- with the rates R
+      pub rounding-settles : (R : List ℤ) → R ≡ rates m S k E → u ≡ true → stepped (m .n) S R (Settled k (d + 1)) ≡ rounds l a m S k 8 S c
+      unfolding rounds stepped endBox
+      rounding-settles R r e =
+          ap (λ (Q : List ℤ). got (record { ticks = k; end = moved (m .n) S k Q }) (d + 1)) r
           ∙ sym (turn ∙ pick-no (isOut l a d) _ _ (sym o ∙ due) ∙ pick-yes (settles m S k E) _ _ (sym q ∙ e))
 
-      pub rounding-on : u ≡ false → Rounding l a m S k c (left - 1) B (d + 1)
-      unfolding rounds roundBox
-      rounding-on e = record {
+      -- with the next working box B
+      pub rounding-on : (B : List ℤ) → B ≡ grown m S k E → u ≡ false → Rounding l a m S k c (left - 1) B (d + 1)
+      unfolding rounds
+      rounding-on B b e = record {
         few = omega (arith, h .few);
         same = turn ∙ pick-no (isOut l a d) _ _ (sym o ∙ due) ∙ pick-no (settles m S k E) _ _ (sym q ∙ e)
-            ∙ ap (λ (F : List ℤ). rounds l a m S k (left - 1) F (d + 1)) (sym (b ∙ pick-no (settles m S k E) _ _ (sym q ∙ e)));
+            ∙ ap (λ (F : List ℤ). rounds l a m S k (left - 1) F (d + 1)) (sym b);
       }
 
 -- ---- the halving
@@ -129,20 +118,20 @@ pub halving-starts : (l : Bool) (a : ℕ) (m : Machine) (S : List ℤ) (w c : �
 unfolding step
 halving-starts l a m S w c z = record { some = z; fuel = w; enough = le-refl w; same = refl }
 
--- eight rounds came to r
-module _ {l : Bool} {a : ℕ} {m : Machine} {S : List ℤ} {w c k d : ℕ} (h : Halving l a m S w c k d) (r : Stepped) (E : List ℤ) (e : stepped E r ≡ rounds l a m S k 8 S d) where
+-- eight rounds came to r, with the rates R
+module _ {l : Bool} {a : ℕ} {m : Machine} {S : List ℤ} {w c k d : ℕ} (h : Halving l a m S w c k d) (r : Stepped) (R : List ℤ) (e : stepped (m .n) S R r ≡ rounds l a m S k 8 S d) where
   abbrev half : ℕ → Got Step
   half i = elim (leb k 1) [ true ↦ failed unsettled i | false ↦ halving l a m S (h .fuel - 1) (k / 2) i ]
 
-  half-turn : step l a m S w c ≡ orElse (stepped E r) half
+  half-turn : step l a m S w c ≡ orElse (stepped (m .n) S R r) half
   unfolding halving
   half-turn = h .same ∙ ap (λ (j : ℕ). halving l a m S j k d) (suc-of (h .fuel) (omega (arith, h .some, h .enough))) ∙ ap (λ (g : Got Step). orElse g half) (sym e)
 
-  pub halving-ends : ((i : ℕ) → r ≡ Unsettled i → ⊥) → stepped E r ≡ step l a m S w c
+  pub halving-ends : ((i : ℕ) → r ≡ Unsettled i → ⊥) → stepped (m .n) S R r ≡ step l a m S w c
   unfolding stepped orElse
   halving-ends n = sym (half-turn ∙ ends r n)
     where
-      ends : (o : Stepped) → ((i : ℕ) → o ≡ Unsettled i → ⊥) → orElse (stepped E o) half ≡ stepped E o
+      ends : (o : Stepped) → ((i : ℕ) → o ≡ Unsettled i → ⊥) → orElse (stepped (m .n) S R o) half ≡ stepped (m .n) S R o
       ends (Settled t i) n = refl
       ends (Unsettled i) n = absurd (n i refl)
       ends (Out i) n = refl
@@ -150,9 +139,9 @@ module _ {l : Bool} {a : ℕ} {m : Machine} {S : List ℤ} {w c k d : ℕ} (h : 
   module _ (i : ℕ) (q : r ≡ Unsettled i) where
     halved : step l a m S w c ≡ half i
     unfolding stepped orElse
-    halved = half-turn ∙ ap (λ (o : Stepped). orElse (stepped E o) half) q
+    halved = half-turn ∙ ap (λ (o : Stepped). orElse (stepped (m .n) S R o) half) q
 
-    pub halving-finest : k ≤ 1 → stepped E (Unsettled i) ≡ step l a m S w c
+    pub halving-finest : k ≤ 1 → stepped (m .n) S R (Unsettled i) ≡ step l a m S w c
     unfolding stepped
     halving-finest z = sym (halved ∙ pick-yes (leb k 1) _ _ (le-leb k 1 z))
 
@@ -161,38 +150,41 @@ module _ {l : Bool} {a : ℕ} {m : Machine} {S : List ℤ} {w c k d : ℕ} (h : 
 
 -- ---- a leg
 
--- a step from S with `left` ticks left after c rounds came to r, with the end box E and the swept box P
-pub record Stepping (l : Bool) (a : ℕ) (m : Machine) (w : ℕ) (S : List ℤ) (left c : ℕ) (r : Stepped) (E P : List ℤ) : Type 0 where
-  pub same : stepped E r ≡ step l a m S (min w left) c
-  pub swept : P ≡ hull (m .n) S E
+-- a step from S with `left` ticks left after c rounds came to r, with the rates R
+pub record Stepping (l : Bool) (a : ℕ) (m : Machine) (w : ℕ) (S : List ℤ) (left c : ℕ) (r : Stepped) (R : List ℤ) : Type 0 where
+  pub same : stepped (m .n) S R r ≡ step l a m S (min w left) c
 
-module _ {l : Bool} {a : ℕ} {m : Machine} {w : ℕ} {S : List ℤ} {left c : ℕ} {r : Stepped} {E P : List ℤ} (h : Stepping l a m w S left c r E P) (clear : List ℤ → Bool) where
+module _ {l : Bool} {a : ℕ} {m : Machine} {w : ℕ} {S : List ℤ} {left c : ℕ} {r : Stepped} {R : List ℤ} (h : Stepping l a m w S left c r R) (clear : List ℤ → Bool) where
   abbrev tested : Step → ℕ → Got Step
   tested t d = elim (clear (swept m S t)) [ true ↦ got t d | false ↦ failed (unsafe left (swept m S t)) d ]
 
-  leg-is : (o : Stepped) → r ≡ o → andThen (stepped E o) tested ≡ leg l a m clear w S left c
+  leg-is : (o : Stepped) → r ≡ o → andThen (stepped (m .n) S R o) tested ≡ leg l a m clear w S left c
   unfolding leg
-  leg-is o q = ap (λ (x : Stepped). andThen (stepped E x) tested) (sym q) ∙ ap (λ (g : Got Step). andThen g tested) (h .same)
+  leg-is o q = ap (λ (x : Stepped). andThen (stepped (m .n) S R x) tested) (sym q) ∙ ap (λ (g : Got Step). andThen g tested) (h .same)
 
-  pub leg-unsettled : (d : ℕ) → r ≡ Unsettled d → legged E P (walked.Unsettled d) ≡ leg l a m clear w S left c
+  pub leg-unsettled : (E P : List ℤ) (d : ℕ) → r ≡ Unsettled d → legged E P (walked.Unsettled d) ≡ leg l a m clear w S left c
   unfolding stepped said andThen
-  leg-unsettled d q = leg-is (Unsettled d) q
+  leg-unsettled E P d q = leg-is (Unsettled d) q
 
-  pub leg-out : (d : ℕ) → r ≡ Out d → legged E P (walked.Out d) ≡ leg l a m clear w S left c
+  pub leg-out : (E P : List ℤ) (d : ℕ) → r ≡ Out d → legged E P (walked.Out d) ≡ leg l a m clear w S left c
   unfolding stepped said andThen
-  leg-out d q = leg-is (Out d) q
+  leg-out E P d q = leg-is (Out d) q
 
-  -- it settled, and its swept box is not clear where u is true
-  module _ (t d : ℕ) (q : r ≡ Settled t d) {u x : Bool} (v : u ≡ x) (y : clear P ≡ not x) where
+  -- it settled with the end box E and the swept box P, which is not clear where u is true
+  module _ (t d : ℕ) (q : r ≡ Settled t d) {E P : List ℤ} (e : E ≡ moved (m .n) S t R) (p : P ≡ hull (m .n) S E) {u x : Bool} (v : u ≡ x) (y : clear P ≡ not x) where
+    leg-tested : tested (record { ticks = t; end = E }) d ≡ leg l a m clear w S left c
+    unfolding stepped andThen
+    leg-tested = ap (λ (F : List ℤ). tested (record { ticks = t; end = F }) d) e ∙ leg-is (Settled t d) q
+
     pub leg-clear : u ≡ false → legged E P (Ended t d) ≡ leg l a m clear w S left c
-    unfolding stepped said andThen swept
-    leg-clear z = sym (pick-yes (clear (hull (m .n) S E)) _ _ (ap clear (sym (h .swept)) ∙ y ∙ ap not (sym v ∙ z))) ∙ leg-is (Settled t d) q
+    unfolding said swept
+    leg-clear z = sym (pick-yes (clear (hull (m .n) S E)) _ _ (ap clear (sym p) ∙ y ∙ ap not (sym v ∙ z))) ∙ leg-tested
 
     pub leg-unsafe : u ≡ true → legged E P (Unsafe left d) ≡ leg l a m clear w S left c
-    unfolding stepped said andThen swept
+    unfolding said swept
     leg-unsafe z =
-        ap (λ (B : List ℤ). failed (unsafe left B) d) (h .swept)
-        ∙ sym (pick-no (clear (hull (m .n) S E)) _ _ (ap clear (sym (h .swept)) ∙ y ∙ ap not (sym v ∙ z))) ∙ leg-is (Settled t d) q
+        ap (λ (B : List ℤ). failed (unsafe left B) d) p
+        ∙ sym (pick-no (clear (hull (m .n) S E)) _ _ (ap clear (sym p) ∙ y ∙ ap not (sym v ∙ z))) ∙ leg-tested
 
 -- ---- the walk
 

@@ -1,17 +1,18 @@
 // One lifted step: rounds, settling, halving.
 ghost use mathlib.Core.Path.{_≡_};
+ghost use mathlib.Core.Bool.{false};
 ghost use Prim.Native.Nat.{_+_, _*_, _≤_, _<_};
 ghost use Rattle.machine.specs.Box.{trim};
+ghost use Rattle.machine.specs.Rate.{rates};
 ghost use Rattle.arithmetic.specs.Limits.{Sides, limit};
 ghost use Rattle.rates.specs.Plant.{Usable, machineOf};
-ghost use Rattle.lifting.specs.Step.{isOut, rounds, settles, step};
-ghost use Rattle.boxes.specs.Code.{countLimit, roundBox, stepLimit, stepped};
+ghost use Rattle.lifting.specs.Step.{grown, isOut, rounds, settles, step};
+ghost use Rattle.boxes.specs.Code.{countLimit, stepLimit, stepped};
 use layout::slots::BOX_SIZE;
 use layout::slots::SLOTS;
 use rates::Plant;
 use rates::rate::rates;
 use shapes::grow;
-use shapes::moved;
 
 // A round is due only while the count is not the allowance, if there is one.
 pub struct Budget {
@@ -19,7 +20,7 @@ pub struct Budget {
     pub allowance: u32,
 }
 
-// What rounds or a step came to, with the count of rounds after them. The end box is lent beside it.
+// What rounds or a step came to, with the count of rounds after them. The rates of the last round are lent beside it.
 pub enum Stepped {
     // it covers so many ticks
     Settled { ticks: usize, count: u32 },
@@ -28,29 +29,27 @@ pub enum Stepped {
     Out { count: u32 },
 }
 
-// One round of length k with the working box e, which becomes the end box where it settles, or else the next working box.
+// One round of length k with the working box e: whether it settles. `r` becomes its rates, and where it does not settle e
+// becomes the next working box.
 fn round(
     p: Plant,
     sheet: &[i32; SLOTS],
     start: &[i64; BOX_SIZE],
     k: usize,
     e: &mut [i64; BOX_SIZE],
+    r: &mut [i64; BOX_SIZE],
 ) -> bool
     requires { ⌜ Usable (machineOf p (now sheet)) ⌝ }
     requires { ⌜ ((0 < k) × (k ≤ 1000)) × (Sides limit (now start) × (Sides limit (now e) × (trim (p .n) (now e) ≡ now e))) ⌝ }
     requires { ⌜ (k ≡ 1 → now e ≡ now start) ⌝ }
-    ensures { λ r. ⌜ r ≡ settles (machineOf p (now (sheet .entry))) (now (start .entry)) k (now (e .entry)) ⌝ }
-    ensures { λ r. ⌜ now (e .exit) ≡ roundBox (machineOf p (now (sheet .entry))) (now (start .entry)) k (now (e .entry)) ⌝ }
+    ensures { λ s. ⌜ s ≡ settles (machineOf p (now (sheet .entry))) (now (start .entry)) k (now (e .entry)) ⌝ }
+    ensures { λ s. ⌜ now (r .exit) ≡ rates (machineOf p (now (sheet .entry))) (now (start .entry)) k (now (e .entry)) ⌝ }
+    ensures { λ s. ⌜ (s ≡ false → now (e .exit) ≡ grown (machineOf p (now (sheet .entry))) (now (start .entry)) k (now (e .entry))) ⌝ }
+    ensures { λ s. ⌜ trim (p .n) (now (e .exit)) ≡ now (e .exit) ⌝ }
 {
-    let n = p.n;
-    let mut r: [i64; BOX_SIZE] = [0; BOX_SIZE];
-    rates(p, sheet, start, k, e, &mut r);
+    rates(p, sheet, start, k, e, r);
     // A step of one tick settles in its first round: there is nothing to test.
-    if k == 1 || grow(n, start, k - 1, &r, e) {
-        moved(n, start, k, &r, e);
-        return true;
-    }
-    false
+    k == 1 || grow(p.n, start, k - 1, r, e)
 }
 
 fn is_out(b: Budget, count: u32) -> bool
@@ -63,7 +62,7 @@ fn is_out(b: Budget, count: u32) -> bool
     }
 }
 
-// Up to eight rounds of length k. The first working box is `start`, which `end` is at first.
+// Up to eight rounds of length k. The first working box is `start`, which e is at first. `r` becomes the rates of the last.
 fn rounds(
     b: Budget,
     p: Plant,
@@ -71,13 +70,14 @@ fn rounds(
     start: &[i64; BOX_SIZE],
     k: usize,
     count: u32,
-    end: &mut [i64; BOX_SIZE],
+    e: &mut [i64; BOX_SIZE],
+    r: &mut [i64; BOX_SIZE],
 ) -> Stepped
     requires { ⌜ Usable (machineOf p (now sheet)) ⌝ }
     requires { ⌜ ((0 < k) × (k ≤ 1000)) × (Sides stepLimit (now start) × (count + 8 ≤ countLimit)) ⌝ }
-    requires { ⌜ (now end ≡ now start) × (trim (p .n) (now start) ≡ now start) ⌝ }
-    ensures { λ r. ⌜ stepped (now (end .exit)) r ≡ rounds (b .limited) (b .allowance) (machineOf p (now (sheet .entry))) (now (start .entry)) k 8 (now (start .entry)) count ⌝ }
-    ensures { λ r. ⌜ trim (p .n) (now (end .exit)) ≡ now (end .exit) ⌝ }
+    requires { ⌜ (now e ≡ now start) × ((trim (p .n) (now start) ≡ now start) × Sides 1000 (now r)) ⌝ }
+    ensures { λ s. ⌜ stepped (p .n) (now (start .entry)) (now (r .exit)) s ≡ rounds (b .limited) (b .allowance) (machineOf p (now (sheet .entry))) (now (start .entry)) k 8 (now (start .entry)) count ⌝ }
+    ensures { λ s. ⌜ (trim (p .n) (now (e .exit)) ≡ now (e .exit)) × Sides 1000 (now (r .exit)) ⌝ }
 {
     let mut c = count;
     let mut left: usize = 8;
@@ -85,7 +85,7 @@ fn rounds(
         if is_out(b, c) {
             return Stepped::Out { count: c };
         }
-        let settled = round(p, sheet, start, k, end);
+        let settled = round(p, sheet, start, k, e, r);
         c += 1;
         if settled {
             return Stepped::Settled { ticks: k, count: c };
@@ -95,8 +95,8 @@ fn rounds(
     Stepped::Unsettled { count: c }
 }
 
-// A step of at most `width` ticks from `start`, after `count` rounds. `end` is `start` at first; where the step settles, it
-// becomes the end box.
+// A step of at most `width` ticks from `start`, after `count` rounds. The working box e is `start` at first; where the step
+// settles, its end box is `start` moved by the rates `r`.
 pub fn step(
     b: Budget,
     p: Plant,
@@ -104,25 +104,26 @@ pub fn step(
     start: &[i64; BOX_SIZE],
     width: usize,
     count: u32,
-    end: &mut [i64; BOX_SIZE],
+    e: &mut [i64; BOX_SIZE],
+    r: &mut [i64; BOX_SIZE],
 ) -> Stepped
     requires { ⌜ Usable (machineOf p (now sheet)) ⌝ }
     requires { ⌜ ((0 < width) × (width ≤ 1000)) × (Sides stepLimit (now start) × (count + 8 * width ≤ countLimit)) ⌝ }
-    requires { ⌜ (now end ≡ now start) × (trim (p .n) (now start) ≡ now start) ⌝ }
-    ensures { λ r. ⌜ stepped (now (end .exit)) r ≡ step (b .limited) (b .allowance) (machineOf p (now (sheet .entry))) (now (start .entry)) width count ⌝ }
-    ensures { λ r. ⌜ trim (p .n) (now (end .exit)) ≡ now (end .exit) ⌝ }
+    requires { ⌜ (now e ≡ now start) × ((trim (p .n) (now start) ≡ now start) × Sides 1000 (now r)) ⌝ }
+    ensures { λ s. ⌜ stepped (p .n) (now (start .entry)) (now (r .exit)) s ≡ step (b .limited) (b .allowance) (machineOf p (now (sheet .entry))) (now (start .entry)) width count ⌝ }
+    ensures { λ s. ⌜ (trim (p .n) (now (e .exit)) ≡ now (e .exit)) × Sides 1000 (now (r .exit)) ⌝ }
 {
     let mut k = width;
     let mut c = count;
     loop {
-        let r = rounds(b, p, sheet, start, k, c, end);
-        let Stepped::Unsettled { count: d } = r else {
-            return r;
+        let s = rounds(b, p, sheet, start, k, c, e, r);
+        let Stepped::Unsettled { count: d } = s else {
+            return s;
         };
         if k <= 1 {
-            return r;
+            return s;
         }
-        *end = *start;
+        *e = *start;
         k = k / 2;
         c = d;
     }

@@ -1,12 +1,13 @@
 // A walk over many ticks: steps in a row, each swept box tested.
 ghost use mathlib.Core.Path.{_≡_};
+ghost use mathlib.Core.Bool.{true};
 ghost use Prim.Native.Nat.{_+_, _*_, _≤_, _<_, min};
 ghost use Rattle.layout.specs.Slots as slots;
 ghost use Rattle.machine.specs.Box as spec;
 ghost use Rattle.arithmetic.specs.Limits.{Sides};
 ghost use Rattle.rates.specs.Plant.{Usable, machineOf};
 ghost use Rattle.lifting.specs.Reach.{clear, leg, reach};
-ghost use Rattle.boxes.specs.Code.{countLimit, legged, stepLimit, walkLimit, walked};
+ghost use Rattle.boxes.specs.Code.{countLimit, ended, legged, stepLimit, walkLimit, walked};
 use crate::step::Budget;
 use crate::step::Stepped;
 use crate::step::step;
@@ -35,8 +36,8 @@ fn smaller(a: usize, b: usize) -> usize
     if a < b { a } else { b }
 }
 
-// A step from `at` with `left` ticks left, and the test of its swept box against the first `boxes` no-go boxes. `end` is `at`
-// at first; both become the end box, and `swept` the swept box.
+// A step from `at` with `left` ticks left, and the test of its swept box against the first `boxes` no-go boxes. The working box
+// e is `at` at first. Where the step settles, `at` and e become its end box, and `swept` its swept box.
 fn leg(
     b: Budget,
     p: Plant,
@@ -46,20 +47,21 @@ fn leg(
     left: usize,
     count: u32,
     at: &mut [i64; BOX_SIZE],
-    end: &mut [i64; BOX_SIZE],
+    e: &mut [i64; BOX_SIZE],
     swept: &mut [i64; BOX_SIZE],
 ) -> Walked
     requires { ⌜ Usable (machineOf p (now sheet)) × (boxes ≤ slots.maxBoxes) ⌝ }
     requires { ⌜ ((0 < width) × (width ≤ 1000)) × ((0 < left) × (Sides stepLimit (now at) × (count + 8 * width ≤ countLimit))) ⌝ }
-    requires { ⌜ (now end ≡ now at) × ((spec.trim (p .n) (now at) ≡ now at) × (spec.trim (p .n) (now swept) ≡ now swept)) ⌝ }
-    ensures { λ r. ⌜ legged (now (end .exit)) (now (swept .exit)) r ≡ leg (b .limited) (b .allowance) (machineOf p (now (sheet .entry))) (clear (p .n) (now (sheet .entry)) boxes) width (now (at .entry)) left count ⌝ }
-    ensures { λ r. ⌜ now (swept .exit) ≡ spec.hull (p .n) (now (at .entry)) (now (end .exit)) ⌝ }
-    ensures { λ r. ⌜ (now (at .exit) ≡ now (end .exit)) × (spec.trim (p .n) (now (end .exit)) ≡ now (end .exit)) ⌝ }
+    requires { ⌜ (now e ≡ now at) × ((spec.trim (p .n) (now at) ≡ now at) × (spec.trim (p .n) (now swept) ≡ now swept)) ⌝ }
+    ensures { λ r. ⌜ legged (now (at .exit)) (now (swept .exit)) r ≡ leg (b .limited) (b .allowance) (machineOf p (now (sheet .entry))) (clear (p .n) (now (sheet .entry)) boxes) width (now (at .entry)) left count ⌝ }
+    ensures { λ r. ⌜ (ended r ≡ true → (now (e .exit) ≡ now (at .exit)) × (now (swept .exit) ≡ spec.hull (p .n) (now (at .entry)) (now (at .exit)))) ⌝ }
+    ensures { λ r. ⌜ spec.trim (p .n) (now (at .exit)) ≡ now (at .exit) ⌝ }
 {
-    let r = step(b, p, sheet, at, smaller(width, left), count, end);
-    arrive(p.n, end, at, swept);
+    let mut rates: [i64; BOX_SIZE] = [0; BOX_SIZE];
+    let r = step(b, p, sheet, at, smaller(width, left), count, e, &mut rates);
     match r {
         Stepped::Settled { ticks, count: c } => {
+            arrive(p.n, ticks, &rates, e, at, swept);
             if meets_unsafe(p.n, swept, sheet, boxes) {
                 return Walked::Unsafe {
                     left: left,

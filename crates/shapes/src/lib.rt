@@ -58,27 +58,6 @@ fn along(a: i64, k: usize, rate: i64) -> i64
     a + (k as i64) * rate
 }
 
-// `out` becomes a with each face moved by k of its rates.
-pub fn moved(
-    n: usize,
-    a: &[i64; BOX_SIZE],
-    k: usize,
-    rates: &[i64; BOX_SIZE],
-    out: &mut [i64; BOX_SIZE],
-)
-    requires { ⌜ (n ≤ slots.N) × (k ≤ 1000) ⌝ }
-    requires { ⌜ Sides limit (now a) × (Sides 1000 (now rates) × (trim n (now out) ≡ now out)) ⌝ }
-    ensures { λ _. ⌜ now (out .exit) ≡ moved n (now (a .entry)) k (now (rates .entry)) ⌝ }
-{
-    let mut i: usize = 0;
-    while i < n {
-        let h = i + N;
-        out[i] = along(a[i], k, rates[i]);
-        out[h] = along(a[h], k, rates[h]);
-        i += 1;
-    }
-}
-
 // Whether the hull of a and of a moved by k rates lies in e, which becomes the hull of both.
 pub fn grow(
     n: usize,
@@ -106,19 +85,33 @@ pub fn grow(
     inside
 }
 
-// `path` becomes the hull of `at` and e, and `at` becomes e.
-pub fn arrive(n: usize, e: &[i64; BOX_SIZE], at: &mut [i64; BOX_SIZE], path: &mut [i64; BOX_SIZE])
-    requires { ⌜ (n ≤ slots.N) × ((trim n (now e) ≡ now e) × ((trim n (now at) ≡ now at) × (trim n (now path) ≡ now path))) ⌝ }
-    ensures { λ _. ⌜ now (at .exit) ≡ now (e .entry) ⌝ }
-    ensures { λ _. ⌜ now (path .exit) ≡ hull n (now (at .entry)) (now (e .entry)) ⌝ }
+// `at` moves on by k of its rates, e becomes the same box, and `path` the hull of both ends.
+pub fn arrive(
+    n: usize,
+    k: usize,
+    rates: &[i64; BOX_SIZE],
+    e: &mut [i64; BOX_SIZE],
+    at: &mut [i64; BOX_SIZE],
+    path: &mut [i64; BOX_SIZE],
+)
+    requires { ⌜ (n ≤ slots.N) × (k ≤ 1000) ⌝ }
+    requires { ⌜ Sides limit (now at) × Sides 1000 (now rates) ⌝ }
+    requires { ⌜ (trim n (now e) ≡ now e) × ((trim n (now at) ≡ now at) × (trim n (now path) ≡ now path)) ⌝ }
+    ensures { λ _. ⌜ now (at .exit) ≡ moved n (now (at .entry)) k (now (rates .entry)) ⌝ }
+    ensures { λ _. ⌜ now (e .exit) ≡ now (at .exit) ⌝ }
+    ensures { λ _. ⌜ now (path .exit) ≡ hull n (now (at .entry)) (now (at .exit)) ⌝ }
 {
     let mut i: usize = 0;
     while i < n {
         let h = i + N;
-        path[i] = min(at[i], e[i]);
-        path[h] = max(at[h], e[h]);
-        at[i] = e[i];
-        at[h] = e[h];
+        let low = along(at[i], k, rates[i]);
+        let high = along(at[h], k, rates[h]);
+        path[i] = min(at[i], low);
+        path[h] = max(at[h], high);
+        at[i] = low;
+        at[h] = high;
+        e[i] = low;
+        e[h] = high;
         i += 1;
     }
 }

@@ -1,5 +1,5 @@
 -- `walk` does what the definition's reach does. Assumes nothing.
-use mathlib.Core.Path.{_≡_, refl, sym, ap, _∙_}
+use mathlib.Core.Path.{_≡_, refl, ap}
 use mathlib.Core.Logic.{⊎-elim}
 use mathlib.Core.List.{List}
 use Prim.Native.Nat.{ℕ, _≤_, _-_, _+_, _*_}
@@ -11,10 +11,10 @@ use Rattle.machine.specs.Box.{hull, trim}
 use Rattle.arithmetic.specs.Limits.{Sides}
 use Rattle.rates.specs.Plant.{machineOf}
 use Rattle.rates.proofs.Sides.{wider}
-use Rattle.lifting.specs.Reach.{clear, leg}
-use Rattle.boxes.specs.Code.{walkLimit, legged}
+use Rattle.lifting.specs.Reach.{clear}
+use Rattle.boxes.specs.Code.{walkLimit, ended}
 use Rattle.boxes.proofs.CodeBounds.{Covers, leg-covers}
-use Rattle.boxes.proofs.CodeTurns.{trim-as, trim-as-hull, Walking, walking-starts, walking-ends, walking-stops, walking-on}
+use Rattle.boxes.proofs.CodeTurns.{trim-as-hull, Walking, walking-starts, walking-ends, walking-stops, walking-on}
 use Rattle.boxes.proofs.walk.Walked.{the-type}
 use Rattle.boxes.proofs.walk.walk.Statement.{statement}
 use Rattle.boxes.proofs.walk.walk.Tie as tie
@@ -43,14 +43,7 @@ module _ (g : tie.After-leg Inv-loop μ-loop) where
   P = g .leg .last .1 .1 .1 .1 .1 .1 .1 .1 .1 .0
 
   trimmed : trim (s .args .p .n) E ≡ E
-  trimmed = let e = g .leg .ensures .1 .1 in trim-as (s .args .p .n) (e .0) (e .1)
-
-  legged-is : legged E P (g .leg .result)
-      ≡ leg (s .args .b .limited) (s .args .b .allowance) (machineOf (s .args .p) (s .args .sheet .now)) (clear (s .args .p .n) (s .args .sheet .now) (s .args .boxes)) (s .args .width) (d .loop .end) (d .loop .left) (d .loop .c)
-  legged-is = ap (λ (F : List ℤ). legged F P (g .leg .result)) (g .leg .ensures .1 .1 .0) ∙ g .leg .ensures .0
-
-  swept-is : P ≡ hull (s .args .p .n) (d .loop .end) E
-  swept-is = g .leg .ensures .1 .0 ∙ ap (hull (s .args .p .n) (d .loop .end)) (sym (g .leg .ensures .1 .1 .0))
+  trimmed = g .leg .ensures .1 .1
 
 -- behind a leg that ended
 module _ (c : tie.After-join Inv-loop μ-loop) where
@@ -59,6 +52,11 @@ module _ (c : tie.After-join Inv-loop μ-loop) where
 
   abbrev came : tie.After-leg Inv-loop μ-loop
   came = k .before .before
+
+  -- where the leg arrived
+  arrived : (came .leg .last .1 .1 .1 .1 .1 .1 .1 .1 .0 ≡ E came) × (P came ≡ hull (s came .args .p .n) (d came .loop .end) (E came))
+  unfolding ended
+  arrived = came .leg .ensures .1 .0 (ap ended (k .r .given .1))
 
   -- the ticks it covers, the count behind it
   abbrev t : ℕ
@@ -71,7 +69,7 @@ module _ (c : tie.After-join Inv-loop μ-loop) where
   covers =
       let p = s came .pre in
       let v = d came .loop .inv .1 .1 in
-      leg-covers (v .1) (p .0 .0) (p .1 .0 .0 .0) (p .1 .0 .0 .1) (v .0) (omega arith) (came .leg .result) _ (P came) (legged-is came) t i (k .r .given .1)
+      leg-covers (v .1) (p .0 .0) (p .1 .0 .0 .0) (p .1 .0 .0 .1) (v .0) (omega arith) (came .leg .result) _ (P came) (came .leg .ensures .0) t i (k .r .given .1)
 
 loop-holds : tie.Need-loop-holds Inv-loop μ-loop
 loop-holds c =
@@ -114,10 +112,10 @@ loop-again c =
     let v = d g .loop .inv in (
       (omega (arith, v .0), omega (arith, v .0, n .1, n .0 .some, n .0 .most)),
       (
-        (sym (g .leg .ensures .1 .1 .0), (trimmed g, (trim-as-hull m (d g .loop .swept) (P g) room (c .join .ensures), trim-as-hull m (d g .loop .end) (E g) room (swept-is g)))),
+        (arrived c .0, (trimmed g, (trim-as-hull m (d g .loop .swept) (P g) room (c .join .ensures), trim-as-hull m (d g .loop .end) (E g) room (arrived c .1)))),
         (
           wider (omega (arith, n .0 .some, n .0 .most, v .0)) (n .0 .sides),
-          walking-on (v .1 .1 .1) (g .leg .result) _ (P g) (omega arith) (legged-is g) (t c) (i c) (k c .r .given .1) (n .0 .some) (n .0 .most) (swept-is g) _ (c .join .ensures),
+          walking-on (v .1 .1 .1) (g .leg .result) _ (P g) (omega arith) (g .leg .ensures .0) (t c) (i c) (k c .r .given .1) (n .0 .some) (n .0 .most) (arrived c .1) _ (c .join .ensures),
         ),
       ),
     )
