@@ -70,11 +70,14 @@ fn after(x: u8, v: &[i32; SLOTS], slot: usize, least: i64, greatest: i64, cause:
     requires { ⌜ slot < slots ⌝ }
     ensures { λ r. ⌜ ((p : Field) → p .slot ≡ slot → p .least (now (v .entry)) ≡ least → p .greatest (now (v .entry)) ≡ greatest → number (p .cause) ≡ cause → r ≡ orElse x (test (now (v .entry)) p)) ⌝ }
 {
-    let z = value(v, slot);
-    if least <= z && z <= greatest {
+    if x != 0 {
         return x;
     }
-    first(x, cause)
+    let z = value(v, slot);
+    if least <= z && z <= greatest {
+        return 0;
+    }
+    cause
 }
 
 // The head's numbers but for the caps.

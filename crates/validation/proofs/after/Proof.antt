@@ -1,6 +1,7 @@
 -- `after`: an earlier refusal, or the test of a field. Assumes nothing.
 use mathlib.Core.Logic.{⊎-elim}
-use mathlib.Core.Path.{_∙_, _≡_, ap, sym}
+use mathlib.Core.Path.{_∙_, _≡_, ap, refl, sym}
+use Prim.Native.Nat.{ℕ}
 use lib.IntN.{ℤ}
 use lib.Signed.{_<ℤ_, _≤ℤ_}
 use mir.Syntax.{w64}
@@ -9,7 +10,7 @@ use borrow.Author.Needs.{needs}
 use Rattle.integers.proofs.Twos.{high, low}
 use Rattle.integers.proofs.Z.{ints}
 use Rattle.integers.specs.Bound.{p}
-use Rattle.layout.proofs.CodeFields.{orElse-none}
+use Rattle.layout.proofs.CodeFields.{orElse-some}
 use Rattle.layout.proofs.Laws.{test-high, test-low, test-passed}
 use Rattle.layout.specs.Fields.{Field, test}
 use Rattle.layout.specs.Refusals.{number}
@@ -32,24 +33,30 @@ module _ (c : tie.Start) (p : Field) (s : p .slot ≡ c .args .slot) (l : p .lea
   inside : c .args .least ≤ℤ z → z ≤ℤ c .args .greatest → 0 ≡ test (c .args .v .now) p
   inside a b = test-passed _ p (record { low = rw (s, l) a; high = rw (s, g) b })
 
+returns : tie.Need-returns
+returns c = λ p s l g k. orElse-some (c .before .args .x) _ (c .if1 .taken)
+
 value-requires : tie.Need-value-requires
 value-requires c κs = search needs
 
-returns : tie.Need-returns
-returns c = let d = c .before .before in
-    let f : SFits w64 (d .value .result) = search needs in
-    let e = d .value .ensures .0 in
-    λ p s l g k. orElse-none (d .before .args .x) ∙ ap (orElse (d .before .args .x)) (inside (d .before) p s l g (omega ints) (omega ints))
-
-first-requires : tie.Need-first-requires
-first-requires c κs = search needs
+-- an earlier refusal is not there
+none : (c : tie.Start) → c .args .x ≡ 0 → (y : ℕ) → y ≡ orElse (c .args .x) y
+none c e y = rw e refl
 
 returns-2 : tie.Need-returns-2
 returns-2 c = let d = c .before .before in
     let f : SFits w64 (d .value .result) = search needs in
     let e = d .value .ensures .0 in
-    λ p s l g k. c .first .ensures ∙ ap (orElse (d .before .args .x))
-    (sym k ∙ ⊎-elim (λ w. above (d .before) p s l g (omega ints) (omega ints)) (λ w. below (d .before) p s l g (omega ints)) (c .before .if1 .came))
+    let b = d .before .before in
+    λ p s l g k. none b (d .before .if1 .left) 0 ∙ ap (orElse (b .args .x)) (inside b p s l g (omega ints) (omega ints))
+
+returns-3 : tie.Need-returns-3
+returns-3 c = let d = c .before in
+    let f : SFits w64 (d .value .result) = search needs in
+    let e = d .value .ensures .0 in
+    let b = d .before .before in
+    λ p s l g k. none b (d .before .if1 .left) _ ∙ ap (orElse (b .args .x))
+    (sym k ∙ ⊎-elim (λ w. above b p s l g (omega ints) (omega ints)) (λ w. below b p s l g (omega ints)) (c .if2 .came))
 
 pub after-spec : {M : Type 1} → statement M
-after-spec = tie.close (tie.spec value-requires returns first-requires returns-2)
+after-spec = tie.close (tie.spec returns value-requires returns-2 returns-3)
