@@ -2,8 +2,9 @@
 // positive ones, rounded outward and clamped (document 01, "The machine on a sheet"). The definitions are in
 // integers/specs/Division, machine/specs/Machine and machine/specs/Rate.
 ghost use mathlib.Core.Path.{_≡_};
+ghost use mathlib.Core.Bool.{_&&_};
 ghost use lib.IntN.{pos, natAbs, negℤ};
-ghost use lib.Signed.{_≤ℤ_};
+ghost use lib.Signed.{_≤ℤ_, leZ};
 ghost use Rattle.integers.specs.Order.{minZ, maxZ};
 ghost use Rattle.integers.specs.Bound.{Bound};
 ghost use Rattle.integers.specs.Division.{ceilDiv, floorDiv};
@@ -58,4 +59,11 @@ pub fn highest(cap: i64, n: i64, q: i64, z: i64) -> i64
     ensures { λ r. ⌜ r ≡ maxZ z (clamp cap (ceilDiv n (natAbs q))) ⌝ }
 {
     -lowest(cap, -n, q, -z)
+}
+
+// Both of two tests.
+pub fn both_le(a: i64, b: i64, c: i64, d: i64) -> bool
+    ensures { λ r. ⌜ r ≡ (leZ a b && leZ c d) ⌝ }
+{
+    if a <= b { c <= d } else { false }
 }

@@ -1,3 +1,1 @@
-pub mod CodeTurns
-pub mod CodeBounds
-pub mod CodeRefusals
+mod CodeReach

@@ -1,46 +1,20 @@
-// The lifted step and the reach (document 01, "One lifted step"), over the rates of the crate below. `step` has the round
-// and the step, `walk` the steps in a row that reach, recovery check and decision are made of, and `reach` is the public
-// operation. Boxes and the sheet's value are lent.
+// The reach (document 01, "One lifted step"): the boxes that hold every state that the machine can reach in so many ticks from
+// a start box, under a law. `reach` is the public operation on any bytes. The definitions are in lifting/specs/Reach.
+// What may be asked is tested in `refusals`.
 ghost use mathlib.Core.Path.{_≡_};
 ghost use Rattle.layout.specs.Valid.{Valid};
-ghost use Rattle.machine.specs.Machine.{machine};
-ghost use Rattle.rates.specs.Plant.{lawOf, machineOf};
+ghost use Rattle.rates.specs.Plant.{lawOf};
 ghost use Rattle.lifting.specs.Reach as spec;
 ghost use Rattle.boxes.specs.Code.{answered};
-
-pub mod refusals;
-pub mod step;
-pub mod walk;
-
-use crate::refusals::reach_refusal;
-use crate::step::Budget;
-use crate::walk::Walked;
-use crate::walk::walk;
-use layout::slots::BAND_VAR;
-use layout::slots::BANDS;
 use layout::slots::BOX_SIZE;
 use layout::slots::SLOTS;
-use layout::slots::VARS;
-use rates::Plant;
+use refusals::reach_refusal;
 use shapes::trim;
 use sheet::read_into;
-
-// The machine of an accepted sheet's value under a law: the baseline, or else one command.
-pub fn plant(sheet: &[i32; SLOTS], baseline: bool, command: i32) -> Plant
-    requires { ⌜ Valid (now sheet) ⌝ }
-    ensures { λ r. ⌜ machineOf r (now (sheet .entry)) ≡ machine (now (sheet .entry)) (lawOf baseline command) ⌝ }
-{
-    let n = sheet[VARS] as usize;
-    let bands = sheet[BANDS] as usize;
-    let var = sheet[BAND_VAR] as usize;
-    Plant {
-        n: n,
-        bands: bands,
-        var: var,
-        baseline: baseline,
-        command: command,
-    }
-}
+use step::Budget;
+use walk::Walked;
+use walk::plant;
+use walk::walk;
 
 // A refusal number, or 0 with the two boxes and the rounds.
 pub struct ReachAnswer {

@@ -9,7 +9,7 @@ use Rattle.layout.specs.Slots.{δ, α, ρ, recoveryBox}
 use Rattle.lifting.specs.Step.{andThen}
 use Rattle.lifting.specs.Reach.{reach, walk}
 use Rattle.safety.specs.Decision.{follow, attempt, Reply, refused, tries, decisionPhases, decisionOf, recoveryPhases, recoveryOf, unless}
-use Rattle.decision.specs.Code.{attemptOf}
+use Rattle.attempts.specs.Code.{attemptOf}
 
 -- ---- refusals
 

@@ -18,7 +18,7 @@ use Rattle.machine.specs.Box.{lo, hi, sides, trim}
 use Rattle.arithmetic.specs.Limits.{Sides}
 use Rattle.machine.proofs.Box.{sides-length, sides-lo, sides-hi, box-lo, box-hi}
 use Rattle.rates.proofs.Sides.{sides-bound}
-use Rattle.decision.specs.Code.{startLimit}
+use Rattle.attempts.specs.Code.{startLimit}
 
 -- ---- nothing beyond the variables
 

@@ -1,4 +1,2 @@
-mod CodeQuestion
-mod CodeAttempts
 mod CodeRecovery
 mod CodeAnswers

@@ -1,21 +1,20 @@
-// The decision and the recovery check (document 01, "The decision") on any bytes. `question` reads a question, `attempts`
-// tries ever smaller widths. What they answer is equal to the definitions in safety/specs/Decision.antt; safety/specs/Run.antt
-// says what these are for, that every run of the machine is safe.
+// The decision and the recovery check (document 01, "The decision") on any bytes. What they answer is equal to the definitions
+// in safety/specs/Decision.antt; safety/specs/Run.antt says what these are for, that every run of the machine is safe. The
+// attempts at ever smaller widths are in `attempts`, a question's bytes in `question`.
 ghost use mathlib.Core.Path.{_≡_};
-ghost use Prim.Native.Nat.{ℕ, _≤_, max};
+ghost use Prim.Native.Nat.{_≤_, max};
 ghost use Rattle.layout.specs.Slots.{recoveryBox, vars};
 ghost use Rattle.layout.specs.Valid.{Valid};
 ghost use Rattle.machine.specs.Box.{trim};
 ghost use Rattle.safety.specs.Question.{allowanceOf};
-ghost use Rattle.safety.specs.Decision.{answered, checkRecovery, decide, recoveryOf, roundsOf, spent};
-ghost use Rattle.decision.specs.Code.{checked, decided, decisionOn};
-
-mod attempts;
-pub mod question;
-
+ghost use Rattle.safety.specs.Decision.{checkRecovery, decide, recoveryOf, roundsOf};
+ghost use Rattle.answers.specs.Code.{checked, decided};
+ghost use Rattle.decision.specs.Code.{decisionOn};
+use answers::Decision;
+use answers::Recovery;
+use answers::recovery_of;
 use attempts::Trial;
 use attempts::tries;
-use boxes::step::Budget;
 use layout::count;
 use layout::slots::ALPHA;
 use layout::slots::DELTA;
@@ -25,21 +24,7 @@ use layout::slots::SLOTS;
 use layout::slots::VARS;
 use shapes::box_at;
 use sheet::read_into;
-
-// A decision: a verdict with the width and the rounds over all widths, or the number of a refusal.
-pub enum Decision {
-    Keep { width: u32, rounds: u32 },
-    Finest { width: u32, rounds: u32 },
-    Spent { width: u32, rounds: u32 },
-    Refused { number: u8 },
-}
-
-// A recovery check's answer, likewise.
-pub enum Recovery {
-    Pass { width: u32, rounds: u32 },
-    Fail { width: u32, rounds: u32 },
-    Refused { number: u8 },
-}
+use step::Budget;
 
 fn larger(a: usize, b: usize) -> usize
     ensures { λ r. ⌜ r ≡ max a b ⌝ }
@@ -84,28 +69,6 @@ pub fn decide(sheet: &[u8], question: &[u8]) -> Decision
         return Decision::Refused { number: refusal };
     }
     decide_on(&v, question)
-}
-
-// A verdict that is not spent, as a recovery check's answer.
-fn recovery_of(d: Decision) -> Recovery
-    requires { ⌜ ((w c : ℕ) → decided d ≡ answered spent w c → ⊥) ⌝ }
-    ensures { λ r. ⌜ checked r ≡ decided d ⌝ }
-{
-    match d {
-        Decision::Keep { width, rounds } => Recovery::Pass {
-            width: width,
-            rounds: rounds,
-        },
-        Decision::Finest { width, rounds } => Recovery::Fail {
-            width: width,
-            rounds: rounds,
-        },
-        Decision::Spent { width, rounds } => Recovery::Fail {
-            width: width,
-            rounds: rounds,
-        },
-        Decision::Refused { number } => Recovery::Refused { number: number },
-    }
 }
 
 // The recovery check of an accepted sheet's value.

@@ -5,10 +5,11 @@ ghost use lib.ListN.{length};
 ghost use Rattle.io.specs.Counts.{Counts};
 ghost use Rattle.layout.specs.Slots.{N};
 ghost use Rattle.safety.specs.Question.{questionLength};
-ghost use Rattle.listing.specs.Text.{lineRoom, longest};
+ghost use Rattle.text.specs.Text.{lineRoom};
+ghost use Rattle.listing.specs.Longest.{longest};
 use libc::STDOUT_FILENO;
 use listing::QUESTION;
-use listing::text::LINE;
+use text::LINE;
 
 // Reads the sheet's file, as much of it as there is room for, and answers how many bytes. What cannot be opened or read has
 // none. With more room than the longest sheet takes, nothing more of the file counts.

@@ -9,6 +9,7 @@ use lib.Dec.{eqb}
 use lib.IntN.{ℤ, pos}
 use lib.ListN.{length, length-append, List·getD-append}
 use lib.Seq.{sets, sets-eq}
+use Rattle.integers.proofs.Lists.{sets-append}
 use Rattle.layout.specs.Slots.{_!_, vars}
 use Rattle.layout.specs.Fields.{i32, encoded}
 use Rattle.layout.specs.Sheet.{refusal, values}
@@ -24,9 +25,11 @@ use Rattle.lifting.specs.Reach.{Reached, reach, clear, ticksRefusal, lawRefusal
 use Rattle.lifting.proofs.Stages.{Takes, value, failure, spent}
 use Rattle.lifting.proofs.Settled.{Settled, Place, start, Walks, here, next, Ends, reach-takes}
 use Rattle.lifting.proofs.Count.{ticks-width}
-use Rattle.boxes.proofs.CodeRefusals.{or-none, sides-near, if-refused, if-accepted}
-use Rattle.guard.specs.Calls.{numberBytes, startBox, sidesOf, reachAnswer}
-use Rattle.guard.proofs.CodeNumbers.{sets-append, sides-length}
+use Rattle.lifting.proofs.Refusals.{or-none, if-refused, if-accepted}
+use Rattle.refusals.proofs.CodeSides.{sides-near}
+use Rattle.numbers.specs.Numbers.{numberBytes, sidesOf}
+use Rattle.guard.specs.Calls.{startBox, reachAnswer}
+use Rattle.numbers.proofs.CodeNumbers.{sides-length}
 
 -- ---- sides
 

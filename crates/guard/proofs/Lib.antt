@@ -1,3 +1,1 @@
-mod Answers
-mod CodeNumbers
 mod CodeReach

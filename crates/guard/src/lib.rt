@@ -1,24 +1,19 @@
 // The C interface (include/guard.h) and nothing else: wrappers around the crates below, each answer one 64-bit number.
 // specs/Calls.antt says what a call answers and what it leaves in a lent buffer; no call has a `requires`. The first three
-// are the drive's; `numbers` has the form in which the others take and give a sheet's numbers and boxes.
+// are the drive's; the crate `numbers` has the form in which the others take and give a sheet's numbers and boxes.
 ghost use mathlib.Core.Path.{_≡_};
-ghost use Prim.Native.Nat.{_+_, _*_, _^_, _≤_};
-ghost use Rattle.safety.specs.Decision.{packed, refused, widthOf};
-ghost use Rattle.decision.specs.Code.{checked, decided};
+ghost use Prim.Native.Nat.{_≤_};
 ghost use Rattle.layout.specs.Slots as slots;
 ghost use Rattle.arithmetic.specs.Limits.{Sides};
 ghost use Rattle.boxes.specs.Code.{answered};
 ghost use Rattle.guard.specs.Calls.{decideCall, reachCall, reachOut, reachedCall, reachedOut, readCall, readOut, recoveryCall, sheetCall, startBox, writeCall, writeOut};
-
-mod numbers;
-
+use answers::as_decision;
+use answers::pack_decision;
+use answers::pack_refusal;
 use boxes::ReachAnswer;
 use boxes::reach_of;
-use decision::Decision;
-use decision::Recovery;
 use decision::check_recovery;
 use decision::decide;
-use decision::question::pairs;
 use layout::count;
 use layout::refusals::ROOM;
 use layout::sizes::I32;
@@ -28,64 +23,14 @@ use layout::slots::VARS;
 use numbers::get_numbers;
 use numbers::put_numbers;
 use numbers::put_sides;
+use question::pairs;
 use sheet::read_into;
 use sheet::write;
-
-// The codes of an answer.
-const KEEP: u64 = 0;
-
-const FINEST: u64 = 1;
-
-const SPENT: u64 = 2;
-
-const REFUSED: u64 = 3;
 
 // The bytes of a pair of sides, and of a sheet's numbers.
 const PAIR: usize = 2 * I32;
 
 const NUMBERS_SIZE: usize = I32 * SLOTS;
-
-fn pack(code: u64, width: u32, rounds: u32) -> u64
-    requires { ⌜ (code ≤ 3) × (width ≤ 1000) ⌝ }
-    ensures { λ r. ⌜ r ≡ code * 2 ^ 48 + width * 2 ^ 32 + rounds ⌝ }
-{
-    code * 0x1_0000_0000_0000 + (width as u64) * 0x1_0000_0000 + (rounds as u64)
-}
-
-fn pack_refusal(number: u8) -> u64
-    ensures { λ r. ⌜ r ≡ packed (refused number) ⌝ }
-{
-    pack(REFUSED, number as u32, 0)
-}
-
-fn pack_decision(d: Decision) -> u64
-    requires { ⌜ widthOf (decided d) ≤ 1000 ⌝ }
-    ensures { λ r. ⌜ r ≡ packed (decided d) ⌝ }
-{
-    match d {
-        Decision::Keep { width, rounds } => pack(KEEP, width, rounds),
-        Decision::Finest { width, rounds } => pack(FINEST, width, rounds),
-        Decision::Spent { width, rounds } => pack(SPENT, width, rounds),
-        Decision::Refused { number } => pack_refusal(number),
-    }
-}
-
-// A recovery check's answer with the codes of a decision.
-fn as_decision(r: Recovery) -> Decision
-    ensures { λ d. ⌜ decided d ≡ checked r ⌝ }
-{
-    match r {
-        Recovery::Pass { width, rounds } => Decision::Keep {
-            width: width,
-            rounds: rounds,
-        },
-        Recovery::Fail { width, rounds } => Decision::Finest {
-            width: width,
-            rounds: rounds,
-        },
-        Recovery::Refused { number } => Decision::Refused { number: number },
-    }
-}
 
 #[no_mangle]
 pub extern "C" fn guard_sheet(sheet: &[u8]) -> u64

@@ -3,4 +3,5 @@ pub mod Division
 pub mod Bytes
 pub mod Twos
 pub mod Lists
+pub mod Tests
 mod Goals

@@ -26,7 +26,7 @@ use Rattle.safety.specs.Question.{questionLength}
 use Rattle.safety.specs.Decision.{Reply, recoveryOf, unless, checkRecovery}
 use Rattle.safety.specs.Run.{isKeep}
 use Rattle.safety.specs.Listing.{_␣_, newline, sheetWord, checkWord, replyText, sheetLine, questionLines, listing}
-use Rattle.listing.specs.Text.{longest}
+use Rattle.listing.specs.Longest.{longest}
 
 -- the length grows with the counts
 grows : {n m b c g k : ℕ} → n ≤ m → b ≤ c → g ≤ k

@@ -1,5 +1,6 @@
 pub mod Everything
 pub mod Box
+pub mod InPlace
 pub mod Face
 pub mod Inside
 pub mod Neighborhood

@@ -1,41 +1,23 @@
 -- Laws about bands, laws and rates. Assumes nothing.
-use mathlib.Core.Path.{_≡_, refl, ap, _∙_}
+use mathlib.Core.Path.{_≡_, refl}
 use mathlib.Core.Bool.{Bool, true, false, cond}
 use mathlib.Core.List.{List}
-use Prim.Native.Nat.{ℕ, _+_, _^_, _≤_, _<_}
+use Prim.Native.Nat.{ℕ, _+_, _≤_, _<_}
 use native.Mathlib.Numerals.{add-one}
 use native.Mathlib.Omega.{arith}
 use lib.IntN.{ℤ}
-use lib.Signed.{mag, ltZ, _≤ℤ_, _<ℤ_}
-use mir.Syntax.{w32, w64}
-use mir.Val.{hbits, toZ, ofZ}
-use borrow.Author.Needs.{sfits-of}
+use lib.Signed.{ltZ, _≤ℤ_, _<ℤ_}
 use borrow.Author.Tests.{le-leb, lt-leb}
-use Rattle.integers.specs.Bound.{Bound}
-use Rattle.integers.proofs.Z.{bound-of}
-use Rattle.layout.specs.Slots.{_!_, N, edge, safetyLeast, safetyGreatest}
+use Rattle.layout.specs.Slots.{edge, safetyLeast, safetyGreatest}
 use Rattle.layout.specs.Valid.{Valid}
 use Rattle.machine.specs.Machine.{Law, machine, leastOf, greatestOf, bandMeets}
 use Rattle.machine.specs.Rate.{outer, outermost}
-use Rattle.arithmetic.specs.Limits.{word}
 use Rattle.rates.specs.Plant.{Usable, lawOf}
-use Rattle.arithmetic.proofs.Numbers.{wide}
 use Rattle.machine.proofs.Box.{le-is, le-not}
 
 pub outermost-more : (up : Bool) (z : ℤ) (n : ℕ) (f : ℕ → ℤ) → outermost up z (n + 1) f ≡ outer up (outermost up z n f) (f n)
 unfolding outermost
 outermost-more up z n f = rw add-one refl
-
--- the j-th number behind a row's b, as the code reads it
-module _ (v : List ℤ) (at j : ℕ) (h : mag (v ! (at + (N + j))) < 2 ^ hbits w32) where
-  place : at + (N + j) ≡ at + N + j
-  place = omega arith
-
-  pub row-read : toZ w64 (ofZ w64 (toZ w32 (ofZ w32 (v ! (at + (N + j)))))) ≡ v ! (at + N + j)
-  row-read = wide _ h ∙ ap (λ (i : ℕ). v ! i) place
-
-  pub row-bound : Bound (v ! (at + N + j)) word
-  row-bound = rw (← place) (bound-of {w = w32} (sfits-of h))
 
 -- the law's commands in band k
 module _ (b : Bool) (u : ℤ) (v : List ℤ) (k : ℕ) where

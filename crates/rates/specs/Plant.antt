@@ -28,7 +28,3 @@ pub record Usable (m : Machine) : Type 0 where
 unfoldable pub cutAt : Bool → ℕ → ℕ
 cutAt false i = i + N
 cutAt true i = i
-
--- no number N of a row over a box that the code takes is greater
-abbrev pub rowLimit : ℕ
-rowLimit = 9000000000000000000

@@ -1,4 +1,4 @@
-// The rate at which each face of a box moves (document 01, "One lifted step"), over the boxes of `shapes`. A machine is a
+// The rate at which each face of a box moves (document 01, "One lifted step"). A machine is a
 // `Plant` beside the sheet's value, which is lent; a box is lent too. The definitions are in machine/specs/Machine and
 // machine/specs/Rate.
 pub mod rate;

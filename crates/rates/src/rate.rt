@@ -1,103 +1,31 @@
 // The rates of a box's faces. A face is `false` for a lower and `true` for an upper one.
 ghost use mathlib.Core.Path.{_≡_};
 ghost use mathlib.Core.Bool.{cond, true};
-ghost use Prim.Native.Nat.{_+_, _*_, _≤_, _<_};
-ghost use lib.IntN.{pos, negℤ, _*ℤ_};
+ghost use Prim.Native.Nat.{_≤_, _<_};
+ghost use lib.IntN.{negℤ};
 ghost use lib.Signed.{_≤ℤ_};
 ghost use Rattle.integers.specs.Bound.{Bound};
 ghost use Rattle.layout.specs.Slots as slots;
 ghost use Rattle.machine.specs.Box.{hi, lo};
-ghost use Rattle.machine.specs.Machine.{bandMeets, cap, change};
-ghost use Rattle.machine.specs.Rate.{bandRate, bound, faceRate, neighborhood, neutral, outer, rate, rates, weighted};
-ghost use Rattle.arithmetic.specs.Limits.{Sides, limit, word};
-ghost use Rattle.rates.specs.Plant.{Usable, cutAt, machineOf, rowLimit};
+ghost use Rattle.machine.specs.Machine.{bandMeets, cap};
+ghost use Rattle.machine.specs.Rate.{bandRate, faceRate, neighborhood, neutral, outer, rate, rates};
+ghost use Rattle.arithmetic.specs.Limits.{Sides, limit};
+ghost use Rattle.rates.specs.Plant.{Usable, cutAt, machineOf};
 use crate::Plant;
-use arithmetic::highest;
-use arithmetic::lowest;
 use arithmetic::max;
 use arithmetic::min;
-use arithmetic::outer;
 use layout::slots::BAND_SIZE;
 use layout::slots::BOX_SIZE;
 use layout::slots::FIRST_BAND;
 use layout::slots::FIRST_CAP;
 use layout::slots::FIRST_ROW;
 use layout::slots::N;
-use layout::slots::ROW_B;
-use layout::slots::ROW_C;
-use layout::slots::ROW_D;
-use layout::slots::ROW_Q;
 use layout::slots::ROW_SIZE;
 use layout::slots::SAFETY_GREATEST;
 use layout::slots::SAFETY_LEAST;
 use layout::slots::SLOTS;
-
-// The outer one of a·lo and a·hi.
-fn term(up: bool, a: i32, lo: i64, hi: i64) -> i64
-    requires { ⌜ Bound lo word × Bound hi word ⌝ }
-    ensures { λ r. ⌜ r ≡ outer up (a *ℤ lo) (a *ℤ hi) ⌝ }
-{
-    let y = a as i64;
-    outer(up, y * lo, y * hi)
-}
-
-// Σ aj·xj over the box, by the coefficients of the row at a slot.
-fn weighted(up: bool, n: usize, sheet: &[i32; SLOTS], at: usize, b: &[i64; BOX_SIZE]) -> i64
-    requires { ⌜ (n ≤ slots.N) × (at + slots.rowSize ≤ slots.slots) ⌝ }
-    requires { ⌜ Sides limit (now b) ⌝ }
-    ensures { λ r. ⌜ r ≡ weighted up n (slots.rowAt (now (sheet .entry)) at) (now (b .entry)) ⌝ }
-    ensures { λ r. ⌜ Bound r (slots.N * (word * limit)) ⌝ }
-{
-    let mut s: i64 = 0;
-    let mut j: usize = 0;
-    while j < n {
-        let c = at + j;
-        let h = j + N;
-        s = s + term(up, sheet[c], b[j], b[h]);
-        j += 1;
-    }
-    s
-}
-
-// The number N of the row at a slot, bounded over the box and the commands from u to v.
-fn bound(
-    up: bool,
-    n: usize,
-    sheet: &[i32; SLOTS],
-    at: usize,
-    b: &[i64; BOX_SIZE],
-    u: i32,
-    v: i32,
-) -> i64
-    requires { ⌜ (n ≤ slots.N) × (at + slots.rowSize ≤ slots.slots) ⌝ }
-    requires { ⌜ Sides limit (now b) ⌝ }
-    ensures { λ r. ⌜ r ≡ bound up n (slots.rowAt (now (sheet .entry)) at) (now (b .entry)) u v ⌝ }
-    ensures { λ r. ⌜ Bound r rowLimit ⌝ }
-{
-    let ib = at + ROW_B;
-    let ic = at + ROW_C;
-    let c = sheet[ic] as i64;
-    let s = weighted(up, n, sheet, at, b);
-    let t = term(up, sheet[ib], u as i64, v as i64);
-    s + t + c
-}
-
-// The outer one of z and of the allowed change by the row at a slot, where m is the row's number N.
-fn further(up: bool, cap: i64, sheet: &[i32; SLOTS], at: usize, m: i64, z: i64) -> i64
-    requires { ⌜ (at + slots.rowSize ≤ slots.slots) × (pos 1 ≤ℤ slots.rowAt (now sheet) at .q) ⌝ }
-    requires { ⌜ (Bound cap 1000 × Bound m rowLimit) × ((negℤ cap ≤ℤ z) × (z ≤ℤ cap)) ⌝ }
-    ensures { λ r. ⌜ r ≡ outer up z (change up cap (slots.rowAt (now (sheet .entry)) at) m) ⌝ }
-{
-    let id = at + ROW_D;
-    let iq = at + ROW_Q;
-    let d = sheet[id] as i64;
-    let q = sheet[iq] as i64;
-    if up {
-        highest(cap, m + d, q, z)
-    } else {
-        lowest(cap, m - d, q, z)
-    }
-}
+use rows::bound;
+use rows::further;
 
 // Band k has a number from l to h.
 fn band_meets(sheet: &[i32; SLOTS], bands: usize, k: usize, l: i64, h: i64) -> bool

@@ -7,7 +7,7 @@ use Rattle.layout.specs.Valid.{Valid}
 use Rattle.layout.proofs.Valid.{valid}
 use Rattle.rates.specs.Plant.{lawOf}
 use Rattle.lifting.specs.Reach.{reachOf, reachFile}
-use Rattle.boxes.proofs.CodeRefusals.{if-refused, if-accepted}
+use Rattle.lifting.proofs.Refusals.{if-refused, if-accepted}
 use Rattle.boxes.proofs.reach.Statement.{statement}
 use Rattle.boxes.proofs.reach.Tie as tie
 

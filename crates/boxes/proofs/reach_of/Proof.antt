@@ -8,12 +8,11 @@ use borrow.Author.Needs.{needs}
 use denote.Enum.Declared.{tagOf}
 use Rattle.machine.specs.Machine.{Law, Machine, machine}
 use Rattle.rates.specs.Plant.{Usable, lawOf, machineOf}
-use Rattle.shapes.proofs.InPlace.{trim-trim}
+use Rattle.machine.proofs.InPlace.{trim-trim, trim-as}
 use Rattle.rates.proofs.Rates.{usable}
 use Rattle.rates.proofs.Sides.{wider}
-use Rattle.boxes.proofs.CodeRefusals.{Refusal, reach-refused, walkable, reach-ended, reach-failed}
-use Rattle.boxes.proofs.CodeTurns.{trim-as}
-use Rattle.boxes.proofs.walk.Walked.{the-type}
+use Rattle.boxes.proofs.CodeReach.{Refusal, reach-refused, walkable, reach-ended, reach-failed}
+use Rattle.walk.proofs.Walked.{the-type}
 use Rattle.boxes.proofs.reach_of.Statement.{statement}
 use Rattle.boxes.proofs.reach_of.Tie as tie
 

@@ -5,9 +5,10 @@ use native.Mathlib.Omega.{arith}
 use Rattle.layout.specs.Slots.{vars, recoveryBox}
 use Rattle.machine.specs.Box.{trim}
 use Rattle.arithmetic.specs.Limits.{Sides}
-use Rattle.boxes.proofs.CodeTurns.{trim-as}
+use Rattle.machine.proofs.InPlace.{trim-as}
 use Rattle.safety.specs.Decision.{recoveryOf}
-use Rattle.decision.specs.Code.{decided, startLimit}
+use Rattle.answers.specs.Code.{decided}
+use Rattle.attempts.specs.Code.{startLimit}
 use Rattle.safety.proofs.Allowance.{recoveryOf-unspent}
 use Rattle.decision.proofs.CodeAnswers.{trial-checks}
 use Rattle.decision.proofs.CodeRecovery.{recovery-near}

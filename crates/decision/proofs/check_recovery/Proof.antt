@@ -8,7 +8,7 @@ use Rattle.layout.specs.Valid.{Valid}
 use Rattle.layout.proofs.Valid.{valid}
 use Rattle.machine.specs.Box.{trim}
 use Rattle.safety.specs.Decision.{recoveryOf, checkRecovery}
-use Rattle.decision.specs.Code.{checked}
+use Rattle.answers.specs.Code.{checked}
 use Rattle.decision.proofs.CodeAnswers.{unless-refused, unless-passed}
 use Rattle.decision.proofs.CodeRecovery.{recovery-trimmed}
 use Rattle.decision.proofs.check_recovery.Statement.{statement}

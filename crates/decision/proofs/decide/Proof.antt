@@ -7,7 +7,8 @@ use borrow.Author.Needs.{needs}
 use Rattle.layout.specs.Valid.{Valid}
 use Rattle.layout.proofs.Valid.{valid}
 use Rattle.safety.specs.Decision.{decide}
-use Rattle.decision.specs.Code.{decided, decisionOn}
+use Rattle.answers.specs.Code.{decided}
+use Rattle.decision.specs.Code.{decisionOn}
 use Rattle.safety.proofs.Allowance.{answer-allowed}
 use Rattle.decision.proofs.CodeAnswers.{unless-refused, unless-passed}
 use Rattle.decision.proofs.decide.Statement.{statement}

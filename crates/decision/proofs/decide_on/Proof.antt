@@ -11,10 +11,11 @@ use mir.Val.{SFits}
 use borrow.Author.Needs.{needs}
 use Rattle.layout.specs.Slots.{N, vars}
 use Rattle.arithmetic.specs.Limits.{Sides}
-use Rattle.boxes.proofs.CodeTurns.{trim-as}
+use Rattle.machine.proofs.InPlace.{trim-as}
 use Rattle.safety.specs.Question.{questionLength, measured, questionRefusal}
-use Rattle.decision.specs.Code.{decided, startLimit}
-use Rattle.decision.proofs.CodeQuestion.{asked-length, measured-near, measured-trimmed}
+use Rattle.answers.specs.Code.{decided}
+use Rattle.attempts.specs.Code.{startLimit}
+use Rattle.question.proofs.CodeQuestion.{asked-length, measured-near, measured-trimmed}
 use Rattle.decision.proofs.CodeAnswers.{unless-refused, unless-passed, trial-decides}
 use Rattle.decision.proofs.decide_on.Statement.{statement}
 use Rattle.decision.proofs.decide_on.Tie as tie

@@ -7,8 +7,9 @@ use lib.IntN.{ℤ}
 use lib.Seq.{sets}
 use borrow.Author.Needs.{needs}
 use Rattle.boxes.specs.Code.{answered}
-use Rattle.guard.specs.Calls.{numberBytes, sidesOf, reachedRefusal, reachedCall, reachedOut}
-use Rattle.guard.proofs.Answers.{or-refused, or-answered, or-unchanged, or-written, room-stop, room-short, room-enough}
+use Rattle.numbers.specs.Numbers.{numberBytes, sidesOf}
+use Rattle.guard.specs.Calls.{reachedRefusal, reachedCall, reachedOut}
+use Rattle.answers.proofs.Ways.{or-refused, or-answered, or-unchanged, or-written, room-stop, room-short, room-enough}
 use Rattle.guard.proofs.CodeReach.{boxes-bytes}
 use Rattle.guard.proofs.give_reached.Statement.{statement}
 use Rattle.guard.proofs.give_reached.Tie as tie

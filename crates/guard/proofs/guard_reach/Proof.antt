@@ -16,7 +16,7 @@ use Rattle.rates.specs.Plant.{lawOf}
 use Rattle.lifting.specs.Reach.{Answer, reachOf}
 use Rattle.boxes.specs.Code.{answered}
 use Rattle.guard.specs.Calls.{startBox, reachedRefusal, reachedCall, reachedOut, reachAnswer, reachCall, reachOut}
-use Rattle.guard.proofs.Answers.{or-refused, or-unchanged, room-stop}
+use Rattle.answers.proofs.Ways.{or-refused, or-unchanged, room-stop}
 use Rattle.guard.proofs.CodeReach.{reach-far, file-refused, file-reached}
 use Rattle.guard.proofs.guard_reach.Statement.{statement}
 use Rattle.guard.proofs.guard_reach.Tie as tie

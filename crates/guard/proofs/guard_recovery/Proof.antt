@@ -3,7 +3,7 @@ use mathlib.Core.Path.{_≡_, sym, ap, _∙_, subst}
 use Prim.Native.Nat.{_≤_}
 use borrow.Author.Needs.{needs}
 use Rattle.safety.specs.Decision.{Reply, widthOf, packed, checkRecovery}
-use Rattle.decision.specs.Code.{decided}
+use Rattle.answers.specs.Code.{decided}
 use Rattle.safety.proofs.Allowance.{check-answer}
 use Rattle.guard.specs.Calls.{recoveryCall}
 use Rattle.guard.proofs.guard_recovery.Statement.{statement}

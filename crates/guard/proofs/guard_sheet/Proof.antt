@@ -2,7 +2,7 @@
 use mathlib.Core.Path.{sym, _∙_}
 use borrow.Author.Needs.{needs}
 use Rattle.guard.specs.Calls.{sheetCall}
-use Rattle.guard.proofs.Answers.{or-refused, or-answered}
+use Rattle.answers.proofs.Ways.{or-refused, or-answered}
 use Rattle.guard.proofs.guard_sheet.Statement.{statement}
 use Rattle.guard.proofs.guard_sheet.Tie as tie
 

@@ -7,8 +7,9 @@ use lib.IntN.{ℤ}
 use lib.Seq.{sets}
 use borrow.Author.Needs.{needs}
 use Rattle.layout.specs.Slots.{slots}
-use Rattle.guard.specs.Calls.{numberBytes, numbersSize, readRefusal, readCall, readOut}
-use Rattle.guard.proofs.Answers.{or-refused, or-answered, or-unchanged, or-written, room-stop, room-short, room-enough}
+use Rattle.numbers.specs.Numbers.{numberBytes, numbersSize}
+use Rattle.guard.specs.Calls.{readRefusal, readCall, readOut}
+use Rattle.answers.proofs.Ways.{or-refused, or-answered, or-unchanged, or-written, room-stop, room-short, room-enough}
 use Rattle.guard.proofs.guard_sheet_read.Statement.{statement}
 use Rattle.guard.proofs.guard_sheet_read.Tie as tie
 

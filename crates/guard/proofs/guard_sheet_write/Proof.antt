@@ -6,8 +6,9 @@ use lib.IntN.{ℤ}
 use borrow.Author.Needs.{needs}
 use Rattle.layout.specs.Sheet.{zeros, length-of, writeRefusal}
 use Rattle.layout.specs.Written.{writtenLength, Wrote}
-use Rattle.guard.specs.Calls.{sheetIn, writeCall, writeOut}
-use Rattle.guard.proofs.Answers.{or-refused, or-answered}
+use Rattle.numbers.specs.Numbers.{sheetIn}
+use Rattle.guard.specs.Calls.{writeCall, writeOut}
+use Rattle.answers.proofs.Ways.{or-refused, or-answered}
 use Rattle.guard.proofs.guard_sheet_write.Statement.{statement}
 use Rattle.guard.proofs.guard_sheet_write.Tie as tie
 

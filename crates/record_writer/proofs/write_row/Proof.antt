@@ -1,0 +1,150 @@
+-- `write_row`: a row's coefficients, and then b, c, d and q. Assumes nothing.
+use mathlib.Core.Path.{_≡_, _∙_, ap, refl}
+use Prim.Native.Nat.{ℕ, _+_, _-_, _≤_}
+use native.Mathlib.Omega.{arith}
+use lib.ListN.{length}
+use lib.Seq.{sets}
+use Rattle.layout.proofs.CodeLayout.{coefficient-at}
+use Rattle.record_writer.proofs.CodeRecord.{coded-next, coded-rest}
+use Rattle.layout.proofs.Length.{coefficient-offset}
+use Rattle.layout.specs.Fields.{u16, i32, coded, offset}
+use Rattle.layout.specs.Layout.{_▸_, rowFields, rowRest}
+use Rattle.layout.specs.Slots.{N, bInRest, cInRest, dInRest, qInRest}
+use Rattle.layout.specs.Sizes.{coefficientBytes, cAt, dAt, qAt}
+use Rattle.record_writer.proofs.write_row.Statement.{statement}
+use Rattle.record_writer.proofs.write_row.Tie as tie
+
+abbrev Inv-loop : tie.InvT-loop
+Inv-loop s₀ at n v slot j₀ s j = (j ≤ n) × ((length s ≡ length s₀) × (s ≡ sets s₀ at (coded (rowFields n slot) v j)))
+
+abbrev μ-loop : tie.MeasureT-loop
+μ-loop s₀ at n v slot j₀ s j = n - j
+
+loop-holds : tie.Need-loop-holds Inv-loop μ-loop
+unfolding coded
+loop-holds c = (omega arith, (refl, refl))
+
+mul-put-u16 : tie.Need-mul-put-u16 Inv-loop μ-loop
+mul-put-u16 c = omega arith
+
+add-put-u16 : tie.Need-add-put-u16 Inv-loop μ-loop
+add-put-u16 c = omega arith
+
+add-put-u16-2 : tie.Need-add-put-u16-2 Inv-loop μ-loop
+add-put-u16-2 c = omega arith
+
+put-u16-requires : tie.Need-put-u16-requires Inv-loop μ-loop
+put-u16-requires c κs = omega arith
+
+add-j : tie.Need-add-j Inv-loop μ-loop
+add-j c = omega arith
+
+loop-less : tie.Need-loop-less Inv-loop μ-loop
+loop-less c = omega arith
+
+loop-again : tie.Need-loop-again Inv-loop μ-loop
+loop-again c =
+    let w = c .before .before in
+    let d = w .before .before .before in
+    let a = d .before .before .args in
+    let j = d .loop .j in (
+      omega arith,
+      (
+        omega arith,
+        coded-next (rowFields (a .n) (a .slot)) (a .v .now) (a .s .now) (a .at) j (j + 1) refl _ (coefficient-at (a .n) (a .slot) j (omega arith)) u16 (a .slot + j) (a .at + coefficientBytes j) (w .put-u16 .ensures)
+            refl refl (omega (arith, coefficient-offset (a .n) (a .slot) j (omega arith))) (d .loop .inv .1 .1),
+      ),
+    )
+
+mul-rest : tie.Need-mul-rest Inv-loop μ-loop
+mul-rest c = omega arith
+
+add-rest : tie.Need-add-rest Inv-loop μ-loop
+add-rest c = omega arith
+
+add-put-u16-3 : tie.Need-add-put-u16-3 Inv-loop μ-loop
+add-put-u16-3 c = omega arith
+
+put-u16-requires-2 : tie.Need-put-u16-requires-2 Inv-loop μ-loop
+put-u16-requires-2 c κs = omega arith
+
+add-put-i32 : tie.Need-add-put-i32 Inv-loop μ-loop
+add-put-i32 c = omega arith
+
+add-put-i32-2 : tie.Need-add-put-i32-2 Inv-loop μ-loop
+add-put-i32-2 c = omega arith
+
+put-i32-requires : tie.Need-put-i32-requires Inv-loop μ-loop
+put-i32-requires c κs = omega arith
+
+add-put-i32-3 : tie.Need-add-put-i32-3 Inv-loop μ-loop
+add-put-i32-3 c = omega arith
+
+add-put-i32-4 : tie.Need-add-put-i32-4 Inv-loop μ-loop
+add-put-i32-4 c = omega arith
+
+put-i32-requires-2 : tie.Need-put-i32-requires-2 Inv-loop μ-loop
+put-i32-requires-2 c κs = omega arith
+
+add-put-u16-4 : tie.Need-add-put-u16-4 Inv-loop μ-loop
+add-put-u16-4 c = omega arith
+
+add-put-u16-5 : tie.Need-add-put-u16-5 Inv-loop μ-loop
+add-put-u16-5 c = omega arith
+
+put-u16-requires-3 : tie.Need-put-u16-requires-3 Inv-loop μ-loop
+put-u16-requires-3 c κs = omega arith
+
+same-length : tie.Need-same-length Inv-loop μ-loop
+same-length c = omega arith
+
+returns : tie.Need-returns Inv-loop μ-loop
+unfolding rowRest _▸_ offset
+returns c =
+    let c3 = c .before .before in
+    let c2 = c3 .before .before .before .before in
+    let c1 = c2 .before .before .before .before in
+    let c0 = c1 .before .before .before .before in
+    let d = c0 .before .before .before in
+    let a = d .before .before .args in
+    let n = a .n in
+    let i = a .slot in
+    let p = rowFields n i in
+    let s = a .s .now in
+    let v = a .v .now in
+    let e : d .loop .j ≡ n + 0 = omega arith in
+    coded-rest n i v s (a .at) qInRest u16 (i + (N + qInRest)) (a .at + coefficientBytes n + qAt) (c3 .put-u163 .ensures) refl (omega arith) (omega arith)
+    (coded-rest n i v s (a .at) dInRest i32 (i + (N + dInRest)) (a .at + coefficientBytes n + dAt) (c2 .put-i322 .ensures) refl (omega arith) (omega arith)
+    (coded-rest n i v s (a .at) cInRest i32 (i + (N + cInRest)) (a .at + coefficientBytes n + cAt) (c1 .put-i32 .ensures) refl (omega arith) (omega arith)
+    (coded-rest n i v s (a .at) bInRest u16 (i + N) (a .at + coefficientBytes n) (c0 .put-u162 .ensures) refl (omega arith) (omega arith)
+    (d .loop .inv .1 .1 ∙ ap (λ (j : ℕ). sets s (a .at) (coded p v j)) e))))
+
+pub write-row-spec : {M : Type 1} → statement M
+write-row-spec =
+    tie.close
+    (tie.spec
+    Inv-loop
+    μ-loop
+    loop-holds
+    mul-put-u16
+    add-put-u16
+    add-put-u16-2
+    put-u16-requires
+    add-j
+    loop-less
+    loop-again
+    mul-rest
+    add-rest
+    add-put-u16-3
+    put-u16-requires-2
+    add-put-i32
+    add-put-i32-2
+    put-i32-requires
+    add-put-i32-3
+    add-put-i32-4
+    put-i32-requires-2
+    add-put-u16-4
+    add-put-u16-5
+    put-u16-requires-3
+    same-length
+    returns)
