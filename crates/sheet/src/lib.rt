@@ -96,6 +96,14 @@ pub fn read(f: &[u8]) -> Parsed
     }
 }
 
+// `read_into` for C, in the archive of this crate alone (include/sheet.h).
+#[no_mangle]
+pub extern "C" fn sheet_read(f: &[u8], v: &mut [i32; SLOTS]) -> u8
+    ensures { λ r. ⌜ (r ≡ refusal (now (f .entry))) × (now (v .exit) ≡ values (now (f .entry))) ⌝ }
+{
+    read_into(f, v)
+}
+
 // Writes a sheet to the buffer from a place on; a refusal leaves the buffer as it was.
 pub fn write(v: &[i32; SLOTS], buffer: &mut [u8], place: usize) -> Written
     ensures { λ r. ⌜ Wrote (now (v .entry)) (now (buffer .entry)) place (r .refusal) (r .length) (now (buffer .exit)) ⌝ }

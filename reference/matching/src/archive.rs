@@ -1,5 +1,7 @@
-//! The calls of the archive `libguard.a` as its header declares them,
-//! with slices in place of pointers and lengths.
+//! The calls of the archive `libguard.a` as its header declares them, with slices in place of
+//! pointers and lengths, and the one call of `libsheet.a`.
+
+use second_guard::sheet::NUMBERS;
 
 mod c {
     extern "C" {
@@ -36,7 +38,13 @@ mod c {
             out: *mut u8,
             out_length: usize,
         ) -> u64;
+        pub fn sheet_read(sheet: *const u8, sheet_length: usize, numbers: *mut i32) -> u8;
     }
+}
+
+/// Reads a sheet with the archive of the crate `sheet`: a refusal's number, or 0.
+pub fn numbers(sheet: &[u8], numbers: &mut [i32; NUMBERS]) -> u8 {
+    unsafe { c::sheet_read(sheet.as_ptr(), sheet.len(), numbers.as_mut_ptr()) }
 }
 
 pub fn sheet(sheet: &[u8]) -> u64 {

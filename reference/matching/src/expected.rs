@@ -14,6 +14,14 @@ pub fn sheet(sheet: &[u8]) -> u64 {
     sheet::read(sheet).map_or_else(pack_refusal, |_| 0)
 }
 
+/// A sheet's numbers with 0, or zeros with the number of the refusal.
+pub fn numbers(sheet: &[u8]) -> (u8, [i32; NUMBERS]) {
+    match sheet::read(sheet) {
+        Ok(read) => (0, read.numbers()),
+        Err(refusal) => (refusal.number(), [0; NUMBERS]),
+    }
+}
+
 pub fn recovery(sheet: &[u8]) -> u64 {
     decision::check_recovery(sheet).pack()
 }

@@ -6,7 +6,8 @@ use matching::archive;
 use matching::expected;
 use matching::generate::{everywhere, question_bytes, sheet_bytes, worst_case};
 use second_guard::machine::StateBox;
-use second_guard::sheet::{self, Band, CommandRange, Row, Sheet, BANDS, UNSAFE_BOXES, VARIABLES};
+use second_guard::sheet::{self, Band, CommandRange, Row, Sheet};
+use second_guard::sheet::{BANDS, NUMBERS, UNSAFE_BOXES, VARIABLES};
 use std::hint::black_box;
 use std::process::Command;
 use std::time::Duration;
@@ -100,6 +101,23 @@ fn decide(sheet: &[u8], question: &[u8]) -> Times {
     compare(
         || archive::decide(black_box(sheet), black_box(question)),
         || expected::decide(black_box(sheet), black_box(question)),
+    )
+}
+
+/// The archive of the crate `sheet` alone; the second guard too has to leave the values in memory.
+fn read(sheet: &[u8]) -> Times {
+    let mut numbers = [0; NUMBERS];
+    compare(
+        || {
+            let refusal = archive::numbers(black_box(sheet), &mut numbers);
+            black_box(&numbers);
+            u64::from(refusal)
+        },
+        || {
+            let values = sheet::read(black_box(sheet));
+            black_box(&values);
+            values.map_or_else(|refusal| u64::from(refusal.number()), |_| 0)
+        },
     )
 }
 
@@ -262,10 +280,7 @@ fn main() {
     ];
     for (name, (n, bands, unsafe_boxes)) in sizes {
         let bytes = sheet_bytes(&model(n, bands, unsafe_boxes).0);
-        let times = compare(
-            || archive::sheet(black_box(&bytes)),
-            || expected::sheet(black_box(&bytes)),
-        );
+        let times = read(&bytes);
         let name = format!("reading a sheet, {name} ({} bytes)", bytes.len());
         line(&name, &times, 1.0);
     }

@@ -17,7 +17,7 @@ use second_guard::decision::{
 };
 use second_guard::machine::StateBox;
 use second_guard::reach::{Face, Step, Watch};
-use second_guard::sheet::Sheet;
+use second_guard::sheet::{Sheet, NUMBERS};
 use std::collections::HashMap;
 use std::ops::ControlFlow;
 use std::time::Instant;
@@ -201,11 +201,15 @@ impl Matching {
         self.tally.check(self.kinds.calls, right, describe);
     }
 
+    /// A sheet's refusal, and its numbers by the archive of the crate `sheet` alone.
     fn call_sheet(&mut self, kinds: &[KindId], sheet: &[u8]) -> u64 {
         let (wanted, found) = (expected::sheet(sheet), archive::sheet(sheet));
-        self.note(kinds, wanted, wanted == found, || {
+        let mut numbers = [0x77; NUMBERS];
+        let refusal = archive::numbers(sheet, &mut numbers);
+        let same = (refusal, numbers) == expected::numbers(sheet);
+        self.note(kinds, wanted, wanted == found && same, || {
             format!(
-                "sheet {}: wanted {}, found {}",
+                "sheet {}: wanted {}, found {}, same numbers {same}",
                 hex(sheet),
                 show(wanted),
                 show(found)

@@ -1,0 +1,72 @@
+/* The call of include/sheet.h from C, linked with the archive of the crate `sheet` beside that of the
+ * guard: sheet A's numbers at each slot, and the refusal and the zeros for each shorter file and for each
+ * byte of it changed, as guard_sheet and guard_sheet_read have them. The last line is `N passed, M failed`. */
+#include "guard.h"
+#include "sheet.h"
+
+#include <stdio.h>
+#include <string.h>
+
+enum {
+    SHEET = 70, /* the bytes of sheet A */
+    FILL = 77
+};
+
+static const uint8_t sheet_a[SHEET] = {
+    'S', 'H', 1, 1, 1, 0, 0, 4, 0, 4, 0, 4, 255, 255, 255, 231, 0, 0, 0, 25, 0, 5,
+    'B', 'D', 255, 225, 123, 128, 0, 0, 0, 0, 0, 0, 0, 0, 255, 255, 0, 4, 0, 0, 0, 0, 0, 0, 0, 0, 0, 20,
+    'N', 'G', 0, 0, 0, 130, 0, 30, 132, 128,
+    'R', 'C', 255, 255, 255, 156, 0, 0, 0, 100};
+
+static int passed, failed;
+
+static void expect(const char *what, size_t number, int64_t got, int64_t want)
+{
+    if (got == want) {
+        passed++;
+        return;
+    }
+    failed++;
+    printf("%s %zu: %lld where %lld is due\n", what, number, (long long)got, (long long)want);
+}
+
+/* Reads a file with both archives: the same refusal, and the same number at each slot, or zeros. */
+static void compare(const char *what, size_t number, const uint8_t *sheet, size_t length)
+{
+    static int32_t numbers[SHEET_NUMBERS + 1];
+    static uint8_t bytes[GUARD_NUMBERS_BYTES];
+    for (size_t i = 0; i <= SHEET_NUMBERS; i++)
+        numbers[i] = FILL;
+    memset(bytes, 0, sizeof bytes);
+    uint8_t refusal = sheet_read(sheet, length, numbers);
+    uint64_t answer = guard_sheet(sheet, length);
+    uint64_t read = guard_sheet_read(sheet, length, bytes, sizeof bytes);
+    expect(what, number, refusal, answer == 0 ? 0 : guard_width(answer));
+    expect(what, number, (int64_t)read, answer == 0 ? (int64_t)length : (int64_t)answer);
+    int same = 1;
+    for (size_t slot = 0; slot < SHEET_NUMBERS; slot++)
+        same &= numbers[slot] == guard_get(bytes, slot);
+    expect(what, number, same, 1);
+    expect(what, number, numbers[SHEET_NUMBERS], FILL);
+}
+
+int main(void)
+{
+    int32_t numbers[SHEET_NUMBERS];
+    expect("sheet A", 0, sheet_read(sheet_a, SHEET, numbers), 0);
+    expect("variables", 0, numbers[GUARD_SLOT_N], 1);
+    expect("least command", 0, numbers[GUARD_SLOT_LEAST_COMMAND], -25);
+    expect("first edge", 0, numbers[GUARD_SLOT_BAND], -2000000);
+    expect("recovery box", 0, numbers[GUARD_SLOT_RECOVERY], -100);
+    expect("no sheet", 0, sheet_read(NULL, 0, numbers), GUARD_REFUSED_HEAD);
+    for (size_t length = 0; length <= SHEET; length++)
+        compare("length", length, sheet_a, length);
+    for (size_t at = 0; at < SHEET; at++) {
+        uint8_t changed[SHEET];
+        memcpy(changed, sheet_a, SHEET);
+        changed[at] ^= 0x80;
+        compare("byte", at, changed, SHEET);
+    }
+    printf("%d passed, %d failed\n", passed, failed);
+    return failed != 0;
+}
