@@ -1,31 +1,34 @@
 // The rates of a box's faces. A face is `false` for a lower and `true` for an upper one.
 ghost use mathlib.Core.Path.{_≡_};
-ghost use mathlib.Core.Bool.{cond, true};
-ghost use Prim.Native.Nat.{_≤_, _<_};
-ghost use lib.IntN.{negℤ};
+ghost use mathlib.Core.Bool.{true};
+ghost use Prim.Native.Nat.{_+_, _*_, _≤_, _<_};
+ghost use lib.IntN.{negℤ, _*ℤ_};
 ghost use lib.Signed.{_≤ℤ_};
 ghost use Rattle.integers.specs.Bound.{Bound};
 ghost use Rattle.layout.specs.Slots as slots;
 ghost use Rattle.machine.specs.Box.{hi, lo};
-ghost use Rattle.machine.specs.Machine.{bandMeets, cap};
+ghost use Rattle.machine.specs.Machine.{bandMeets, cap, greatest, least};
 ghost use Rattle.machine.specs.Rate.{bandRate, faceRate, neighborhood, neutral, outer, rate, rates};
-ghost use Rattle.arithmetic.specs.Limits.{Sides, limit};
+ghost use Rattle.arithmetic.specs.Limits.{Sides, limit, word};
 ghost use Rattle.rates.specs.Plant.{Usable, cutAt, machineOf};
 use crate::Plant;
 use arithmetic::max;
 use arithmetic::min;
+use arithmetic::outer;
 use layout::slots::BAND_SIZE;
 use layout::slots::BOX_SIZE;
 use layout::slots::FIRST_BAND;
 use layout::slots::FIRST_CAP;
 use layout::slots::FIRST_ROW;
 use layout::slots::N;
+use layout::slots::ROW_B;
 use layout::slots::ROW_SIZE;
 use layout::slots::SAFETY_GREATEST;
 use layout::slots::SAFETY_LEAST;
 use layout::slots::SLOTS;
 use rows::bound;
 use rows::further;
+use rows::product;
 
 // Band k has a number from l to h.
 fn band_meets(sheet: &[i32; SLOTS], bands: usize, k: usize, l: i64, h: i64) -> bool
@@ -52,10 +55,21 @@ fn neutral(up: bool, cap: i64) -> i64
     if up { -cap } else { cap }
 }
 
-fn choose(baseline: bool, safety: i32, command: i32) -> i32
-    ensures { λ r. ⌜ r ≡ cond baseline safety command ⌝ }
+// The outer one of b·u over the law's commands u in band k, where b is that of the row at a slot.
+fn command_term(up: bool, p: Plant, sheet: &[i32; SLOTS], row: usize, k: usize) -> i64
+    requires { ⌜ (row + slots.rowSize ≤ slots.slots) × (k < slots.maxBands) ⌝ }
+    ensures { λ r. ⌜ r ≡ outer up (slots.rowAt (now (sheet .entry)) row .b *ℤ least (machineOf p (now (sheet .entry))) k) (slots.rowAt (now (sheet .entry)) row .b *ℤ greatest (machineOf p (now (sheet .entry))) k) ⌝ }
+    ensures { λ r. ⌜ Bound r (word * word) ⌝ }
 {
-    if baseline { safety } else { command }
+    let ib = row + ROW_B;
+    let b = sheet[ib];
+    if p.baseline {
+        let band = FIRST_BAND + k * BAND_SIZE;
+        let il = band + SAFETY_LEAST;
+        let ig = band + SAFETY_GREATEST;
+        return outer(up, product(b, sheet[il]), product(b, sheet[ig]));
+    }
+    product(b, p.command)
 }
 
 // The outer one of z and of band k's share in the rate of variable i over the box, where they meet.
@@ -74,13 +88,9 @@ fn row_rate(
     requires { ⌜ (negℤ (cap (machineOf p (now sheet)) i) ≤ℤ z) × (z ≤ℤ cap (machineOf p (now sheet)) i) ⌝ }
     ensures { λ r. ⌜ r ≡ outer up z (bandRate up (machineOf p (now (sheet .entry))) (now (b .entry)) i k) ⌝ }
 {
-    let band = FIRST_BAND + k * BAND_SIZE;
-    let il = band + SAFETY_LEAST;
-    let ig = band + SAFETY_GREATEST;
-    let u = choose(p.baseline, sheet[il], p.command);
-    let v = choose(p.baseline, sheet[ig], p.command);
-    let row = band + FIRST_ROW + i * ROW_SIZE;
-    let m = bound(up, p.n, sheet, row, b, u, v);
+    let row = FIRST_BAND + k * BAND_SIZE + FIRST_ROW + i * ROW_SIZE;
+    let t = command_term(up, p, sheet, row, k);
+    let m = bound(up, p.n, sheet, row, b, t);
     let ic = FIRST_CAP + i;
     further(up, sheet[ic] as i64, sheet, row, m, z)
 }

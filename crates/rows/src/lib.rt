@@ -3,7 +3,7 @@
 // machine/specs/Machine and machine/specs/Rate.
 ghost use mathlib.Core.Path.{_≡_};
 ghost use Prim.Native.Nat.{_+_, _*_, _≤_};
-ghost use lib.IntN.{pos, negℤ, _*ℤ_};
+ghost use lib.IntN.{ℤ, pos, negℤ, _*ℤ_};
 ghost use lib.Signed.{_≤ℤ_};
 ghost use Rattle.integers.specs.Bound.{Bound};
 ghost use Rattle.layout.specs.Slots as slots;
@@ -16,7 +16,6 @@ use arithmetic::lowest;
 use arithmetic::outer;
 use layout::slots::BOX_SIZE;
 use layout::slots::N;
-use layout::slots::ROW_B;
 use layout::slots::ROW_C;
 use layout::slots::ROW_D;
 use layout::slots::ROW_Q;
@@ -49,26 +48,30 @@ fn weighted(up: bool, n: usize, sheet: &[i32; SLOTS], at: usize, b: &[i64; BOX_S
     s
 }
 
-// The number N of the row at a slot, bounded over the box and the commands from u to v.
+// a·u, for a command u.
+pub fn product(a: i32, u: i32) -> i64
+    ensures { λ r. ⌜ (r ≡ a *ℤ u) × Bound r (word * word) ⌝ }
+{
+    (a as i64) * (u as i64)
+}
+
+// The number N of the row at a slot, bounded over the box and over the commands whose outer term is t.
 pub fn bound(
     up: bool,
     n: usize,
     sheet: &[i32; SLOTS],
     at: usize,
     b: &[i64; BOX_SIZE],
-    u: i32,
-    v: i32,
+    t: i64,
 ) -> i64
     requires { ⌜ (n ≤ slots.N) × (at + slots.rowSize ≤ slots.slots) ⌝ }
-    requires { ⌜ Sides limit (now b) ⌝ }
-    ensures { λ r. ⌜ r ≡ bound up n (slots.rowAt (now (sheet .entry)) at) (now (b .entry)) u v ⌝ }
+    requires { ⌜ Sides limit (now b) × Bound t (word * word) ⌝ }
+    ensures { λ r. ⌜ ((u v : ℤ) → t ≡ outer up (slots.rowAt (now (sheet .entry)) at .b *ℤ u) (slots.rowAt (now (sheet .entry)) at .b *ℤ v) → r ≡ bound up n (slots.rowAt (now (sheet .entry)) at) (now (b .entry)) u v) ⌝ }
     ensures { λ r. ⌜ Bound r rowLimit ⌝ }
 {
-    let ib = at + ROW_B;
     let ic = at + ROW_C;
     let c = sheet[ic] as i64;
     let s = weighted(up, n, sheet, at, b);
-    let t = term(up, sheet[ib], u as i64, v as i64);
     s + t + c
 }
 

@@ -1,19 +1,18 @@
 -- `row_rate` gives the outer one of z and of a band's share in a rate where it is met: its row bounded, then the allowed
 -- change. Assumes nothing.
-use mathlib.Core.Path.{_≡_, _∙_}
+use mathlib.Core.Path.{_∙_}
 use Prim.Native.Nat.{_+_, _≤_}
 use native.Mathlib.Omega.{arith}
 use mir.Facts.{toZ-ofZ}
-use mir.Syntax.{w32, w64}
+use mir.Syntax.{w64}
 use mir.Val.{SFits}
 use borrow.Author.Needs.{needs}
-use Rattle.integers.proofs.Z.{told, up32, fits64}
+use Rattle.integers.proofs.Z.{up32, fits64}
 use Rattle.layout.specs.Slots.{rowSize, rowSlot, slots}
 use Rattle.machine.specs.Machine.{Machine, least, greatest}
 use Rattle.machine.specs.Rate.{bandRate}
 use Rattle.rates.specs.Plant.{machineOf}
 use Rattle.arithmetic.proofs.Numbers.{wide}
-use Rattle.rates.proofs.Rates.{least-is, greatest-is}
 use Rattle.rates.proofs.Sides.{cap-bound}
 use Rattle.rates.proofs.rate.row_rate.Statement.{statement}
 use Rattle.rates.proofs.rate.row_rate.Tie as tie
@@ -21,29 +20,18 @@ use Rattle.rates.proofs.rate.row_rate.Tie as tie
 abbrev M : tie.Start → Machine
 M s = machineOf (s .args .p) (s .args .sheet .now)
 
-u-is : (c : tie.After-choose) → let s = c .before .before .before in c .choose .result ≡ least (M s) (s .args .k)
-u-is c =
-    let s = c .before .before .before .args in
-    let f : SFits w32 (s .p .command) = search needs in
-    rw (least-is (s .p .baseline) (s .p .command) (s .sheet .now) (s .k)) (c .choose .ensures ∙ simp (told, c .before .before .choose-arg .given, toZ-ofZ, f))
-
-v-is : (c : tie.After-choose2) → let s = c .before .before .before .before .before .before in c .choose2 .result ≡ greatest (M s) (s .args .k)
-v-is c =
-    let s = c .before .before .before .before .before .before .args in
-    let f : SFits w32 (s .p .command) = search needs in
-    rw (greatest-is (s .p .baseline) (s .p .command) (s .sheet .now) (s .k)) (c .choose2 .ensures ∙ simp (told, c .before .before .choose-arg2 .given, toZ-ofZ, f))
-
 row-fits : (s : tie.Start) → rowSlot (s .args .k) (s .args .i) + rowSize ≤ slots
 row-fits s = let g = s .pre .0 .0 in omega (arith, g .vars, g .bands, s .pre .1 .0 .0, s .pre .1 .0 .1)
 
 bound-requires : tie.Need-bound-requires
 bound-requires c κs =
-    let s = c .before .before .before .before .before .before in
-    ((s .pre .0 .0 .vars, row-fits s), s .pre .0 .1)
+    let s = c .before in
+    let b = c .command-term .ensures .1 in
+    ((s .pre .0 .0 .vars, row-fits s), (s .pre .0 .1, rw (toZ-ofZ (fits64 b tt)) b))
 
 further-requires : tie.Need-further-requires
 further-requires c κs =
-    let s = c .before .before .before .before .before .before .before .before in
+    let s = c .before .before .before in
     let g = s .pre .0 .0 in
     let h = s .pre .1 .0 in
     let b = c .before .bound .ensures .1 in
@@ -56,13 +44,11 @@ returns : tie.Need-returns
 unfolding bandRate
 returns c =
     let b = c .before .before in
-    let s = b .before .before .before .before .before .before .before in
+    let t = b .before .command-term .ensures in
+    let s = b .before .before in
     let f : SFits w64 (c .further .result) = search needs in
-    let g : SFits w32 (b .before .choose2 .result) = search needs in
-    let h : SFits w32 (b .before .before .before .before .choose .result) = search needs in
-    toZ-ofZ f
-    ∙ (c .further .ensures
-    ∙ rw (s .pre .1 .1 .0, toZ-ofZ (fits64 (b .bound .ensures .1) tt), b .bound .ensures .0, toZ-ofZ g, toZ-ofZ h, u-is (b .before .before .before .before), v-is (b .before)) (simp (wide, c .before .further-arg .given, toZ-ofZ, s .fits .z)))
+    let m = b .bound .ensures .0 (least (M s) (s .args .k)) (greatest (M s) (s .args .k)) (toZ-ofZ (fits64 (t .1) tt) ∙ t .0) in
+    toZ-ofZ f ∙ (c .further .ensures ∙ rw (s .pre .1 .1 .0, toZ-ofZ (fits64 (b .bound .ensures .1) tt), m) (simp (wide, c .before .further-arg .given, toZ-ofZ, s .fits .z)))
 
 pub row-rate-spec : {M : Type 1} → statement M
 row-rate-spec =
@@ -73,14 +59,7 @@ row-rate-spec =
     (λ c. search needs)
     (λ c. search needs)
     (λ c. search needs)
-    (λ c. search needs)
-    (λ c κs. tt)
-    (λ c. search needs)
-    (λ c. search needs)
-    (λ c κs. tt)
-    (λ c. search needs)
-    (λ c. search needs)
-    (λ c. search needs)
+    (λ c κs. (row-fits c, omega (arith, c .pre .0 .0 .bands, c .pre .1 .0 .1)))
     bound-requires
     (λ c. search needs)
     (λ c. search needs)
