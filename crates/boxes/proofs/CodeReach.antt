@@ -14,7 +14,7 @@ use Rattle.walk.specs.Code.{said, walked}
 use Rattle.lifting.specs.Reach.{reach, clear, lawRefusal, ticksRefusal, reachRefusal, refused, answer, reachOf}
 use Rattle.lifting.proofs.Count.{ticks-width}
 use Rattle.lifting.proofs.Refusals.{or-none, if-refused, if-accepted}
-use Rattle.refusals.proofs.CodeSides.{sides-near}
+use Rattle.reach_refusals.proofs.CodeSides.{sides-near}
 
 -- the code's refusal of a reach is a
 pub record Refusal (v : List ℤ) (ticks w : ℕ) (l : Law) (B : List ℤ) (a : ℕ) : Type 0 where

@@ -1,6 +1,6 @@
 // The reach (document 01, "One lifted step"): the boxes that hold every state that the machine can reach in so many ticks from
 // a start box, under a law. `reach` is the public operation on any bytes. The definitions are in lifting/specs/Reach.
-// What may be asked is tested in `refusals`.
+// What may be asked is tested in `reach_refusals`.
 ghost use mathlib.Core.Path.{_≡_};
 ghost use Rattle.layout.specs.Valid.{Valid};
 ghost use Rattle.rates.specs.Plant.{lawOf};
@@ -8,7 +8,7 @@ ghost use Rattle.lifting.specs.Reach as spec;
 ghost use Rattle.boxes.specs.Code.{answered};
 use layout::slots::BOX_SIZE;
 use layout::slots::SLOTS;
-use refusals::reach_refusal;
+use reach_refusals::reach_refusal;
 use shapes::trim;
 use sheet::read_into;
 use step::Budget;

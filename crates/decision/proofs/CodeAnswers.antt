@@ -1,10 +1,10 @@
 -- What the code tries, as the definitions' decision and recovery check, and which answers are refusals. Assumes nothing.
-use mathlib.Core.Path.{_≡_, refl, ap, _∙_}
+use mathlib.Core.Path.{_≡_, refl, ap}
 use mathlib.Core.Bool.{true, false}
 use mathlib.Core.List.{List}
 use Prim.Native.Nat.{ℕ, zero, suc, max}
 use native.Mathlib.Omega.{arith}
-use lib.IntN.{ℤ, pos}
+use lib.IntN.{ℤ}
 use Rattle.layout.specs.Slots.{δ, α, ρ, recoveryBox}
 use Rattle.lifting.specs.Step.{andThen}
 use Rattle.lifting.specs.Reach.{reach, walk}

@@ -1,9 +1,8 @@
 -- What a reach answers: how far the sides of its boxes go, and their bytes. Assumes nothing.
-use mathlib.Core.Path.{_≡_, refl, sym, ap, _∙_}
-use mathlib.Core.Bool.{Bool, true, false}
-use mathlib.Core.List.{List, [], _∷_, _++_}
+use mathlib.Core.Path.{_≡_, refl, ap}
+use mathlib.Core.Bool.{Bool, false}
+use mathlib.Core.List.{List, _++_}
 use Prim.Native.Nat.{ℕ, zero, suc, _+_, _*_, _-_, _≤_, _<_}
-use native.Mathlib.Nat.{le-refl}
 use native.Mathlib.Omega.{arith}
 use lib.Dec.{eqb}
 use lib.IntN.{ℤ, pos}
@@ -11,7 +10,6 @@ use lib.ListN.{length, length-append, List·getD-append}
 use lib.Seq.{sets, sets-eq}
 use Rattle.integers.proofs.Lists.{sets-append}
 use Rattle.layout.specs.Slots.{_!_, vars}
-use Rattle.layout.specs.Fields.{i32, encoded}
 use Rattle.layout.specs.Sheet.{refusal, values}
 use Rattle.layout.specs.Valid.{Valid}
 use Rattle.machine.specs.Box.{sides, trim}
@@ -26,7 +24,7 @@ use Rattle.lifting.proofs.Stages.{Takes, value, failure, spent}
 use Rattle.lifting.proofs.Settled.{Settled, Place, start, Walks, here, next, Ends, reach-takes}
 use Rattle.lifting.proofs.Count.{ticks-width}
 use Rattle.lifting.proofs.Refusals.{or-none, if-refused, if-accepted}
-use Rattle.refusals.proofs.CodeSides.{sides-near}
+use Rattle.reach_refusals.proofs.CodeSides.{sides-near}
 use Rattle.numbers.specs.Numbers.{numberBytes, sidesOf}
 use Rattle.guard.specs.Calls.{startBox, reachAnswer}
 use Rattle.numbers.proofs.CodeNumbers.{sides-length}

@@ -7,10 +7,10 @@ use native.Mathlib.Nat.{mod-one, mod-eq-of-lt, mod-lt, pow-suc, pow-succ'}
 use lib.Arith.{digits-div, digits-mod, digits-lt, mod-mul}
 use lib.ListN.{length, getD, take, drop}
 use lib.Seq.{drop-cons}
-use native.Mathlib.Numerals.{add-one, towards-suc}
+use native.Mathlib.Numerals.{towards-suc}
 use lib.IntN.{ℤ}
 use mir.Syntax.{Width, w8, w16, w32, w64, w128}
-use mir.Val.{SFits, Fits, toZ, ofZ, bits, bytes}
+use mir.Val.{SFits, toZ, ofZ, bits, bytes}
 use mir.Facts.{toZ-ofZ, ofZ-toZ, fits-ofZ}
 use Rattle.integers.specs.Bytes.{be, beBytes, decode, encode, Bytes}
 

@@ -1,16 +1,16 @@
 -- Division of an integer by a positive number, rounded down and rounded up. Assumes nothing.
-use mathlib.Core.Path.{_≡_, refl, sym, ap, _∙_, subst}
+use mathlib.Core.Path.{_≡_, refl}
 use Prim.Native.Nat.{ℕ, zero, suc, _+_, _*_, _-_, _/_, _%_, _≤_, _<_, zero-le}
-use native.Mathlib.Nat.{div-add-mod, mod-lt, mul-le-mul-left, div-le-self, le-trans}
+use native.Mathlib.Nat.{div-add-mod, mod-lt, div-le-self, le-trans}
 use native.Mathlib.Omega.{arith}
 use mir.Syntax.{Width}
 use mir.Val.{SFits, ofZ}
 use mir.ValLaws.{sfits-le}
-use lib.IntN.{ℤ, pos, negsuc, negℤ, _+ℤ_, _-ℤ_, _*ℤ_, negℤ-negℤ, natAbs}
-use lib.Signed.{_≤ℤ_, _<ℤ_, shrZ, quotZ, remZ, mag, mag-rem}
+use lib.IntN.{ℤ, pos, negsuc, negℤ, _+ℤ_, _-ℤ_, _*ℤ_, natAbs}
+use lib.Signed.{_≤ℤ_, _<ℤ_, quotZ, remZ, mag, mag-rem}
 use Rattle.integers.specs.Bound.{p, m, size, Bound}
 use Rattle.integers.specs.Division.{floorDiv, ceilDiv}
-use Rattle.integers.proofs.Z.{ints, flat, sum, sub, neg, prod, mul-mono, le-by, le-read, neg-is}
+use Rattle.integers.proofs.Z.{ints, flat, mul-mono, le-by, neg-is}
 
 -- −7/2 (document 01, "Shortcuts that let the sledge through")
 outward : (floorDiv (negsuc 6) 2 ≡ negsuc 3) × (ceilDiv (negsuc 6) 2 ≡ negsuc 2)

@@ -1,13 +1,25 @@
 -- Worked goals: how each law of this crate is used. Assumes nothing.
 use mathlib.Core.Path.{_≡_}
-use mathlib.Core.Logic.{⊎-elim}
+use mathlib.Core.Bool.{Bool, true, false}
+use mathlib.Core.List.{List, [], _∷_}
 use Prim.Native.Nat.{ℕ, _+_, _*_, _≤_, _<_}
-use lib.IntN.{ℤ, pos, negsuc, negℤ, _+ℤ_, _-ℤ_, _*ℤ_}
-use lib.Signed.{_≤ℤ_, _<ℤ_}
-use mir.Syntax.{w64, w32}
+use native.Mathlib.Omega.{arith}
+use lib.Dec.{T}
+use lib.ListN.{length, getD, set}
+use lib.Seq.{sets}
+use lib.IntN.{ℤ, pos, negsuc, _+ℤ_, _-ℤ_, _*ℤ_}
+use lib.Signed.{leZ, _≤ℤ_, _<ℤ_}
+use mir.Syntax.{w64, w32, w16}
 use mir.Val.{SFits}
 use Rattle.integers.specs.Order.{minZ, maxZ}
-use Rattle.integers.proofs.Z.{ints, flat, sum, sub, range, mul-mono, flat-min, ne-read, square, span-lo, span-hi}
+use Rattle.integers.specs.Bound.{Bound}
+use Rattle.integers.specs.Bytes.{Bytes, encode, decode}
+use Rattle.integers.specs.Division.{floorDiv, ceilDiv}
+use Rattle.integers.proofs.Z.{ints, flat, sum, sub, range, mul-mono, flat-min, ne-read, square, span-lo, span-hi, bound-sum, bound-mul, bound-lit, fits64}
+use Rattle.integers.proofs.Division.{floor-most, floor-mono, floor-only, floor-le-ceil, ceil-least, ceil-only}
+use Rattle.integers.proofs.Bytes.{decode-encode, encode-decode}
+use Rattle.integers.proofs.Lists.{sets-append, set-front, entry}
+use Rattle.integers.proofs.Tests.{pick-yes}
 
 -- both ways of each: `simp flat (omega ints)` for the goal's own sums, `sum x y` for a listed one
 g1 : (lo x a y : ℤ) → lo ≤ℤ x → a ≤ℤ y → (lo +ℤ a) ≤ℤ (x +ℤ y)
@@ -92,3 +104,41 @@ g20 x y e = omega (ints, simp flat at e)
 
 g21 : (x y : ℤ) → (x ≤ℤ y) × (y ≤ℤ pos 3) → x ≤ℤ pos 3
 g21 x y h = omega ints
+
+-- no overflow: from the bounds of the parts to the range of the whole
+g22 : (x y : ℤ) → Bound x 3000000 → Bound y 1000 → SFits w64 (x +ℤ pos 1000 *ℤ y)
+g22 x y h k = fits64 (bound-sum h (bound-mul (bound-lit (pos 1000)) k)) tt
+
+-- outward division: monotone, unique, greatest and least
+g23 : (x y : ℤ) → x ≤ℤ y → floorDiv x 4 ≤ℤ floorDiv (y +ℤ pos 1) 4
+g23 x y h = floor-mono x (y +ℤ pos 1) 4 (omega arith) (simp flat (omega ints))
+
+g24 : (z : ℤ) → pos 8 ≤ℤ z → z <ℤ pos 12 → pos 2 ≡ floorDiv z 4
+g24 z h k = floor-only z (pos 2) 4 (omega arith) h k
+
+g25 : (z : ℤ) → pos 8 <ℤ z → z ≤ℤ pos 12 → pos 3 ≡ ceilDiv z 4
+g25 z h k = ceil-only z (pos 3) 4 (omega arith) k h
+
+g26 : (z f c : ℤ) → (pos 4 *ℤ f) ≤ℤ z → z ≤ℤ (pos 4 *ℤ c) → f ≤ℤ c
+g26 z f c h k = omega (ints, floor-most z f 4 (omega arith) h, floor-le-ceil z 4 (omega arith), ceil-least z c 4 (omega arith) k)
+
+-- two's complement, there and back
+g27 : (z : ℤ) → SFits w16 z → decode w16 (encode w16 z) ≡ z
+g27 z h = decode-encode w16 z h
+
+g28 : (bs : List ℕ) → length bs ≡ 4 → Bytes bs → encode w32 (decode w32 bs) ≡ bs
+g28 bs e h = encode-decode w32 bs e h
+
+-- lists: two pieces behind each other, a loop that fills, a table
+g29 : (l : List ℕ) → sets (sets l 5 (1 ∷ 2 ∷ [])) (5 + 2) (3 ∷ []) ≡ sets l 5 (1 ∷ 2 ∷ 3 ∷ [])
+g29 l = sets-append l 5 (1 ∷ 2 ∷ []) (3 ∷ [])
+
+g30 : (l : List ℤ) → 1 < length l → getD l 0 (pos 0) ≡ pos 7 → (k : ℕ) → k < 2 → getD (set l 1 (pos 7)) k (pos 0) ≡ pos 7
+g30 l h e k q = set-front l 1 (pos 7) h (λ j r. let z : j ≡ 0 = omega arith in rw z e) k q
+
+g31 : (i : ℕ) → i < 3 → T (leZ (getD (pos 1 ∷ pos 4 ∷ negsuc 0 ∷ []) i (pos 0)) (pos 4))
+g31 i h = entry (λ z. leZ z (pos 4)) (pos 1 ∷ pos 4 ∷ negsuc 0 ∷ []) tt i h
+
+-- a test whose outcome is known
+g32 : (b : Bool) → b ≡ true → _≡_ {A = ℕ} (elim b as (λ _. ℕ) [ true ↦ 1 | false ↦ 2 ]) 1
+g32 b e = pick-yes b 1 2 e

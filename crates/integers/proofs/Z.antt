@@ -1,7 +1,7 @@
 -- Linear arithmetic over ℤ by `omega`, which reads only ℕ. z is `p z - m z`, its positive and its negative part. Rules (`ints`) have `omega` read and prove `≤ℤ`,
 -- `<ℤ`, `≡`, signed tests and signed ranges by those parts; `sum`, `sub`, `neg`, `prod` tell it of an operation; and `simp flat` takes a goal or a fact apart to its leaves.
 -- Assumes nothing.
-use mathlib.Core.Path.{_≡_, refl, sym, ap, _∙_, subst}
+use mathlib.Core.Path.{_≡_, sym, ap, _∙_, subst}
 use mathlib.Core.Logic.{_↔_, _≢_, _⊎_, inl, inr, ⊎-elim}
 use mathlib.Core.Bool.{Bool, true, false, not, cond}
 use mathlib.Core.List.{List, [], _∷_}

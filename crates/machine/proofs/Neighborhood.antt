@@ -9,7 +9,7 @@ use lib.IntN.{ℤ, pos, _+ℤ_, _-ℤ_}
 use lib.ListN.{length, set}
 use lib.Signed.{_≤ℤ_}
 use Rattle.integers.proofs.Z.{ints, flat}
-use Rattle.layout.specs.Slots.{_!_, N, boxSize}
+use Rattle.layout.specs.Slots.{_!_, N}
 use Rattle.machine.specs.Box.{In}
 use Rattle.machine.specs.Rate.{outer, neighborhood}
 use Rattle.machine.proofs.Box.{differ}

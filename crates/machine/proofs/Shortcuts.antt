@@ -1,7 +1,7 @@
 -- Sheet A's recovery box contracts under the plain law. Rates over the whole box, or near the working box's faces, would be others (document 01, "Shortcuts that
 -- let the sledge through"). Assumes nothing.
 use mathlib.Core.Path.{_≡_, refl}
-use mathlib.Core.List.{List, [], _∷_, _++_}
+use mathlib.Core.List.{List, _∷_, _++_}
 use Prim.Native.Nat.{_-_}
 use lib.IntN.{ℤ, pos, negsuc}
 use lib.ListN.{replicate}

@@ -17,7 +17,7 @@ use Rattle.machine.proofs.InPlace.{trim-sides}
 use Rattle.lifting.specs.Reach.{lawRefusal, sidesRefusal, orNext}
 use Rattle.lifting.proofs.Count.{cond-zero}
 use Rattle.lifting.proofs.Refusals.{or-stop, or-go, or-none}
-use Rattle.refusals.proofs.CodeSides.{sides-near}
+use Rattle.reach_refusals.proofs.CodeSides.{sides-near}
 use Rattle.safety.specs.Question.{questionLength, allowanceOf, commandOf, pairs, measured, formRefusal, allowanceRefusal, questionRefusal}
 
 pub form-length : (n : ℕ) (g : List ℕ) → formRefusal n g ≡ 0 → length g ≡ questionLength n

@@ -1,6 +1,6 @@
 // A question's bytes (document 01, "Sheet layout"): its refusals, 12 to 15, and its numbers, the allowance, the command and the
 // measured box. `pairs` also reads the start box of a reach from its bytes. The definitions are in safety/specs/Question; 14 and
-// 15 are tested in `refusals`.
+// 15 are tested in `reach_refusals`.
 ghost use mathlib.Core.Path.{_≡_};
 ghost use Prim.Native.Nat.{_+_, _*_, _≤_};
 ghost use lib.ListN.{length};
@@ -12,8 +12,8 @@ use layout::sizes::I32;
 use layout::slots::BOX_SIZE;
 use layout::slots::N;
 use layout::slots::SLOTS;
-use refusals::law_refusal;
-use refusals::sides_refusal;
+use reach_refusals::law_refusal;
+use reach_refusals::sides_refusal;
 
 // The places of the numbers: a mark, the allowance, the command, pairs of sides.
 const ALLOWANCE_AT: usize = 2;

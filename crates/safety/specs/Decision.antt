@@ -9,7 +9,7 @@ use Rattle.layout.specs.Sheet.{refusal, values}
 use Rattle.machine.specs.Box.{within}
 use Rattle.machine.specs.Machine.{Law, baseline, command, machine}
 use Rattle.lifting.specs.Step.{Got, got, failed, out, unrecovered, andThen}
-use Rattle.lifting.specs.Reach.{Reached, reach, clear}
+use Rattle.lifting.specs.Reach.{reach, clear}
 use Rattle.safety.specs.Question.{questionRefusal, allowanceOf, commandOf, measured}
 
 -- ---- an attempt at a width

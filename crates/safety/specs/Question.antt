@@ -1,9 +1,9 @@
 -- A question's bytes (document 01, "Sheet layout"): `QS`, allowance, command, n pairs of sides; and its refusals, 12 to 15.
-use mathlib.Core.Bool.{Bool, cond, _&&_}
+use mathlib.Core.Bool.{cond, _&&_}
 use mathlib.Core.List.{List}
 use Prim.Native.Nat.{ℕ, _+_, _*_}
 use lib.Dec.{leb, eqb}
-use lib.IntN.{ℤ, pos}
+use lib.IntN.{ℤ}
 use lib.ListN.{getD, length, take, drop}
 use mir.Syntax.{w32}
 use Rattle.integers.specs.Bytes.{be, decode}

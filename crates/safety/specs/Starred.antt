@@ -13,7 +13,7 @@ use Rattle.machine.specs.Box.{lo, hi, meets}
 use Rattle.machine.specs.Machine.{Law, baseline, command, machine, bandMeets, clamp}
 use Rattle.lifting.specs.Step.{Got, got, failed, out}
 use Rattle.lifting.specs.Reach.{Reached, reach, clear}
-use Rattle.safety.specs.Decision.{Reply, packed, decide, checkRecovery}
+use Rattle.safety.specs.Decision.{packed, decide, checkRecovery}
 use Rattle.safety.specs.Listing.{listing}
 
 -- ---- sheet A's questions

@@ -17,7 +17,7 @@ use Rattle.step.specs.Code.{stepped}
 use Rattle.walk.specs.declared.Walked.{Walked}
 use Rattle.walk.specs.declared.Walked.the-variants.{Ended, Unsafe}
 use Rattle.walk.specs.declared.Walked.the-variants as walked
-use Rattle.lifting.specs.Step.{Got, got, failed, unsettled, unsafe, andThen, Step, step, swept}
+use Rattle.lifting.specs.Step.{Got, got, failed, unsafe, andThen, Step, step, swept}
 use Rattle.lifting.specs.Reach.{Reached, leg, walk, reach}
 use Rattle.walk.specs.Code.{said, legged, walked}
 

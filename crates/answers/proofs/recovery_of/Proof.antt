@@ -1,7 +1,6 @@
 -- `recovery_of` gives the same reply. Assumes nothing.
-use mathlib.Core.Path.{_≡_, sym, ap}
+use mathlib.Core.Path.{sym, ap}
 use borrow.Author.Needs.{needs}
-use Rattle.answers.specs.declared.Decision.{Decision}
 use Rattle.answers.specs.Code.{decided, checked}
 use Rattle.answers.proofs.recovery_of.Statement.{statement}
 use Rattle.answers.proofs.recovery_of.Tie as tie

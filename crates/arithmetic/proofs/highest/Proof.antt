@@ -1,5 +1,5 @@
 -- `highest` gives the greater of z and of the clamped quotient, through the negatives. Assumes nothing.
-use mathlib.Core.Path.{_≡_, _∙_}
+use mathlib.Core.Path.{_≡_}
 use mir.Facts.{toZ-ofZ}
 use mir.Syntax.{w64}
 use mir.Val.{SFits}

@@ -1,7 +1,6 @@
 -- `decide` is the decision of the definitions, and its rounds never pass the allowance. Assumes nothing.
-use mathlib.Core.Path.{_≡_, sym, ap, _∙_, subst}
+use mathlib.Core.Path.{sym, ap, _∙_, subst}
 use mathlib.Core.List.{List}
-use Prim.Native.Nat.{ℕ, _≤_}
 use lib.IntN.{ℤ}
 use borrow.Author.Needs.{needs}
 use Rattle.layout.specs.Valid.{Valid}

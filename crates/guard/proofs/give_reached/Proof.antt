@@ -6,7 +6,6 @@ use native.Mathlib.Omega.{arith}
 use lib.IntN.{ℤ}
 use lib.Seq.{sets}
 use borrow.Author.Needs.{needs}
-use Rattle.boxes.specs.Code.{answered}
 use Rattle.numbers.specs.Numbers.{numberBytes, sidesOf}
 use Rattle.guard.specs.Calls.{reachedRefusal, reachedCall, reachedOut}
 use Rattle.answers.proofs.Ways.{or-refused, or-answered, or-unchanged, or-written, room-stop, room-short, room-enough}

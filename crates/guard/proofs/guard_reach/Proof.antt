@@ -1,13 +1,13 @@
 -- `guard_reach` answers and writes what the definitions say. Assumes nothing.
 use mathlib.Core.Path.{_≡_, sym, ap, _∙_, subst}
 use mathlib.Core.List.{List}
-use Prim.Native.Nat.{ℕ, _*_, _≤_}
+use Prim.Native.Nat.{ℕ, _*_}
 use native.Mathlib.Omega.{arith}
 use lib.Dec.{eqb}
 use lib.IntN.{ℤ}
 use mir.Facts.{toZ-ofZ}
 use borrow.Author.Needs.{needs}
-use Rattle.layout.specs.Slots.{N, vars}
+use Rattle.layout.specs.Slots.{vars}
 use Rattle.layout.specs.Sheet.{values}
 use Rattle.layout.specs.Valid.{Valid}
 use Rattle.layout.proofs.Valid.{valid}

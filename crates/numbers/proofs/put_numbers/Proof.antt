@@ -1,10 +1,9 @@
 -- `put_numbers` writes numbers: after k turns, the first k. Assumes nothing.
-use mathlib.Core.Path.{_≡_, refl, sym, ap, _∙_}
-use Prim.Native.Nat.{_≤_, _<_, _-_}
+use mathlib.Core.Path.{_≡_, refl, ap, _∙_}
+use Prim.Native.Nat.{_≤_, _-_}
 use native.Mathlib.Omega.{arith}
 use lib.ListN.{length}
 use lib.Seq.{sets, length-sets}
-use borrow.Author.Needs.{needs}
 use Rattle.numbers.specs.Numbers.{numberBytes}
 use Rattle.numbers.proofs.CodeNumbers.{bytes-more}
 use Rattle.numbers.proofs.put_numbers.Statement.{statement}

@@ -1,12 +1,11 @@
 -- `pairs` reads n pairs of sides: after i turns, the first i. Assumes nothing.
-use mathlib.Core.Path.{_≡_, refl, sym, _∙_}
-use Prim.Native.Nat.{_≤_, _<_, _-_}
+use mathlib.Core.Path.{_≡_, refl, _∙_}
+use Prim.Native.Nat.{_≤_, _-_}
 use native.Mathlib.Omega.{arith}
 use mir.Syntax.{w32}
 use mir.Val.{SFits}
 use borrow.Author.Needs.{needs}
 use Rattle.integers.proofs.Z.{up32, from32}
-use Rattle.layout.specs.Slots.{N}
 use Rattle.layout.specs.Fields.{decoded}
 use Rattle.machine.specs.Box.{sides}
 use Rattle.machine.proofs.Box.{sides-more}

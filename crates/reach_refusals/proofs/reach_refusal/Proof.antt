@@ -7,8 +7,8 @@ use borrow.Author.Needs.{needs}
 use Rattle.rates.specs.Plant.{lawOf}
 use Rattle.lifting.specs.Reach.{lawRefusal, sidesRefusal, reachRefusal}
 use Rattle.lifting.proofs.Refusals.{or-stop, or-go}
-use Rattle.refusals.proofs.reach_refusal.Statement.{statement}
-use Rattle.refusals.proofs.reach_refusal.Tie as tie
+use Rattle.reach_refusals.proofs.reach_refusal.Statement.{statement}
+use Rattle.reach_refusals.proofs.reach_refusal.Tie as tie
 
 law-is : (c : tie.After-law-refusal) → let s = c .before .before .before in c .law-refusal .result ≡ lawRefusal (s .args .sheet .now) (lawOf (s .args .baseline) (s .args .command))
 law-is c = let s = c .before .before .before in c .law-refusal .ensures ∙ ap (λ (u : ℤ). lawRefusal (s .args .sheet .now) (lawOf (s .args .baseline) u)) (toZ-ofZ (s .fits .command))

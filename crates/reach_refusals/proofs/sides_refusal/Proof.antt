@@ -6,9 +6,9 @@ use borrow.Author.Tests.{not-true, not-false}
 use Rattle.integers.proofs.Z.{told}
 use Rattle.machine.specs.Box.{all}
 use Rattle.lifting.specs.Reach.{sidesRefusal}
-use Rattle.refusals.proofs.CodeSides.{sideIn, sides-more, sides-stop}
-use Rattle.refusals.proofs.sides_refusal.Statement.{statement}
-use Rattle.refusals.proofs.sides_refusal.Tie as tie
+use Rattle.reach_refusals.proofs.CodeSides.{sideIn, sides-more, sides-stop}
+use Rattle.reach_refusals.proofs.sides_refusal.Statement.{statement}
+use Rattle.reach_refusals.proofs.sides_refusal.Tie as tie
 
 abbrev Inv-loop : tie.InvT-loop
 Inv-loop n b i₀ i = (i ≤ n) × (sidesRefusal i b ≡ 0)

@@ -3,8 +3,8 @@ use mathlib.Core.Path.{refl}
 use native.Mathlib.Omega.{arith}
 use borrow.Author.Tests.{le-leb, lt-leb}
 use Rattle.lifting.specs.Reach.{ticksRefusal}
-use Rattle.refusals.proofs.ticks_refusal.Statement.{statement}
-use Rattle.refusals.proofs.ticks_refusal.Tie as tie
+use Rattle.reach_refusals.proofs.ticks_refusal.Statement.{statement}
+use Rattle.reach_refusals.proofs.ticks_refusal.Tie as tie
 
 returns : tie.Need-returns
 unfolding ticksRefusal

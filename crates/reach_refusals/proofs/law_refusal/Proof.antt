@@ -11,8 +11,8 @@ use Rattle.layout.specs.Slots.{leastCommand, greatestCommand}
 use Rattle.rates.specs.Plant.{lawOf}
 use Rattle.machine.proofs.Box.{le-is, le-not}
 use Rattle.lifting.specs.Reach.{lawRefusal}
-use Rattle.refusals.proofs.law_refusal.Statement.{statement}
-use Rattle.refusals.proofs.law_refusal.Tie as tie
+use Rattle.reach_refusals.proofs.law_refusal.Statement.{statement}
+use Rattle.reach_refusals.proofs.law_refusal.Tie as tie
 
 -- the commands as they were read
 module _ (c : tie.After-if22) where

@@ -4,8 +4,8 @@ use lib.IntN.{pos, negℤ}
 use mir.Facts.{toZ-ofZ}
 use Rattle.integers.proofs.Z.{ints}
 use Rattle.machine.proofs.Box.{le-is, le-not}
-use Rattle.refusals.proofs.in_range.Statement.{statement}
-use Rattle.refusals.proofs.in_range.Tie as tie
+use Rattle.reach_refusals.proofs.in_range.Statement.{statement}
+use Rattle.reach_refusals.proofs.in_range.Tie as tie
 
 returns : tie.Need-returns
 returns c = let s = c .before in rw (le-not (negℤ (pos 1000000)) (s .args .l) (omega ints)) refl
