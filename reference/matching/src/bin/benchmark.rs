@@ -1,6 +1,9 @@
 //! The archive against the second guard in one run: the two take turns, the medians of their
 //! processor times are compared, and a table in markdown is printed. A second table has the
-//! instructions of a round, which callgrind counts over this program itself.
+//! instructions of a round and of reading a sheet, which callgrind counts over this program itself.
+//! Times are told and not judged, since they vary with the machine. What is judged is that the two
+//! answer alike and that the guard takes at most 1.25 times the instructions. The last line is
+//! `N passed, M failed`.
 
 use matching::archive;
 use matching::expected;
@@ -57,7 +60,7 @@ fn median(mut times: Vec<f64>) -> f64 {
     times[times.len() / 2]
 }
 
-/// Both calls in turn; they have to answer alike.
+/// Both calls in turn; they have to answer alike, else the program ends here.
 fn compare(mut guard: impl FnMut() -> u64, mut second: impl FnMut() -> u64) -> Times {
     assert_eq!(guard(), second(), "the two answer alike");
     let once = time(3, &mut second).max(1.0);
@@ -104,20 +107,25 @@ fn decide(sheet: &[u8], question: &[u8]) -> Times {
     )
 }
 
-/// The archive of the crate `sheet` alone; the second guard too has to leave the values in memory.
+/// Reading with the archive of the crate `sheet` alone.
+fn read_by_guard(sheet: &[u8], numbers: &mut [i32; NUMBERS]) -> u64 {
+    let refusal = archive::numbers(black_box(sheet), numbers);
+    black_box(numbers);
+    refusal.into()
+}
+
+/// Reading with the second guard, which too has to leave the values in memory.
+fn read_by_second(sheet: &[u8]) -> u64 {
+    let values = sheet::read(black_box(sheet));
+    black_box(&values);
+    values.map_or_else(|refusal| refusal.number().into(), |_| 0)
+}
+
 fn read(sheet: &[u8]) -> Times {
     let mut numbers = [0; NUMBERS];
     compare(
-        || {
-            let refusal = archive::numbers(black_box(sheet), &mut numbers);
-            black_box(&numbers);
-            u64::from(refusal)
-        },
-        || {
-            let values = sheet::read(black_box(sheet));
-            black_box(&values);
-            values.map_or_else(|refusal| u64::from(refusal.number()), |_| 0)
-        },
+        || read_by_guard(sheet, &mut numbers),
+        || read_by_second(sheet),
     )
 }
 
@@ -175,6 +183,9 @@ fn model(n: usize, bands: usize, unsafe_boxes: usize) -> (Sheet, StateBox) {
     (sheet, measured)
 }
 
+/// The allowances at which a decision is measured.
+const ALLOWANCES: [u32; 7] = [0, 1, 4, 16, 64, 256, 1_024];
+
 /// The numbers of variables and of bands at which a round is measured.
 const SHAPES: [(usize, usize); 9] = [
     (1, 1),
@@ -188,6 +199,18 @@ const SHAPES: [(usize, usize); 9] = [
     (4, 8),
 ];
 
+/// The sheets that are read: variables, bands and no-go boxes.
+const SIZES: [(&str, (usize, usize, usize)); 3] = [
+    ("small", (1, 1, 1)),
+    ("middle", (2, 4, 4)),
+    ("largest", (VARIABLES, BANDS, UNSAFE_BOXES)),
+];
+
+fn sheet_of_size(size: usize) -> Vec<u8> {
+    let (n, bands, unsafe_boxes) = SIZES[size].1;
+    sheet_bytes(&model(n, bands, unsafe_boxes).0)
+}
+
 /// A sheet and a question that takes over 1,000 rounds.
 fn many_rounds(n: usize, bands: usize) -> (Vec<u8>, Vec<u8>) {
     let (sheet, measured) = model(n, bands, 1);
@@ -197,28 +220,74 @@ fn many_rounds(n: usize, bands: usize) -> (Vec<u8>, Vec<u8>) {
     (bytes, question)
 }
 
-/// What callgrind runs: so many decisions by one of the two.
+/// What the guard may take at most, in the second guard's instructions.
+const MOST: f64 = 1.25;
+
+/// What callgrind runs: one of the two, so many times.
 const COUNTED: &str = "counted";
 
-fn run_counted(words: &[String]) {
-    let number = |i: usize| words[i].parse::<usize>().expect("a number");
-    let (sheet, question) = many_rounds(number(1), number(2));
-    for _ in 0..number(3) {
-        black_box(match words[0].as_str() {
-            "guard" => archive::decide(black_box(&sheet), black_box(&question)),
-            _ => expected::decide(black_box(&sheet), black_box(&question)),
-        });
+/// Work that is counted, in the words of this program's arguments.
+#[derive(Clone, Copy)]
+enum Work {
+    /// Decisions at a number of variables and of bands.
+    Decide(usize, usize),
+    /// Reading a sheet, by its place in `SIZES`.
+    Read(usize),
+}
+
+impl Work {
+    fn words(self) -> [String; 3] {
+        match self {
+            Work::Decide(n, bands) => ["decide".into(), n.to_string(), bands.to_string()],
+            Work::Read(size) => ["read".into(), size.to_string(), "0".into()],
+        }
+    }
+
+    fn from_words(words: &[String]) -> Work {
+        let number = |i: usize| words[i].parse::<usize>().expect("a number");
+        match words[0].as_str() {
+            "decide" => Work::Decide(number(1), number(2)),
+            _ => Work::Read(number(1)),
+        }
+    }
+
+    fn run(self, who: &str, times: usize) {
+        match self {
+            Work::Decide(n, bands) => {
+                let (sheet, question) = many_rounds(n, bands);
+                for _ in 0..times {
+                    black_box(match who {
+                        "guard" => archive::decide(black_box(&sheet), black_box(&question)),
+                        _ => expected::decide(black_box(&sheet), black_box(&question)),
+                    });
+                }
+            }
+            Work::Read(size) => {
+                let sheet = sheet_of_size(size);
+                let mut numbers = [0; NUMBERS];
+                for _ in 0..times {
+                    black_box(match who {
+                        "guard" => read_by_guard(&sheet, &mut numbers),
+                        _ => read_by_second(&sheet),
+                    });
+                }
+            }
+        }
     }
 }
 
-/// The instructions of this program where one of the two makes so many decisions.
-fn instructions(who: &str, n: usize, bands: usize, decisions: usize) -> f64 {
-    let words = [n, bands, decisions].map(|number| number.to_string());
+fn run_counted(words: &[String]) {
+    let times = words[1].parse().expect("a number");
+    Work::from_words(&words[2..]).run(&words[0], times);
+}
+
+/// The instructions of this program where one of the two does the work so many times.
+fn instructions(who: &str, work: Work, times: usize) -> f64 {
     let output = Command::new("valgrind")
         .args(["--tool=callgrind", "--callgrind-out-file=/dev/null"])
         .arg(std::env::current_exe().expect("this program"))
-        .args([COUNTED, who])
-        .args(words)
+        .args([COUNTED, who, &times.to_string()])
+        .args(work.words())
         .output()
         .expect("valgrind runs");
     let said = String::from_utf8_lossy(&output.stderr);
@@ -229,24 +298,39 @@ fn instructions(who: &str, n: usize, bands: usize, decisions: usize) -> f64 {
     count.parse().expect("a number")
 }
 
-/// The instructions of a round: of some decisions, less those of a few.
-fn instructions_of_a_round(who: &str, n: usize, bands: usize) -> f64 {
+/// The instructions of the work once: of some times, less those of a few.
+fn instructions_once(who: &str, work: Work) -> f64 {
     let (few, some) = (2, 12);
-    let (sheet, question) = many_rounds(n, bands);
-    let more = instructions(who, n, bands, some) - instructions(who, n, bands, few);
-    more / ((some - few) as f64 * rounds(&sheet, &question) as f64)
+    (instructions(who, work, some) - instructions(who, work, few)) / (some - few) as f64
 }
 
-fn count_instructions() {
+/// A line for some work, of which the instructions are told `per` times less. Whether the ratio is
+/// small enough.
+fn count_line(name: &str, work: Work, per: f64) -> bool {
+    let guard = instructions_once("guard", work) / per;
+    let second = instructions_once("second", work) / per;
+    let ratio = guard / second;
+    println!("| {name} | {guard:.0} | {second:.0} | {ratio:.2} |");
+    ratio <= MOST
+}
+
+/// How many ratios of instructions are small enough, of how many.
+fn count_instructions() -> (usize, usize) {
     println!();
     println!("| instructions | guard | second guard | ratio |");
     println!("|---|---:|---:|---:|");
+    let mut fine = Vec::new();
     for (n, bands) in SHAPES {
-        let guard = instructions_of_a_round("guard", n, bands);
-        let second = instructions_of_a_round("second", n, bands);
-        let ratio = guard / second;
-        println!("| one round, n {n}, bands {bands} | {guard:.0} | {second:.0} | {ratio:.2} |");
+        let (sheet, question) = many_rounds(n, bands);
+        let count = rounds(&sheet, &question) as f64;
+        let name = format!("one round, n {n}, bands {bands}");
+        fine.push(count_line(&name, Work::Decide(n, bands), count));
     }
+    for (size, (name, _)) in SIZES.iter().enumerate() {
+        let name = format!("reading a sheet, {name}");
+        fine.push(count_line(&name, Work::Read(size), 1.0));
+    }
+    (fine.iter().filter(|&&fine| fine).count(), fine.len())
 }
 
 fn main() {
@@ -259,7 +343,7 @@ fn main() {
 
     let (sheet, measured) = model(2, 3, 2);
     let bytes = sheet_bytes(&sheet);
-    for allowance in [0, 1, 4, 16, 64, 256, 1_024] {
+    for allowance in ALLOWANCES {
         let question = question_bytes(allowance, 5, &measured, 2);
         assert_eq!(rounds(&bytes, &question), u64::from(allowance));
         let name = format!("decision, rounds {allowance} (n 2, bands 3)");
@@ -273,16 +357,10 @@ fn main() {
         line(&name, &decide(&bytes, &question), count as f64);
     }
 
-    let sizes = [
-        ("small", (1, 1, 1)),
-        ("middle", (2, 4, 4)),
-        ("largest", (VARIABLES, BANDS, UNSAFE_BOXES)),
-    ];
-    for (name, (n, bands, unsafe_boxes)) in sizes {
-        let bytes = sheet_bytes(&model(n, bands, unsafe_boxes).0);
-        let times = read(&bytes);
+    for (size, (name, _)) in SIZES.iter().enumerate() {
+        let bytes = sheet_of_size(size);
         let name = format!("reading a sheet, {name} ({} bytes)", bytes.len());
-        line(&name, &times, 1.0);
+        line(&name, &read(&bytes), 1.0);
     }
 
     let case = worst_case();
@@ -293,5 +371,9 @@ fn main() {
     let name = format!("worst case, rounds {count} (n 4, bands 3)");
     line(&name, &decide(&bytes, &question), 1.0);
 
-    count_instructions();
+    let (fine, all) = count_instructions();
+    // every line of the first table has compared two answers
+    let alike = ALLOWANCES.len() + SHAPES.len() + SIZES.len() + 1;
+    println!("{} passed, {} failed", alike + fine, all - fine);
+    std::process::exit(i32::from(fine < all));
 }
