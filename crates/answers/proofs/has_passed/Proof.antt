@@ -10,12 +10,6 @@ use Rattle.answers.proofs.has_passed.Tie as tie
 enum-told : tie.Need-enum-told
 enum-told c = search needs
 
-enum-told-2 : tie.Need-enum-told-2
-enum-told-2 c = search needs
-
-enum-told-3 : tie.Need-enum-told-3
-enum-told-3 c = search needs
-
 returns : tie.Need-returns
 unfolding checked isKeep
 returns c = sym (ap (λ (a : Recovery). isKeep (checked a)) (c .enum-told .given .1))
@@ -30,4 +24,4 @@ returns-3 c = sym (ap (λ (a : Recovery). isKeep (checked a)) (c .enum-told3 .gi
 
 pub has-passed-spec : {M : Type 1} → statement M
 has-passed-spec =
-    tie.close (tie.spec enum-told enum-told-2 enum-told-3 returns returns-2 returns-3)
+    tie.close (tie.spec enum-told (λ c. search needs) (λ c. search needs) returns returns-2 returns-3)

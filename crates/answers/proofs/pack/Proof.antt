@@ -4,8 +4,5 @@ use borrow.Author.Needs.{needs}
 use Rattle.answers.proofs.pack.Statement.{statement}
 use Rattle.answers.proofs.pack.Tie as tie
 
-returns : tie.Need-returns
-returns c = omega arith
-
 pub pack-spec : {M : Type 1} → statement M
-pack-spec = tie.close (tie.spec (λ c. search needs) (λ c. search needs) (λ c. search needs) (λ c. search needs) returns)
+pack-spec = tie.close (tie.spec (λ c. search needs) (λ c. search needs) (λ c. search needs) (λ c. search needs) (λ c. omega arith))

@@ -10,20 +10,11 @@ use Rattle.layout.specs.Slots.{_!_}
 use Rattle.layout.proofs.count.Statement.{statement}
 use Rattle.layout.proofs.count.Tie as tie
 
-mul-x : tie.Need-mul-x
-mul-x c = search needs
-
-element-copy-out-x : tie.Need-element-copy-out-x
-element-copy-out-x c = search needs
-
 cast-result : tie.Need-cast-result
 cast-result c = let z = c .before .args .v .now ! c .before .args .slot in
     let f : SFits w32 z = search needs in
     let h = high w32 z (c .before .pre .1) f in
     simp (toZ-ofZ, f) (h .sign, record { fits = omega (arith, h .size .fits) })
 
-returns : tie.Need-returns
-returns c = search needs
-
 pub count-spec : {M : Type 1} → statement M
-count-spec = tie.close (tie.spec mul-x element-copy-out-x cast-result returns)
+count-spec = tie.close (tie.spec (λ c. search needs) (λ c. search needs) cast-result (λ c. search needs))

@@ -9,9 +9,6 @@ use Rattle.listing.proofs.Vars.{Counted, counted}
 use Rattle.listing.proofs.question_length.Statement.{statement}
 use Rattle.listing.proofs.question_length.Tie as tie
 
-read-into-requires : tie.Need-read-into-requires
-read-into-requires c κs = search needs
-
 count-requires : tie.Need-count-requires
 count-requires c κs =
     let r = c .before in
@@ -38,4 +35,4 @@ returns c = (omega (arith, read c .is), omega (arith, read c .high))
 
 pub question-length-spec : {M : Type 1} → statement M
 question-length-spec =
-    tie.close (tie.spec read-into-requires count-requires mul-result add-result returns)
+    tie.close (tie.spec (λ c κs. search needs) count-requires mul-result add-result returns)

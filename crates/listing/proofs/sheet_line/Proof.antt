@@ -6,15 +6,6 @@ use Rattle.safety.specs.Listing.{sheetLine}
 use Rattle.listing.proofs.sheet_line.Statement.{statement}
 use Rattle.listing.proofs.sheet_line.Tie as tie
 
-check-recovery-requires : tie.Need-check-recovery-requires
-check-recovery-requires c κs = search needs
-
-put-sheet-line-requires : tie.Need-put-sheet-line-requires
-put-sheet-line-requires c κs = search needs
-
-has-passed-requires : tie.Need-has-passed-requires
-has-passed-requires c κs = search needs
-
 returns : tie.Need-returns
 unfolding sheetLine
 returns c =
@@ -24,4 +15,4 @@ returns c =
 pub sheet-line-spec : {M : Type 1} → statement M
 sheet-line-spec =
     tie.close
-    (tie.spec check-recovery-requires put-sheet-line-requires has-passed-requires returns)
+    (tie.spec (λ c κs. search needs) (λ c κs. search needs) (λ c κs. search needs) returns)

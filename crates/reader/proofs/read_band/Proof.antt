@@ -27,62 +27,8 @@ within-rows : (c : tie.In-loop Inv-loop μ-loop)
     c .before .loop .i * rowBytes n + rowBytes n ≤ n * rowBytes n)
 within-rows c = row-room _ _ (c .loop-test .taken)
 
-mul-slot : tie.Need-mul-slot Inv-loop μ-loop
-mul-slot c = omega arith
-
-add-slot : tie.Need-add-slot Inv-loop μ-loop
-add-slot c = omega arith
-
-get-i32-requires : tie.Need-get-i32-requires Inv-loop μ-loop
-get-i32-requires c κs = omega arith
-
-mul-v : tie.Need-mul-v Inv-loop μ-loop
-mul-v c = omega arith
-
-element-set-from-v : tie.Need-element-set-from-v Inv-loop μ-loop
-element-set-from-v c = omega arith
-
-add-get-i32 : tie.Need-add-get-i32 Inv-loop μ-loop
-add-get-i32 c = omega arith
-
-get-i32-requires-2 : tie.Need-get-i32-requires-2 Inv-loop μ-loop
-get-i32-requires-2 c κs = omega arith
-
-add-v : tie.Need-add-v Inv-loop μ-loop
-add-v c = omega arith
-
-mul-v-2 : tie.Need-mul-v-2 Inv-loop μ-loop
-mul-v-2 c = omega arith
-
-element-set-from-v-2 : tie.Need-element-set-from-v-2 Inv-loop μ-loop
-element-set-from-v-2 c = omega arith
-
-add-get-i32-2 : tie.Need-add-get-i32-2 Inv-loop μ-loop
-add-get-i32-2 c = omega arith
-
-get-i32-requires-3 : tie.Need-get-i32-requires-3 Inv-loop μ-loop
-get-i32-requires-3 c κs = omega arith
-
-add-t12 : tie.Need-add-t12 Inv-loop μ-loop
-add-t12 c = omega arith
-
-mul-t8 : tie.Need-mul-t8 Inv-loop μ-loop
-mul-t8 c = omega arith
-
-element-set-from-v-3 : tie.Need-element-set-from-v-3 Inv-loop μ-loop
-element-set-from-v-3 c = omega arith
-
 loop-holds : tie.Need-loop-holds Inv-loop μ-loop
 loop-holds c = (omega arith, λ w e. e ∙ ap (λ (j : ℕ). filled (bandFields (c .before .before .before .before .args .n) (c .before .before .before .before .args .k)) (c .before .before .before .before .args .f .now) (c .before .before .before .before .args .at) j w) (omega arith))
-
-add-read-row : tie.Need-add-read-row Inv-loop μ-loop
-add-read-row c = omega arith
-
-mul-read-row : tie.Need-mul-read-row Inv-loop μ-loop
-mul-read-row c = omega arith
-
-add-read-row-2 : tie.Need-add-read-row-2 Inv-loop μ-loop
-add-read-row-2 c = omega arith
 
 mul-read-row-2 : tie.Need-mul-read-row-2 Inv-loop μ-loop
 mul-read-row-2 c = omega (arith, within-rows c)
@@ -90,23 +36,8 @@ mul-read-row-2 c = omega (arith, within-rows c)
 add-read-row-3 : tie.Need-add-read-row-3 Inv-loop μ-loop
 add-read-row-3 c = omega (arith, within-rows c)
 
-add-read-row-4 : tie.Need-add-read-row-4 Inv-loop μ-loop
-add-read-row-4 c = omega arith
-
-mul-read-row-3 : tie.Need-mul-read-row-3 Inv-loop μ-loop
-mul-read-row-3 c = omega arith
-
-add-read-row-5 : tie.Need-add-read-row-5 Inv-loop μ-loop
-add-read-row-5 c = omega arith
-
 read-row-requires : tie.Need-read-row-requires Inv-loop μ-loop
 read-row-requires c κs = omega (arith, within-rows (c .before))
-
-add-i : tie.Need-add-i Inv-loop μ-loop
-add-i c = omega arith
-
-loop-less : tie.Need-loop-less Inv-loop μ-loop
-loop-less c = omega arith
 
 loop-again : tie.Need-loop-again Inv-loop μ-loop
 loop-again c = let d = c .before .before .before in
@@ -140,32 +71,32 @@ read-band-spec =
     (tie.spec
     Inv-loop
     μ-loop
-    mul-slot
-    add-slot
-    get-i32-requires
-    mul-v
-    element-set-from-v
-    add-get-i32
-    get-i32-requires-2
-    add-v
-    mul-v-2
-    element-set-from-v-2
-    add-get-i32-2
-    get-i32-requires-3
-    add-t12
-    mul-t8
-    element-set-from-v-3
+    (λ c. omega arith)
+    (λ c. omega arith)
+    (λ c κs. omega arith)
+    (λ c. omega arith)
+    (λ c. omega arith)
+    (λ c. omega arith)
+    (λ c κs. omega arith)
+    (λ c. omega arith)
+    (λ c. omega arith)
+    (λ c. omega arith)
+    (λ c. omega arith)
+    (λ c κs. omega arith)
+    (λ c. omega arith)
+    (λ c. omega arith)
+    (λ c. omega arith)
     loop-holds
-    add-read-row
-    mul-read-row
-    add-read-row-2
+    (λ c. omega arith)
+    (λ c. omega arith)
+    (λ c. omega arith)
     mul-read-row-2
     add-read-row-3
-    add-read-row-4
-    mul-read-row-3
-    add-read-row-5
+    (λ c. omega arith)
+    (λ c. omega arith)
+    (λ c. omega arith)
     read-row-requires
-    add-i
-    loop-less
+    (λ c. omega arith)
+    (λ c. omega arith)
     loop-again
     returns)

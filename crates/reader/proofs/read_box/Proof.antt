@@ -24,54 +24,6 @@ loop-holds : tie.Need-loop-holds Inv-loop μ-loop
 unfolding filled
 loop-holds c = (omega arith, λ h. refl)
 
-mul-get-i32 : tie.Need-mul-get-i32 Inv-loop μ-loop
-mul-get-i32 c = omega arith
-
-add-get-i32 : tie.Need-add-get-i32 Inv-loop μ-loop
-add-get-i32 c = omega arith
-
-get-i32-requires : tie.Need-get-i32-requires Inv-loop μ-loop
-get-i32-requires c κs = omega arith
-
-add-v : tie.Need-add-v Inv-loop μ-loop
-add-v c = omega arith
-
-mul-v : tie.Need-mul-v Inv-loop μ-loop
-mul-v c = omega arith
-
-element-set-from-v : tie.Need-element-set-from-v Inv-loop μ-loop
-element-set-from-v c = omega arith
-
-mul-get-i32-2 : tie.Need-mul-get-i32-2 Inv-loop μ-loop
-mul-get-i32-2 c = omega arith
-
-add-get-i32-2 : tie.Need-add-get-i32-2 Inv-loop μ-loop
-add-get-i32-2 c = omega arith
-
-add-get-i32-3 : tie.Need-add-get-i32-3 Inv-loop μ-loop
-add-get-i32-3 c = omega arith
-
-get-i32-requires-2 : tie.Need-get-i32-requires-2 Inv-loop μ-loop
-get-i32-requires-2 c κs = omega arith
-
-add-t9 : tie.Need-add-t9 Inv-loop μ-loop
-add-t9 c = omega arith
-
-add-t15 : tie.Need-add-t15 Inv-loop μ-loop
-add-t15 c = omega arith
-
-mul-t16 : tie.Need-mul-t16 Inv-loop μ-loop
-mul-t16 c = omega arith
-
-element-set-from-v-2 : tie.Need-element-set-from-v-2 Inv-loop μ-loop
-element-set-from-v-2 c = omega arith
-
-add-i : tie.Need-add-i Inv-loop μ-loop
-add-i c = omega arith
-
-loop-less : tie.Need-loop-less Inv-loop μ-loop
-loop-less c = omega arith
-
 loop-again : tie.Need-loop-again Inv-loop μ-loop
 unfolding sideFields _▸_
 loop-again c = let d = c .before .before .before in
@@ -102,21 +54,21 @@ read-box-spec =
     Inv-loop
     μ-loop
     loop-holds
-    mul-get-i32
-    add-get-i32
-    get-i32-requires
-    add-v
-    mul-v
-    element-set-from-v
-    mul-get-i32-2
-    add-get-i32-2
-    add-get-i32-3
-    get-i32-requires-2
-    add-t9
-    add-t15
-    mul-t16
-    element-set-from-v-2
-    add-i
-    loop-less
+    (λ c. omega arith)
+    (λ c. omega arith)
+    (λ c κs. omega arith)
+    (λ c. omega arith)
+    (λ c. omega arith)
+    (λ c. omega arith)
+    (λ c. omega arith)
+    (λ c. omega arith)
+    (λ c. omega arith)
+    (λ c κs. omega arith)
+    (λ c. omega arith)
+    (λ c. omega arith)
+    (λ c. omega arith)
+    (λ c. omega arith)
+    (λ c. omega arith)
+    (λ c. omega arith)
     loop-again
     returns)

@@ -18,36 +18,9 @@ Inv-loop f n v₀ i₀ v i = (i ≤ n) × (v ≡ filled capField f capsAt i v₀
 abbrev μ-loop : tie.MeasureT-loop
 μ-loop f n v₀ i₀ v i = n - i
 
-read-head-requires : tie.Need-read-head-requires Inv-loop μ-loop
-read-head-requires c κs = omega arith
-
 loop-holds : tie.Need-loop-holds Inv-loop μ-loop
 unfolding filled
 loop-holds c = (omega arith, refl)
-
-mul-get-u16 : tie.Need-mul-get-u16 Inv-loop μ-loop
-mul-get-u16 c = omega arith
-
-add-get-u16 : tie.Need-add-get-u16 Inv-loop μ-loop
-add-get-u16 c = omega arith
-
-get-u16-requires : tie.Need-get-u16-requires Inv-loop μ-loop
-get-u16-requires c κs = omega arith
-
-add-t11 : tie.Need-add-t11 Inv-loop μ-loop
-add-t11 c = omega arith
-
-mul-t12 : tie.Need-mul-t12 Inv-loop μ-loop
-mul-t12 c = omega arith
-
-element-set-from-v : tie.Need-element-set-from-v Inv-loop μ-loop
-element-set-from-v c = omega arith
-
-add-i : tie.Need-add-i Inv-loop μ-loop
-add-i c = omega arith
-
-loop-less : tie.Need-loop-less Inv-loop μ-loop
-loop-less c = omega arith
 
 loop-again : tie.Need-loop-again Inv-loop μ-loop
 loop-again c = let d = c .before .before in
@@ -71,15 +44,15 @@ read-caps-spec =
     (tie.spec
     Inv-loop
     μ-loop
-    read-head-requires
+    (λ c κs. omega arith)
     loop-holds
-    mul-get-u16
-    add-get-u16
-    get-u16-requires
-    add-t11
-    mul-t12
-    element-set-from-v
-    add-i
-    loop-less
+    (λ c. omega arith)
+    (λ c. omega arith)
+    (λ c κs. omega arith)
+    (λ c. omega arith)
+    (λ c. omega arith)
+    (λ c. omega arith)
+    (λ c. omega arith)
+    (λ c. omega arith)
     loop-again
     returns)

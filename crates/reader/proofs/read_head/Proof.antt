@@ -6,60 +6,6 @@ use Rattle.layout.specs.Layout.{_▸_, headFields}
 use Rattle.reader.proofs.read_head.Statement.{statement}
 use Rattle.reader.proofs.read_head.Tie as tie
 
-get-u8-requires : tie.Need-get-u8-requires
-get-u8-requires c κs = search needs
-
-element-set-from-v : tie.Need-element-set-from-v
-element-set-from-v c = search needs
-
-get-u8-requires-2 : tie.Need-get-u8-requires-2
-get-u8-requires-2 c κs = search needs
-
-element-set-from-v-2 : tie.Need-element-set-from-v-2
-element-set-from-v-2 c = search needs
-
-get-u8-requires-3 : tie.Need-get-u8-requires-3
-get-u8-requires-3 c κs = search needs
-
-element-set-from-v-3 : tie.Need-element-set-from-v-3
-element-set-from-v-3 c = search needs
-
-get-u8-requires-4 : tie.Need-get-u8-requires-4
-get-u8-requires-4 c κs = search needs
-
-element-set-from-v-4 : tie.Need-element-set-from-v-4
-element-set-from-v-4 c = search needs
-
-get-u16-requires : tie.Need-get-u16-requires
-get-u16-requires c κs = search needs
-
-element-set-from-v-5 : tie.Need-element-set-from-v-5
-element-set-from-v-5 c = search needs
-
-get-u16-requires-2 : tie.Need-get-u16-requires-2
-get-u16-requires-2 c κs = search needs
-
-element-set-from-v-6 : tie.Need-element-set-from-v-6
-element-set-from-v-6 c = search needs
-
-get-u16-requires-3 : tie.Need-get-u16-requires-3
-get-u16-requires-3 c κs = search needs
-
-element-set-from-v-7 : tie.Need-element-set-from-v-7
-element-set-from-v-7 c = search needs
-
-get-i32-requires : tie.Need-get-i32-requires
-get-i32-requires c κs = search needs
-
-element-set-from-v-8 : tie.Need-element-set-from-v-8
-element-set-from-v-8 c = search needs
-
-get-i32-requires-2 : tie.Need-get-i32-requires-2
-get-i32-requires-2 c κs = search needs
-
-element-set-from-v-9 : tie.Need-element-set-from-v-9
-element-set-from-v-9 c = search needs
-
 returns : tie.Need-returns
 unfolding headFields _▸_ filled offset
 returns c = let c7 = c .before in
@@ -76,22 +22,22 @@ pub read-head-spec : {M : Type 1} → statement M
 read-head-spec =
     tie.close
     (tie.spec
-    get-u8-requires
-    element-set-from-v
-    get-u8-requires-2
-    element-set-from-v-2
-    get-u8-requires-3
-    element-set-from-v-3
-    get-u8-requires-4
-    element-set-from-v-4
-    get-u16-requires
-    element-set-from-v-5
-    get-u16-requires-2
-    element-set-from-v-6
-    get-u16-requires-3
-    element-set-from-v-7
-    get-i32-requires
-    element-set-from-v-8
-    get-i32-requires-2
-    element-set-from-v-9
+    (λ c κs. search needs)
+    (λ c. search needs)
+    (λ c κs. search needs)
+    (λ c. search needs)
+    (λ c κs. search needs)
+    (λ c. search needs)
+    (λ c κs. search needs)
+    (λ c. search needs)
+    (λ c κs. search needs)
+    (λ c. search needs)
+    (λ c κs. search needs)
+    (λ c. search needs)
+    (λ c κs. search needs)
+    (λ c. search needs)
+    (λ c κs. search needs)
+    (λ c. search needs)
+    (λ c κs. search needs)
+    (λ c. search needs)
     returns)

@@ -52,26 +52,8 @@ add-body c = omega (arith, c .before .pre .1 .1)
 read-caps-requires : tie.Need-read-caps-requires
 read-caps-requires c κs = (c .before .before .before .pre .0 .0, omega (arith, ends (c .before .before .before) (is-head (c .before)), at-head (c .before)))
 
-sub-read-band : tie.Need-sub-read-band
-sub-read-band c = search needs
-
 read-band-requires : tie.Need-read-band-requires
 read-band-requires c κs = (c .before .before .before .before .pre .0 .0, (omega arith, omega (arith, ends (c .before .before .before .before) (is-band (c .before)))))
-
-add-if3 : tie.Need-add-if3
-add-if3 c = search needs
-
-sub-read-box : tie.Need-sub-read-box
-sub-read-box c = search needs
-
-sub-read-box-2 : tie.Need-sub-read-box-2
-sub-read-box-2 c = search needs
-
-mul-read-box : tie.Need-mul-read-box
-mul-read-box c = search needs
-
-add-read-box : tie.Need-add-read-box
-add-read-box c = search needs
 
 read-box-requires : tie.Need-read-box-requires
 read-box-requires c κs = (c .before .before .before .before .before .pre .0 .0, (omega arith, omega (arith, ends (c .before .before .before .before .before) (is-unsafe (c .before)))))
@@ -103,13 +85,13 @@ read-record-spec =
     (tie.spec
     add-body
     read-caps-requires
-    sub-read-band
+    (λ c. search needs)
     read-band-requires
-    add-if3
-    sub-read-box
-    sub-read-box-2
-    mul-read-box
-    add-read-box
+    (λ c. search needs)
+    (λ c. search needs)
+    (λ c. search needs)
+    (λ c. search needs)
+    (λ c. search needs)
     read-box-requires
     read-box-requires-2
     returns

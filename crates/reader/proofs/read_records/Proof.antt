@@ -31,26 +31,11 @@ loop-holds : tie.Need-loop-holds Inv-loop μ-loop
 unfolding start filledAll
 loop-holds c = (omega arith, (refl, refl))
 
-add-loop : tie.Need-add-loop Inv-loop μ-loop
-add-loop c = omega arith
-
-add-loop-2 : tie.Need-add-loop-2 Inv-loop μ-loop
-add-loop-2 c = omega arith
-
 read-record-requires : tie.Need-read-record-requires Inv-loop μ-loop
 read-record-requires c κs = (omega arith, (c .before .before .loop .inv .1 .0, within-file (c .before)))
 
-record-length-requires : tie.Need-record-length-requires Inv-loop μ-loop
-record-length-requires c κs = omega arith
-
 add-at : tie.Need-add-at Inv-loop μ-loop
 add-at c = omega (arith, c .record-length .ensures, within-file (c .before .before .before))
-
-add-r : tie.Need-add-r Inv-loop μ-loop
-add-r c = omega arith
-
-loop-less : tie.Need-loop-less Inv-loop μ-loop
-loop-less c = omega arith
 
 loop-again : tie.Need-loop-again Inv-loop μ-loop
 loop-again c = let d = c .before .before .before .before in
@@ -77,12 +62,12 @@ read-records-spec =
     Inv-loop
     μ-loop
     loop-holds
-    add-loop
-    add-loop-2
+    (λ c. omega arith)
+    (λ c. omega arith)
     read-record-requires
-    record-length-requires
+    (λ c κs. omega arith)
     add-at
-    add-r
-    loop-less
+    (λ c. omega arith)
+    (λ c. omega arith)
     loop-again
     returns)

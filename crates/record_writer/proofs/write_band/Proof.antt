@@ -28,47 +28,11 @@ within-rows : (c : tie.In-loop Inv-loop μ-loop)
     c .before .loop .i * rowBytes n + rowBytes n ≤ n * rowBytes n)
 within-rows c = row-room _ _ (c .loop-test .taken)
 
-mul-slot : tie.Need-mul-slot Inv-loop μ-loop
-mul-slot c = omega arith
-
-add-slot : tie.Need-add-slot Inv-loop μ-loop
-add-slot c = omega arith
-
-put-i32-requires : tie.Need-put-i32-requires Inv-loop μ-loop
-put-i32-requires c κs = omega arith
-
-add-put-i32 : tie.Need-add-put-i32 Inv-loop μ-loop
-add-put-i32 c = omega arith
-
-add-put-i32-2 : tie.Need-add-put-i32-2 Inv-loop μ-loop
-add-put-i32-2 c = omega arith
-
-put-i32-requires-2 : tie.Need-put-i32-requires-2 Inv-loop μ-loop
-put-i32-requires-2 c κs = omega arith
-
-add-put-i32-3 : tie.Need-add-put-i32-3 Inv-loop μ-loop
-add-put-i32-3 c = omega arith
-
-add-put-i32-4 : tie.Need-add-put-i32-4 Inv-loop μ-loop
-add-put-i32-4 c = omega arith
-
-put-i32-requires-3 : tie.Need-put-i32-requires-3 Inv-loop μ-loop
-put-i32-requires-3 c κs = omega arith
-
 loop-holds : tie.Need-loop-holds Inv-loop μ-loop
 loop-holds c =
     let a = c .before .before .before .before .before .before .before .before .before .before .before .before .before .args in
     let z : firstRow ≡ firstRow + 0 * rowCount (a .n) = omega arith in
     (omega arith, (refl, λ w e. e ∙ ap (λ (j : ℕ). sets w letters (coded (bandFields (a .n) (a .k)) (a .v .now) j)) z))
-
-add-write-row : tie.Need-add-write-row Inv-loop μ-loop
-add-write-row c = omega arith
-
-mul-write-row : tie.Need-mul-write-row Inv-loop μ-loop
-mul-write-row c = omega arith
-
-add-write-row-2 : tie.Need-add-write-row-2 Inv-loop μ-loop
-add-write-row-2 c = omega arith
 
 mul-write-row-2 : tie.Need-mul-write-row-2 Inv-loop μ-loop
 mul-write-row-2 c = omega (arith, within-rows (c .before))
@@ -76,23 +40,8 @@ mul-write-row-2 c = omega (arith, within-rows (c .before))
 add-write-row-3 : tie.Need-add-write-row-3 Inv-loop μ-loop
 add-write-row-3 c = omega (arith, within-rows (c .before))
 
-add-write-row-4 : tie.Need-add-write-row-4 Inv-loop μ-loop
-add-write-row-4 c = omega arith
-
-mul-write-row-3 : tie.Need-mul-write-row-3 Inv-loop μ-loop
-mul-write-row-3 c = omega arith
-
-add-write-row-5 : tie.Need-add-write-row-5 Inv-loop μ-loop
-add-write-row-5 c = omega arith
-
 write-row-requires : tie.Need-write-row-requires Inv-loop μ-loop
 write-row-requires c κs = omega (arith, within-rows (c .before))
-
-add-i : tie.Need-add-i Inv-loop μ-loop
-add-i c = omega arith
-
-loop-less : tie.Need-loop-less Inv-loop μ-loop
-loop-less c = omega arith
 
 loop-again : tie.Need-loop-again Inv-loop μ-loop
 loop-again c =
@@ -111,9 +60,6 @@ loop-again c =
             ∙ ap (λ (j : ℕ). sets w letters (coded p v j)) (row-next n i),
       ),
     )
-
-same-length : tie.Need-same-length Inv-loop μ-loop
-same-length c = omega arith
 
 returns : tie.Need-returns Inv-loop μ-loop
 unfolding bandFields _▸_ coded offset
@@ -140,27 +86,27 @@ write-band-spec =
     (tie.spec
     Inv-loop
     μ-loop
-    mul-slot
-    add-slot
-    put-i32-requires
-    add-put-i32
-    add-put-i32-2
-    put-i32-requires-2
-    add-put-i32-3
-    add-put-i32-4
-    put-i32-requires-3
+    (λ c. omega arith)
+    (λ c. omega arith)
+    (λ c κs. omega arith)
+    (λ c. omega arith)
+    (λ c. omega arith)
+    (λ c κs. omega arith)
+    (λ c. omega arith)
+    (λ c. omega arith)
+    (λ c κs. omega arith)
     loop-holds
-    add-write-row
-    mul-write-row
-    add-write-row-2
+    (λ c. omega arith)
+    (λ c. omega arith)
+    (λ c. omega arith)
     mul-write-row-2
     add-write-row-3
-    add-write-row-4
-    mul-write-row-3
-    add-write-row-5
+    (λ c. omega arith)
+    (λ c. omega arith)
+    (λ c. omega arith)
     write-row-requires
-    add-i
-    loop-less
+    (λ c. omega arith)
+    (λ c. omega arith)
     loop-again
-    same-length
+    (λ c. omega arith)
     returns)

@@ -25,42 +25,6 @@ loop-holds : tie.Need-loop-holds Inv-loop μ-loop
 unfolding coded
 loop-holds c = (omega arith, (refl, λ h. refl))
 
-mul-put-i32 : tie.Need-mul-put-i32 Inv-loop μ-loop
-mul-put-i32 c = omega arith
-
-add-put-i32 : tie.Need-add-put-i32 Inv-loop μ-loop
-add-put-i32 c = omega arith
-
-add-put-i32-2 : tie.Need-add-put-i32-2 Inv-loop μ-loop
-add-put-i32-2 c = omega arith
-
-put-i32-requires : tie.Need-put-i32-requires Inv-loop μ-loop
-put-i32-requires c κs = omega arith
-
-mul-put-i32-2 : tie.Need-mul-put-i32-2 Inv-loop μ-loop
-mul-put-i32-2 c = omega arith
-
-add-put-i32-3 : tie.Need-add-put-i32-3 Inv-loop μ-loop
-add-put-i32-3 c = omega arith
-
-add-put-i32-4 : tie.Need-add-put-i32-4 Inv-loop μ-loop
-add-put-i32-4 c = omega arith
-
-add-put-i32-5 : tie.Need-add-put-i32-5 Inv-loop μ-loop
-add-put-i32-5 c = omega arith
-
-add-put-i32-6 : tie.Need-add-put-i32-6 Inv-loop μ-loop
-add-put-i32-6 c = omega arith
-
-put-i32-requires-2 : tie.Need-put-i32-requires-2 Inv-loop μ-loop
-put-i32-requires-2 c κs = omega arith
-
-add-i : tie.Need-add-i Inv-loop μ-loop
-add-i c = omega arith
-
-loop-less : tie.Need-loop-less Inv-loop μ-loop
-loop-less c = omega arith
-
 loop-again : tie.Need-loop-again Inv-loop μ-loop
 unfolding sideFields _▸_
 loop-again c =
@@ -83,9 +47,6 @@ loop-again c =
       ),
     )
 
-same-length : tie.Need-same-length Inv-loop μ-loop
-same-length c = omega arith
-
 returns : tie.Need-returns Inv-loop μ-loop
 returns c =
     let a = c .before .before .before .args in
@@ -99,18 +60,18 @@ write-box-spec =
     Inv-loop
     μ-loop
     loop-holds
-    mul-put-i32
-    add-put-i32
-    add-put-i32-2
-    put-i32-requires
-    mul-put-i32-2
-    add-put-i32-3
-    add-put-i32-4
-    add-put-i32-5
-    add-put-i32-6
-    put-i32-requires-2
-    add-i
-    loop-less
+    (λ c. omega arith)
+    (λ c. omega arith)
+    (λ c. omega arith)
+    (λ c κs. omega arith)
+    (λ c. omega arith)
+    (λ c. omega arith)
+    (λ c. omega arith)
+    (λ c. omega arith)
+    (λ c. omega arith)
+    (λ c κs. omega arith)
+    (λ c. omega arith)
+    (λ c. omega arith)
     loop-again
-    same-length
+    (λ c. omega arith)
     returns)

@@ -21,29 +21,8 @@ Inv-loop s₀ n v i₀ s i = (i ≤ n) × ((length s ≡ length s₀) × ((w : L
 abbrev μ-loop : tie.MeasureT-loop
 μ-loop s₀ n v i₀ s i = n - i
 
-write-head-requires : tie.Need-write-head-requires Inv-loop μ-loop
-write-head-requires c κs = omega arith
-
 loop-holds : tie.Need-loop-holds Inv-loop μ-loop
 loop-holds c = (omega arith, (refl, λ w e. e))
-
-mul-put-u16 : tie.Need-mul-put-u16 Inv-loop μ-loop
-mul-put-u16 c = omega arith
-
-add-put-u16 : tie.Need-add-put-u16 Inv-loop μ-loop
-add-put-u16 c = omega arith
-
-add-put-u16-2 : tie.Need-add-put-u16-2 Inv-loop μ-loop
-add-put-u16-2 c = omega arith
-
-put-u16-requires : tie.Need-put-u16-requires Inv-loop μ-loop
-put-u16-requires c κs = omega arith
-
-add-i : tie.Need-add-i Inv-loop μ-loop
-add-i c = omega arith
-
-loop-less : tie.Need-loop-less Inv-loop μ-loop
-loop-less c = omega arith
 
 loop-again : tie.Need-loop-again Inv-loop μ-loop
 loop-again c =
@@ -58,9 +37,6 @@ loop-again c =
       ),
     )
 
-same-length : tie.Need-same-length Inv-loop μ-loop
-same-length c = omega arith
-
 returns : tie.Need-returns Inv-loop μ-loop
 returns c =
     let d = c .before .before .before .before in
@@ -74,14 +50,14 @@ write-caps-spec =
     (tie.spec
     Inv-loop
     μ-loop
-    write-head-requires
+    (λ c κs. omega arith)
     loop-holds
-    mul-put-u16
-    add-put-u16
-    add-put-u16-2
-    put-u16-requires
-    add-i
-    loop-less
+    (λ c. omega arith)
+    (λ c. omega arith)
+    (λ c. omega arith)
+    (λ c κs. omega arith)
+    (λ c. omega arith)
+    (λ c. omega arith)
     loop-again
-    same-length
+    (λ c. omega arith)
     returns)

@@ -12,30 +12,6 @@ use borrow.Author.Needs.{needs}
 use Rattle.record_writer.proofs.write_head.Statement.{statement}
 use Rattle.record_writer.proofs.write_head.Tie as tie
 
-put-u8-requires : tie.Need-put-u8-requires
-put-u8-requires c κs = search needs
-
-put-u8-requires-2 : tie.Need-put-u8-requires-2
-put-u8-requires-2 c κs = search needs
-
-put-u8-requires-3 : tie.Need-put-u8-requires-3
-put-u8-requires-3 c κs = search needs
-
-put-u8-requires-4 : tie.Need-put-u8-requires-4
-put-u8-requires-4 c κs = search needs
-
-put-u16-requires : tie.Need-put-u16-requires
-put-u16-requires c κs = search needs
-
-put-u16-requires-2 : tie.Need-put-u16-requires-2
-put-u16-requires-2 c κs = search needs
-
-put-u16-requires-3 : tie.Need-put-u16-requires-3
-put-u16-requires-3 c κs = search needs
-
-put-i32-requires : tie.Need-put-i32-requires
-put-i32-requires c κs = search needs
-
 put-i32-requires-2 : tie.Need-put-i32-requires-2
 put-i32-requires-2 c κs =
     let c7 = c .before .before .before in
@@ -80,14 +56,14 @@ pub write-head-spec : {M : Type 1} → statement M
 write-head-spec =
     tie.close
     (tie.spec
-    put-u8-requires
-    put-u8-requires-2
-    put-u8-requires-3
-    put-u8-requires-4
-    put-u16-requires
-    put-u16-requires-2
-    put-u16-requires-3
-    put-i32-requires
+    (λ c κs. search needs)
+    (λ c κs. search needs)
+    (λ c κs. search needs)
+    (λ c κs. search needs)
+    (λ c κs. search needs)
+    (λ c κs. search needs)
+    (λ c κs. search needs)
+    (λ c κs. search needs)
     put-i32-requires-2
     same-length
     returns)

@@ -44,26 +44,8 @@ is-recovery c = recovery-is _ _ (omega arith) (omega arith)
 write-caps-requires : tie.Need-write-caps-requires
 write-caps-requires c κs = omega (arith, room (c .before .before .before) (is-head (c .before)))
 
-sub-write-band : tie.Need-sub-write-band
-sub-write-band c = search needs
-
 write-band-requires : tie.Need-write-band-requires
 write-band-requires c κs = omega (arith, room (c .before .before .before .before) (is-band (c .before)))
-
-add-if3 : tie.Need-add-if3
-add-if3 c = search needs
-
-sub-write-box : tie.Need-sub-write-box
-sub-write-box c = search needs
-
-sub-write-box-2 : tie.Need-sub-write-box-2
-sub-write-box-2 c = search needs
-
-mul-write-box : tie.Need-mul-write-box
-mul-write-box c = search needs
-
-add-write-box : tie.Need-add-write-box
-add-write-box c = search needs
 
 write-box-requires : tie.Need-write-box-requires
 write-box-requires c κs = omega (arith, room (c .before .before .before .before .before) (is-unsafe (c .before)))
@@ -71,29 +53,17 @@ write-box-requires c κs = omega (arith, room (c .before .before .before .before
 write-box-requires-2 : tie.Need-write-box-requires-2
 write-box-requires-2 c κs = omega (arith, room (c .before .before .before .before .before) (is-recovery (c .before)))
 
-same-length : tie.Need-same-length
-same-length c = search needs
-
 returns : tie.Need-returns
 unfolding fields
 returns c = those (c .before .before .before .before .before .before) (is-head (c .before .before .before .before)) (c .before .before .write-caps .ensures)
-
-same-length-2 : tie.Need-same-length-2
-same-length-2 c = search needs
 
 returns-2 : tie.Need-returns-2
 unfolding fields
 returns-2 c = those (c .before .before .before .before .before .before .before) (is-band (c .before .before .before .before)) (c .before .before .write-band .ensures)
 
-same-length-3 : tie.Need-same-length-3
-same-length-3 c = search needs
-
 returns-3 : tie.Need-returns-3
 unfolding fields
 returns-3 c = those (c .before .before .before .before .before .before .before .before) (is-unsafe (c .before .before .before .before)) (c .before .before .write-box .ensures unsafeLimit)
-
-same-length-4 : tie.Need-same-length-4
-same-length-4 c = search needs
 
 returns-4 : tie.Need-returns-4
 unfolding fields
@@ -104,20 +74,20 @@ write-numbers-spec =
     tie.close
     (tie.spec
     write-caps-requires
-    sub-write-band
+    (λ c. search needs)
     write-band-requires
-    add-if3
-    sub-write-box
-    sub-write-box-2
-    mul-write-box
-    add-write-box
+    (λ c. search needs)
+    (λ c. search needs)
+    (λ c. search needs)
+    (λ c. search needs)
+    (λ c. search needs)
     write-box-requires
     write-box-requires-2
-    same-length
+    (λ c. search needs)
     returns
-    same-length-2
+    (λ c. search needs)
     returns-2
-    same-length-3
+    (λ c. search needs)
     returns-3
-    same-length-4
+    (λ c. search needs)
     returns-4)

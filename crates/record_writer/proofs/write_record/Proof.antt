@@ -10,12 +10,6 @@ use borrow.Author.Needs.{needs}
 use Rattle.record_writer.proofs.write_record.Statement.{statement}
 use Rattle.record_writer.proofs.write_record.Tie as tie
 
-mark-of-requires : tie.Need-mark-of-requires
-mark-of-requires c κs = search needs
-
-slice-write-s : tie.Need-slice-write-s
-slice-write-s c = search needs
-
 slice-write-s-2 : tie.Need-slice-write-s-2
 slice-write-s-2 c = simp length-set (omega arith)
 
@@ -37,8 +31,8 @@ pub write-record-spec : {M : Type 1} → statement M
 write-record-spec =
     tie.close
     (tie.spec
-    mark-of-requires
-    slice-write-s
+    (λ c κs. search needs)
+    (λ c. search needs)
     slice-write-s-2
     write-numbers-requires
     same-length

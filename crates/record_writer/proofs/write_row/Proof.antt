@@ -24,24 +24,6 @@ loop-holds : tie.Need-loop-holds Inv-loop μ-loop
 unfolding coded
 loop-holds c = (omega arith, (refl, refl))
 
-mul-put-u16 : tie.Need-mul-put-u16 Inv-loop μ-loop
-mul-put-u16 c = omega arith
-
-add-put-u16 : tie.Need-add-put-u16 Inv-loop μ-loop
-add-put-u16 c = omega arith
-
-add-put-u16-2 : tie.Need-add-put-u16-2 Inv-loop μ-loop
-add-put-u16-2 c = omega arith
-
-put-u16-requires : tie.Need-put-u16-requires Inv-loop μ-loop
-put-u16-requires c κs = omega arith
-
-add-j : tie.Need-add-j Inv-loop μ-loop
-add-j c = omega arith
-
-loop-less : tie.Need-loop-less Inv-loop μ-loop
-loop-less c = omega arith
-
 loop-again : tie.Need-loop-again Inv-loop μ-loop
 loop-again c =
     let w = c .before .before in
@@ -55,48 +37,6 @@ loop-again c =
             refl refl (omega (arith, coefficient-offset (a .n) (a .slot) j (omega arith))) (d .loop .inv .1 .1),
       ),
     )
-
-mul-rest : tie.Need-mul-rest Inv-loop μ-loop
-mul-rest c = omega arith
-
-add-rest : tie.Need-add-rest Inv-loop μ-loop
-add-rest c = omega arith
-
-add-put-u16-3 : tie.Need-add-put-u16-3 Inv-loop μ-loop
-add-put-u16-3 c = omega arith
-
-put-u16-requires-2 : tie.Need-put-u16-requires-2 Inv-loop μ-loop
-put-u16-requires-2 c κs = omega arith
-
-add-put-i32 : tie.Need-add-put-i32 Inv-loop μ-loop
-add-put-i32 c = omega arith
-
-add-put-i32-2 : tie.Need-add-put-i32-2 Inv-loop μ-loop
-add-put-i32-2 c = omega arith
-
-put-i32-requires : tie.Need-put-i32-requires Inv-loop μ-loop
-put-i32-requires c κs = omega arith
-
-add-put-i32-3 : tie.Need-add-put-i32-3 Inv-loop μ-loop
-add-put-i32-3 c = omega arith
-
-add-put-i32-4 : tie.Need-add-put-i32-4 Inv-loop μ-loop
-add-put-i32-4 c = omega arith
-
-put-i32-requires-2 : tie.Need-put-i32-requires-2 Inv-loop μ-loop
-put-i32-requires-2 c κs = omega arith
-
-add-put-u16-4 : tie.Need-add-put-u16-4 Inv-loop μ-loop
-add-put-u16-4 c = omega arith
-
-add-put-u16-5 : tie.Need-add-put-u16-5 Inv-loop μ-loop
-add-put-u16-5 c = omega arith
-
-put-u16-requires-3 : tie.Need-put-u16-requires-3 Inv-loop μ-loop
-put-u16-requires-3 c κs = omega arith
-
-same-length : tie.Need-same-length Inv-loop μ-loop
-same-length c = omega arith
 
 returns : tie.Need-returns Inv-loop μ-loop
 unfolding rowRest _▸_ offset
@@ -126,25 +66,25 @@ write-row-spec =
     Inv-loop
     μ-loop
     loop-holds
-    mul-put-u16
-    add-put-u16
-    add-put-u16-2
-    put-u16-requires
-    add-j
-    loop-less
+    (λ c. omega arith)
+    (λ c. omega arith)
+    (λ c. omega arith)
+    (λ c κs. omega arith)
+    (λ c. omega arith)
+    (λ c. omega arith)
     loop-again
-    mul-rest
-    add-rest
-    add-put-u16-3
-    put-u16-requires-2
-    add-put-i32
-    add-put-i32-2
-    put-i32-requires
-    add-put-i32-3
-    add-put-i32-4
-    put-i32-requires-2
-    add-put-u16-4
-    add-put-u16-5
-    put-u16-requires-3
-    same-length
+    (λ c. omega arith)
+    (λ c. omega arith)
+    (λ c. omega arith)
+    (λ c κs. omega arith)
+    (λ c. omega arith)
+    (λ c. omega arith)
+    (λ c κs. omega arith)
+    (λ c. omega arith)
+    (λ c. omega arith)
+    (λ c κs. omega arith)
+    (λ c. omega arith)
+    (λ c. omega arith)
+    (λ c κs. omega arith)
+    (λ c. omega arith)
     returns)

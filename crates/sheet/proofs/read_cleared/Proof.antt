@@ -35,20 +35,8 @@ head-read c = let d = c .before .before .before .before .before .before .before 
 returns : tie.Need-returns
 returns c = (begins-short _ (c .if1 .taken), λ e. (let z : ⊥ = omega arith in absurd z))
 
-mark-of-requires : tie.Need-mark-of-requires
-mark-of-requires c κs = search needs
-
-marked-requires : tie.Need-marked-requires
-marked-requires c κs = search needs
-
 returns-2 : tie.Need-returns-2
 returns-2 c = (begins-wrong _ (c .before .before .before .if1 .left) (right-is (c .before)) (not-true _ (c .if2 .taken)), λ e. (let z : ⊥ = omega arith in absurd z))
-
-read-head-requires : tie.Need-read-head-requires
-read-head-requires c κs = search needs
-
-bad-head-requires : tie.Need-bad-head-requires
-bad-head-requires c κs = search needs
 
 returns-3 : tie.Need-returns-3
 returns-3 c = let h = c .before .before .before in
@@ -58,19 +46,16 @@ read-rest-requires : tie.Need-read-rest-requires
 read-rest-requires c κs = let h = c .before .before .before .before in
     (begun (h .before .before), (head-read h, sym (c .before .if3 .left) ∙ c .before .before .bad-head .ensures))
 
-returns-4 : tie.Need-returns-4
-returns-4 c = search needs
-
 pub read-cleared-spec : {M : Type 1} → statement M
 read-cleared-spec =
     tie.close
     (tie.spec
     returns
-    mark-of-requires
-    marked-requires
+    (λ c κs. search needs)
+    (λ c κs. search needs)
     returns-2
-    read-head-requires
-    bad-head-requires
+    (λ c κs. search needs)
+    (λ c κs. search needs)
     returns-3
     read-rest-requires
-    returns-4)
+    (λ c. search needs))

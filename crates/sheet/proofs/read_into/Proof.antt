@@ -6,15 +6,6 @@ use Rattle.layout.proofs.Valid.{values-zero}
 use Rattle.sheet.proofs.read_into.Statement.{statement}
 use Rattle.sheet.proofs.read_into.Tie as tie
 
-clear-requires : tie.Need-clear-requires
-clear-requires c κs = search needs
-
-read-cleared-requires : tie.Need-read-cleared-requires
-read-cleared-requires c κs = search needs
-
-clear-requires-2 : tie.Need-clear-requires-2
-clear-requires-2 c κs = search needs
-
 returns : tie.Need-returns
 returns c = let d = c .before .before in
     let e = d .before .read-cleared .ensures in
@@ -26,4 +17,4 @@ returns-2 c = let e = c .before .read-cleared .ensures in
 
 pub read-into-spec : {M : Type 1} → statement M
 read-into-spec =
-    tie.close (tie.spec clear-requires read-cleared-requires clear-requires-2 returns returns-2)
+    tie.close (tie.spec (λ c κs. search needs) (λ c κs. search needs) (λ c κs. search needs) returns returns-2)

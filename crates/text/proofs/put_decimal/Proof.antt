@@ -13,44 +13,14 @@ Inv-loop x out at spelled₀ from₀ rest₀ spelled from rest = (length spelled
 abbrev μ-loop : tie.MeasureT-loop
 μ-loop x out at spelled₀ from₀ rest₀ spelled from rest = rest
 
-sub-from : tie.Need-sub-from Inv-loop μ-loop
-sub-from c = omega arith
-
 loop-holds : tie.Need-loop-holds Inv-loop μ-loop
 loop-holds c = (refl, none (c .args .x) refl (omega arith) (omega arith))
-
-cast-spelled : tie.Need-cast-spelled Inv-loop μ-loop
-cast-spelled c = omega arith
-
-add-spelled : tie.Need-add-spelled Inv-loop μ-loop
-add-spelled c = omega arith
-
-array-write-spelled : tie.Need-array-write-spelled Inv-loop μ-loop
-array-write-spelled c = omega arith
 
 sub-from-2 : tie.Need-sub-from-2 Inv-loop μ-loop
 sub-from-2 c = more (c .before .loop .inv .1) (c .loop-test .taken) .0
 
-loop-less : tie.Need-loop-less Inv-loop μ-loop
-loop-less c = omega arith
-
 loop-again : tie.Need-loop-again Inv-loop μ-loop
 loop-again c = (simp length-set (c .before .loop .inv .0), more (c .before .loop .inv .1) (c .loop-test .taken) .1)
-
-cast-spelled-2 : tie.Need-cast-spelled-2 Inv-loop μ-loop
-cast-spelled-2 c = omega arith
-
-add-spelled-2 : tie.Need-add-spelled-2 Inv-loop μ-loop
-add-spelled-2 c = omega arith
-
-array-write-spelled-2 : tie.Need-array-write-spelled-2 Inv-loop μ-loop
-array-write-spelled-2 c = omega arith
-
-sub-put : tie.Need-sub-put Inv-loop μ-loop
-sub-put c = omega arith
-
-part-put-start : tie.Need-part-put-start Inv-loop μ-loop
-part-put-start c = omega arith
 
 part-put-end : tie.Need-part-put-end Inv-loop μ-loop
 part-put-end c = simp length-set (omega arith)
@@ -69,19 +39,19 @@ put-decimal-spec =
     (tie.spec
     Inv-loop
     μ-loop
-    sub-from
+    (λ c. omega arith)
     loop-holds
-    cast-spelled
-    add-spelled
-    array-write-spelled
+    (λ c. omega arith)
+    (λ c. omega arith)
+    (λ c. omega arith)
     sub-from-2
-    loop-less
+    (λ c. omega arith)
     loop-again
-    cast-spelled-2
-    add-spelled-2
-    array-write-spelled-2
-    sub-put
-    part-put-start
+    (λ c. omega arith)
+    (λ c. omega arith)
+    (λ c. omega arith)
+    (λ c. omega arith)
+    (λ c. omega arith)
     part-put-end
     put-requires
     returns)

@@ -36,9 +36,6 @@ module _ (c : tie.Start) (p : Field) (s : p .slot ≡ c .args .slot) (l : p .lea
 returns : tie.Need-returns
 returns c = λ p s l g k. orElse-some (c .before .args .x) _ (c .if1 .taken)
 
-value-requires : tie.Need-value-requires
-value-requires c κs = search needs
-
 -- an earlier refusal is not there
 none : (c : tie.Start) → c .args .x ≡ 0 → (y : ℕ) → y ≡ orElse (c .args .x) y
 none c e y = rw e refl
@@ -59,4 +56,4 @@ returns-3 c = let d = c .before in
     (sym k ∙ ⊎-elim (λ w. above b p s l g (omega ints) (omega ints)) (λ w. below b p s l g (omega ints)) (c .if2 .came))
 
 pub after-spec : {M : Type 1} → statement M
-after-spec = tie.close (tie.spec returns value-requires returns-2 returns-3)
+after-spec = tie.close (tie.spec returns (λ c κs. search needs) returns-2 returns-3)

@@ -19,39 +19,6 @@ Inv-loop v n k slot greatest x₀ i₀ x i = (i ≤ n) × (x ≡ bad (bandFields
 abbrev μ-loop : tie.MeasureT-loop
 μ-loop v n k slot greatest x₀ i₀ x i = n - i
 
-mul-slot : tie.Need-mul-slot Inv-loop μ-loop
-mul-slot c = omega arith
-
-add-slot : tie.Need-add-slot Inv-loop μ-loop
-add-slot c = omega arith
-
-value-requires : tie.Need-value-requires Inv-loop μ-loop
-value-requires c κs = omega arith
-
-bad-edge-requires : tie.Need-bad-edge-requires Inv-loop μ-loop
-bad-edge-requires c κs = omega arith
-
-add-after : tie.Need-add-after Inv-loop μ-loop
-add-after c = omega arith
-
-value-requires-2 : tie.Need-value-requires-2 Inv-loop μ-loop
-value-requires-2 c κs = omega arith
-
-after-requires : tie.Need-after-requires Inv-loop μ-loop
-after-requires c κs = omega arith
-
-add-after-2 : tie.Need-add-after-2 Inv-loop μ-loop
-add-after-2 c = omega arith
-
-add-value : tie.Need-add-value Inv-loop μ-loop
-add-value c = omega arith
-
-value-requires-3 : tie.Need-value-requires-3 Inv-loop μ-loop
-value-requires-3 c κs = omega arith
-
-after-requires-2 : tie.Need-after-requires-2 Inv-loop μ-loop
-after-requires-2 c κs = omega arith
-
 loop-holds : tie.Need-loop-holds Inv-loop μ-loop
 unfolding bandFields _▸_ bad firstRefusal
 loop-holds c = let d = c .before .before .before .before in
@@ -64,27 +31,6 @@ loop-holds c = let d = c .before .before .before .before in
           (bad-field p v leastInBand (c .before .before .after .ensures (p leastInBand) (omega arith) (held (c .before .before .before .value2 .ensures .0) (c .before .before .before .value2 .ensures .1)) (held (greatest .0) (greatest .1)) refl)
           (d .bad-edge .ensures)),
     )
-
-add-bad-row : tie.Need-add-bad-row Inv-loop μ-loop
-add-bad-row c = omega arith
-
-mul-bad-row : tie.Need-mul-bad-row Inv-loop μ-loop
-mul-bad-row c = omega arith
-
-add-bad-row-2 : tie.Need-add-bad-row-2 Inv-loop μ-loop
-add-bad-row-2 c = omega arith
-
-bad-row-requires : tie.Need-bad-row-requires Inv-loop μ-loop
-bad-row-requires c κs = omega arith
-
-first-requires : tie.Need-first-requires Inv-loop μ-loop
-first-requires c κs = search needs
-
-add-i : tie.Need-add-i Inv-loop μ-loop
-add-i c = omega arith
-
-loop-less : tie.Need-loop-less Inv-loop μ-loop
-loop-less c = omega arith
 
 loop-again : tie.Need-loop-again Inv-loop μ-loop
 loop-again c = let d = c .before .before .before in
@@ -109,24 +55,24 @@ bad-band-spec =
     (tie.spec
     Inv-loop
     μ-loop
-    mul-slot
-    add-slot
-    value-requires
-    bad-edge-requires
-    add-after
-    value-requires-2
-    after-requires
-    add-after-2
-    add-value
-    value-requires-3
-    after-requires-2
+    (λ c. omega arith)
+    (λ c. omega arith)
+    (λ c κs. omega arith)
+    (λ c κs. omega arith)
+    (λ c. omega arith)
+    (λ c κs. omega arith)
+    (λ c κs. omega arith)
+    (λ c. omega arith)
+    (λ c. omega arith)
+    (λ c κs. omega arith)
+    (λ c κs. omega arith)
     loop-holds
-    add-bad-row
-    mul-bad-row
-    add-bad-row-2
-    bad-row-requires
-    first-requires
-    add-i
-    loop-less
+    (λ c. omega arith)
+    (λ c. omega arith)
+    (λ c. omega arith)
+    (λ c κs. omega arith)
+    (λ c κs. search needs)
+    (λ c. omega arith)
+    (λ c. omega arith)
     loop-again
     returns)

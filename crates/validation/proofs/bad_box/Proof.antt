@@ -19,42 +19,12 @@ Inv-loop v n slot most side x₀ i₀ x i = (i ≤ n) × (x ≡ bad (boxFields m
 abbrev μ-loop : tie.MeasureT-loop
 μ-loop v n slot most side x₀ i₀ x i = n - i
 
-cast-side : tie.Need-cast-side Inv-loop μ-loop
-cast-side c = search needs
-
 loop-holds : tie.Need-loop-holds Inv-loop μ-loop
 unfolding bad firstRefusal
 loop-holds c = (omega arith, refl)
 
-add-after : tie.Need-add-after Inv-loop μ-loop
-add-after c = omega arith
-
 sub-after : tie.Need-sub-after Inv-loop μ-loop
 sub-after c = minus-fits (c .before .before .args .most) (c .before .before .fits .most)
-
-after-requires : tie.Need-after-requires Inv-loop μ-loop
-after-requires c κs = omega arith
-
-add-after-2 : tie.Need-add-after-2 Inv-loop μ-loop
-add-after-2 c = omega arith
-
-add-after-3 : tie.Need-add-after-3 Inv-loop μ-loop
-add-after-3 c = omega arith
-
-add-value : tie.Need-add-value Inv-loop μ-loop
-add-value c = omega arith
-
-value-requires : tie.Need-value-requires Inv-loop μ-loop
-value-requires c κs = omega arith
-
-after-requires-2 : tie.Need-after-requires-2 Inv-loop μ-loop
-after-requires-2 c κs = omega arith
-
-add-i : tie.Need-add-i Inv-loop μ-loop
-add-i c = omega arith
-
-loop-less : tie.Need-loop-less Inv-loop μ-loop
-loop-less c = omega arith
 
 loop-again : tie.Need-loop-again Inv-loop μ-loop
 unfolding sideFields _▸_
@@ -81,17 +51,17 @@ bad-box-spec =
     (tie.spec
     Inv-loop
     μ-loop
-    cast-side
+    (λ c. search needs)
     loop-holds
-    add-after
+    (λ c. omega arith)
     sub-after
-    after-requires
-    add-after-2
-    add-after-3
-    add-value
-    value-requires
-    after-requires-2
-    add-i
-    loop-less
+    (λ c κs. omega arith)
+    (λ c. omega arith)
+    (λ c. omega arith)
+    (λ c. omega arith)
+    (λ c κs. omega arith)
+    (λ c κs. omega arith)
+    (λ c. omega arith)
+    (λ c. omega arith)
     loop-again
     returns)

@@ -17,23 +17,8 @@ Inv-loop v n x₀ i₀ x i = (i ≤ n) × (x ≡ bad headFields v (headSize + i)
 abbrev μ-loop : tie.MeasureT-loop
 μ-loop v n x₀ i₀ x i = n - i
 
-bad-head-requires : tie.Need-bad-head-requires Inv-loop μ-loop
-bad-head-requires c κs = search needs
-
 loop-holds : tie.Need-loop-holds Inv-loop μ-loop
 loop-holds c = (omega arith, c .bad-head .ensures)
-
-add-after : tie.Need-add-after Inv-loop μ-loop
-add-after c = omega arith
-
-after-requires : tie.Need-after-requires Inv-loop μ-loop
-after-requires c κs = omega arith
-
-add-i : tie.Need-add-i Inv-loop μ-loop
-add-i c = omega arith
-
-loop-less : tie.Need-loop-less Inv-loop μ-loop
-loop-less c = omega arith
 
 loop-again : tie.Need-loop-again Inv-loop μ-loop
 loop-again c = let i = c .before .before .loop .i in
@@ -48,11 +33,11 @@ bad-caps-spec =
     (tie.spec
     Inv-loop
     μ-loop
-    bad-head-requires
+    (λ c κs. search needs)
     loop-holds
-    add-after
-    after-requires
-    add-i
-    loop-less
+    (λ c. omega arith)
+    (λ c κs. omega arith)
+    (λ c. omega arith)
+    (λ c. omega arith)
     loop-again
     returns)

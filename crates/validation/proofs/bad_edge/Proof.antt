@@ -14,31 +14,13 @@ use Rattle.layout.specs.Slots.{_!_, bandSize, bandSlot}
 use Rattle.validation.proofs.bad_edge.Statement.{statement}
 use Rattle.validation.proofs.bad_edge.Tie as tie
 
-mul-slot : tie.Need-mul-slot
-mul-slot c = search needs
-
-add-slot : tie.Need-add-slot
-add-slot c = search needs
-
-after-requires : tie.Need-after-requires
-after-requires c κs = search needs
-
 returns : tie.Need-returns
 unfolding edgeField
 returns c = let e : 0 ≡ c .before .before .args .k = omega arith in
     c .after .ensures (edgeField 0) (omega arith) refl refl refl ∙ ap (λ (k : ℕ). test (c .before .before .args .v .now) (edgeField k)) e
 
-sub-value : tie.Need-sub-value
-sub-value c = search needs
-
-value-requires : tie.Need-value-requires
-value-requires c κs = search needs
-
 add-after : tie.Need-add-after
 add-after c = let f : SFits w64 (c .value .result) = search needs in fits64 (bound-sum (bound-read f (c .value .ensures .1)) (bound-lit _)) tt
-
-after-requires-2 : tie.Need-after-requires-2
-after-requires-2 c κs = search needs
 
 returns-2 : tie.Need-returns-2
 unfolding edgeField
@@ -55,12 +37,12 @@ pub bad-edge-spec : {M : Type 1} → statement M
 bad-edge-spec =
     tie.close
     (tie.spec
-    mul-slot
-    add-slot
-    after-requires
+    (λ c. search needs)
+    (λ c. search needs)
+    (λ c κs. search needs)
     returns
-    sub-value
-    value-requires
+    (λ c. search needs)
+    (λ c κs. search needs)
     add-after
-    after-requires-2
+    (λ c κs. search needs)
     returns-2)

@@ -14,53 +14,11 @@ use Rattle.layout.specs.Refusals.{firstRefusal}
 use Rattle.validation.proofs.bad_head.Statement.{statement}
 use Rattle.validation.proofs.bad_head.Tie as tie
 
-after-requires : tie.Need-after-requires
-after-requires c κs = search needs
-
-cast-after : tie.Need-cast-after
-cast-after c = search needs
-
-after-requires-2 : tie.Need-after-requires-2
-after-requires-2 c κs = search needs
-
-cast-after-2 : tie.Need-cast-after-2
-cast-after-2 c = search needs
-
-after-requires-3 : tie.Need-after-requires-3
-after-requires-3 c κs = search needs
-
-value-requires : tie.Need-value-requires
-value-requires c κs = search needs
-
 sub-after : tie.Need-sub-after
 sub-after c = let f : SFits w64 (c .value .result) = search needs in fits64 (bound-sub (bound-read f (c .value .ensures .1)) (bound-lit (pos 1))) tt
 
-after-requires-4 : tie.Need-after-requires-4
-after-requires-4 c κs = search needs
-
-after-requires-5 : tie.Need-after-requires-5
-after-requires-5 c κs = search needs
-
-value-requires-2 : tie.Need-value-requires-2
-value-requires-2 c κs = search needs
-
 sub-after-2 : tie.Need-sub-after-2
 sub-after-2 c = let f : SFits w64 (c .value2 .result) = search needs in fits64 (bound-sub (bound-lit (pos 1000)) (bound-read f (c .value2 .ensures .1))) tt
-
-after-requires-6 : tie.Need-after-requires-6
-after-requires-6 c κs = search needs
-
-after-requires-7 : tie.Need-after-requires-7
-after-requires-7 c κs = search needs
-
-after-requires-8 : tie.Need-after-requires-8
-after-requires-8 c κs = search needs
-
-value-requires-3 : tie.Need-value-requires-3
-value-requires-3 c κs = search needs
-
-after-requires-9 : tie.Need-after-requires-9
-after-requires-9 c κs = search needs
 
 returns : tie.Need-returns
 unfolding headFields _▸_ bad firstRefusal
@@ -79,20 +37,20 @@ pub bad-head-spec : {M : Type 1} → statement M
 bad-head-spec =
     tie.close
     (tie.spec
-    after-requires
-    cast-after
-    after-requires-2
-    cast-after-2
-    after-requires-3
-    value-requires
+    (λ c κs. search needs)
+    (λ c. search needs)
+    (λ c κs. search needs)
+    (λ c. search needs)
+    (λ c κs. search needs)
+    (λ c κs. search needs)
     sub-after
-    after-requires-4
-    after-requires-5
-    value-requires-2
+    (λ c κs. search needs)
+    (λ c κs. search needs)
+    (λ c κs. search needs)
     sub-after-2
-    after-requires-6
-    after-requires-7
-    after-requires-8
-    value-requires-3
-    after-requires-9
+    (λ c κs. search needs)
+    (λ c κs. search needs)
+    (λ c κs. search needs)
+    (λ c κs. search needs)
+    (λ c κs. search needs)
     returns)

@@ -22,46 +22,10 @@ loop-holds : tie.Need-loop-holds Inv-loop μ-loop
 unfolding bad firstRefusal
 loop-holds c = (omega arith, refl)
 
-add-after : tie.Need-add-after Inv-loop μ-loop
-add-after c = omega arith
-
-after-requires : tie.Need-after-requires Inv-loop μ-loop
-after-requires c κs = omega arith
-
-add-j : tie.Need-add-j Inv-loop μ-loop
-add-j c = omega arith
-
-loop-less : tie.Need-loop-less Inv-loop μ-loop
-loop-less c = omega arith
-
 loop-again : tie.Need-loop-again Inv-loop μ-loop
 loop-again c = let a = c .before .before .before .args in
     let j = c .before .before .loop .j in
     (omega arith, bad-next (rowFields (a .n) (a .slot)) j (j + 1) refl _ (coefficient-at (a .n) (a .slot) j (omega arith)) (a .v .now) (c .after .ensures (coefficient (a .slot) j) refl refl refl refl) (c .before .before .loop .inv .1))
-
-add-after-2 : tie.Need-add-after-2 Inv-loop μ-loop
-add-after-2 c = omega arith
-
-after-requires-2 : tie.Need-after-requires-2 Inv-loop μ-loop
-after-requires-2 c κs = omega arith
-
-add-after-3 : tie.Need-add-after-3 Inv-loop μ-loop
-add-after-3 c = omega arith
-
-after-requires-3 : tie.Need-after-requires-3 Inv-loop μ-loop
-after-requires-3 c κs = omega arith
-
-add-after-4 : tie.Need-add-after-4 Inv-loop μ-loop
-add-after-4 c = omega arith
-
-after-requires-4 : tie.Need-after-requires-4 Inv-loop μ-loop
-after-requires-4 c κs = omega arith
-
-add-after-5 : tie.Need-add-after-5 Inv-loop μ-loop
-add-after-5 c = omega arith
-
-after-requires-5 : tie.Need-after-requires-5 Inv-loop μ-loop
-after-requires-5 c κs = omega arith
 
 returns : tie.Need-returns Inv-loop μ-loop
 unfolding rowRest _▸_
@@ -85,17 +49,17 @@ bad-row-spec =
     Inv-loop
     μ-loop
     loop-holds
-    add-after
-    after-requires
-    add-j
-    loop-less
+    (λ c. omega arith)
+    (λ c κs. omega arith)
+    (λ c. omega arith)
+    (λ c. omega arith)
     loop-again
-    add-after-2
-    after-requires-2
-    add-after-3
-    after-requires-3
-    add-after-4
-    after-requires-4
-    add-after-5
-    after-requires-5
+    (λ c. omega arith)
+    (λ c κs. omega arith)
+    (λ c. omega arith)
+    (λ c κs. omega arith)
+    (λ c. omega arith)
+    (λ c κs. omega arith)
+    (λ c. omega arith)
+    (λ c κs. omega arith)
     returns)

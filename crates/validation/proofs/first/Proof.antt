@@ -4,11 +4,8 @@ use Rattle.layout.proofs.CodeFields.{orElse-some}
 use Rattle.validation.proofs.first.Statement.{statement}
 use Rattle.validation.proofs.first.Tie as tie
 
-returns : tie.Need-returns
-returns c = search needs
-
 returns-2 : tie.Need-returns-2
 returns-2 c = orElse-some _ _ (c .if1 .left)
 
 pub first-spec : {M : Type 1} → statement M
-first-spec = tie.close (tie.spec returns returns-2)
+first-spec = tie.close (tie.spec (λ c. search needs) returns-2)

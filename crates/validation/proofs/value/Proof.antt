@@ -8,19 +8,10 @@ use Rattle.layout.specs.Slots.{_!_}
 use Rattle.validation.proofs.value.Statement.{statement}
 use Rattle.validation.proofs.value.Tie as tie
 
-mul-x : tie.Need-mul-x
-mul-x c = search needs
-
-element-copy-out-x : tie.Need-element-copy-out-x
-element-copy-out-x c = search needs
-
-cast-result : tie.Need-cast-result
-cast-result c = search (needs, up32)
-
 returns : tie.Need-returns
 returns c = let r : toZ w64 (ofZ w64 (toZ w32 (ofZ w32 (c .before .args .v .now ! c .before .args .slot)))) ≡ c .before .args .v .now ! c .before .args .slot = search (needs, up32) in
     let f : SFits w32 (c .before .args .v .now ! c .before .args .slot) = search needs in
     (r, rw r (bound-of f))
 
 pub value-spec : {M : Type 1} → statement M
-value-spec = tie.close (tie.spec mul-x element-copy-out-x cast-result returns)
+value-spec = tie.close (tie.spec (λ c. search needs) (λ c. search needs) (λ c. search (needs, up32)) returns)

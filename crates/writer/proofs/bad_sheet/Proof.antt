@@ -11,9 +11,6 @@ use Rattle.writer.proofs.bad_sheet.Tie as tie
 head-counts : (c : tie.Else1) → Counts (c .before .before .args .v .now)
 head-counts c = counts _ (sym (c .if1 .left) ∙ c .before .bad-head .ensures)
 
-bad-head-requires : tie.Need-bad-head-requires
-bad-head-requires c κs = search needs
-
 returns : tie.Need-returns
 returns c = value-head _ _ (c .before .bad-head .ensures) (c .if1 .taken)
 
@@ -38,7 +35,7 @@ pub bad-sheet-spec : {M : Type 1} → statement M
 bad-sheet-spec =
     tie.close
     (tie.spec
-    bad-head-requires
+    (λ c κs. search needs)
     returns
     count-requires
     count-requires-2

@@ -36,35 +36,17 @@ loop-holds : tie.Need-loop-holds Inv-loop μ-loop
 unfolding start codedAll
 loop-holds c = (omega arith, (refl, refl))
 
-add-loop : tie.Need-add-loop Inv-loop μ-loop
-add-loop c = omega arith
-
-add-loop-2 : tie.Need-add-loop-2 Inv-loop μ-loop
-add-loop-2 c = omega arith
-
 sub-write-record : tie.Need-sub-write-record Inv-loop μ-loop
 sub-write-record c = omega (arith, room c, kept (c .before))
 
 part-write-record-start : tie.Need-part-write-record-start Inv-loop μ-loop
 part-write-record-start c = omega (arith, room c, kept (c .before))
 
-part-write-record-end : tie.Need-part-write-record-end Inv-loop μ-loop
-part-write-record-end c = omega arith
-
 write-record-requires : tie.Need-write-record-requires Inv-loop μ-loop
 write-record-requires c κs = (omega arith, omega (arith, room (c .before), kept (c .before .before), part-length (c .before .before .loop .s) (c .before .before .loop .at)))
 
-record-length-requires : tie.Need-record-length-requires Inv-loop μ-loop
-record-length-requires c κs = omega arith
-
 add-at : tie.Need-add-at Inv-loop μ-loop
 add-at c = omega (arith, c .record-length .ensures, room (c .before .before .before .before .before))
-
-add-r : tie.Need-add-r Inv-loop μ-loop
-add-r c = omega arith
-
-loop-less : tie.Need-loop-less Inv-loop μ-loop
-loop-less c = omega arith
 
 loop-again : tie.Need-loop-again Inv-loop μ-loop
 loop-again c =
@@ -99,16 +81,16 @@ write-records-spec =
     Inv-loop
     μ-loop
     loop-holds
-    add-loop
-    add-loop-2
+    (λ c. omega arith)
+    (λ c. omega arith)
     sub-write-record
     part-write-record-start
-    part-write-record-end
+    (λ c. omega arith)
     write-record-requires
-    record-length-requires
+    (λ c κs. omega arith)
     add-at
-    add-r
-    loop-less
+    (λ c. omega arith)
+    (λ c. omega arith)
     loop-again
     same-length
     returns)

@@ -51,32 +51,17 @@ returns c =
     let d = l .before in
     wrote-short _ _ _ _ (n-is d) (b-is d) (g-is d) _ _ (began d .pre) (l .file-length .ensures) (omega arith)
 
-sub-if2 : tie.Need-sub-if2
-sub-if2 c = search needs
-
 returns-2 : tie.Need-returns-2
 returns-2 c =
     let l = c .before .before in
     let d = l .before in
     wrote-short _ _ _ _ (n-is d) (b-is d) (g-is d) _ _ (began d .pre) (l .file-length .ensures) (omega arith)
 
-sub-write-records : tie.Need-sub-write-records
-sub-write-records c = search needs
-
-part-write-records-start : tie.Need-part-write-records-start
-part-write-records-start c = search needs
-
-part-write-records-end : tie.Need-part-write-records-end
-part-write-records-end c = search needs
-
 write-records-requires : tie.Need-write-records-requires
 write-records-requires c κs =
     let l = c .before .before .before in
     let a = began (l .before) .args in
     (small-counts (l .before), omega (arith, l .file-length .ensures, part-length (a .buffer .now) (a .place)))
-
-same-length : tie.Need-same-length
-same-length c = search needs
 
 returns-3 : tie.Need-returns-3
 returns-3 c =
@@ -94,11 +79,11 @@ write-valid-spec =
     count-requires-3
     file-length-requires
     returns
-    sub-if2
+    (λ c. search needs)
     returns-2
-    sub-write-records
-    part-write-records-start
-    part-write-records-end
+    (λ c. search needs)
+    (λ c. search needs)
+    (λ c. search needs)
     write-records-requires
-    same-length
+    (λ c. search needs)
     returns-3)

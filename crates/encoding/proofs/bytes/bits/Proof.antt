@@ -23,12 +23,6 @@ lo c = let f = x-fits (c .before) in low w32 (x (c .before)) (omega ints) f
 hi : (c : tie.Else1) → High w32 (x (c .before))
 hi c = let f = x-fits (c .before) in high w32 (x (c .before)) (omega ints) f
 
-mul-x : tie.Need-mul-x
-mul-x c = search needs
-
-element-copy-out-x : tie.Need-element-copy-out-x
-element-copy-out-x c = search needs
-
 sub-result : tie.Need-sub-result
 sub-result c = simp (toZ-ofZ, x-fits (c .before)) (lo c .fits)
 
@@ -51,8 +45,8 @@ pub bits-spec : {M : Type 1} → statement M
 bits-spec =
     tie.close
     (tie.spec
-    mul-x
-    element-copy-out-x
+    (λ c. search needs)
+    (λ c. search needs)
     sub-result
     cast-result
     sub-result-2

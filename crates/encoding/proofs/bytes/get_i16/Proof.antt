@@ -10,15 +10,6 @@ use Rattle.layout.specs.Fields.{decoded}
 use Rattle.encoding.proofs.bytes.get_i16.Statement.{statement}
 use Rattle.encoding.proofs.bytes.get_i16.Tie as tie
 
-two-requires : tie.Need-two-requires
-two-requires c κs = search needs
-
-add-result : tie.Need-add-result
-add-result c = search needs
-
-cast-result : tie.Need-cast-result
-cast-result c = search needs
-
 sub-result : tie.Need-sub-result
 sub-result c = extended-fits (c .two .result) (c .two .ensures .1)
 
@@ -27,4 +18,4 @@ unfolding decoded decode
 returns c = toZ-ofZ (extended-fits (c .two .result) (c .two .ensures .1)) ∙ extended (c .two .result) (c .two .ensures .1) ∙ ap (toZ w16) (c .two .ensures .0)
 
 pub get-i16-spec : {M : Type 1} → statement M
-get-i16-spec = tie.close (tie.spec two-requires add-result cast-result sub-result returns)
+get-i16-spec = tie.close (tie.spec (λ c κs. search needs) (λ c. search needs) (λ c. search needs) sub-result returns)

@@ -11,18 +11,6 @@ use Rattle.layout.specs.Fields.{decoded}
 use Rattle.encoding.proofs.bytes.get_i32.Statement.{statement}
 use Rattle.encoding.proofs.bytes.get_i32.Tie as tie
 
-four-requires : tie.Need-four-requires
-four-requires c κs = search needs
-
-cast-result : tie.Need-cast-result
-cast-result c = search needs
-
-sub-result : tie.Need-sub-result
-sub-result c = search needs
-
-cast-result-2 : tie.Need-cast-result-2
-cast-result-2 c = search needs
-
 sub-result-2 : tie.Need-sub-result-2
 sub-result-2 c = upper-fits w32 (c .before .four .result) (4294967295 - c .before .four .result) (omega arith)
 
@@ -37,4 +25,4 @@ returns-2 c = upper w32 (c .before .four .result) (4294967295 - c .before .four 
 pub get-i32-spec : {M : Type 1} → statement M
 get-i32-spec =
     tie.close
-    (tie.spec four-requires cast-result sub-result cast-result-2 sub-result-2 returns returns-2)
+    (tie.spec (λ c κs. search needs) (λ c. search needs) (λ c. search needs) (λ c. search needs) sub-result-2 returns returns-2)

@@ -9,15 +9,9 @@ use Rattle.layout.specs.Fields.{decoded}
 use Rattle.encoding.proofs.bytes.get_u16.Statement.{statement}
 use Rattle.encoding.proofs.bytes.get_u16.Tie as tie
 
-two-requires : tie.Need-two-requires
-two-requires c κs = search needs
-
-cast-result : tie.Need-cast-result
-cast-result c = search needs
-
 returns : tie.Need-returns
 unfolding decoded
 returns c = toZ-pos w32 (omega arith) ∙ ap pos (c .two .ensures .0)
 
 pub get-u16-spec : {M : Type 1} → statement M
-get-u16-spec = tie.close (tie.spec two-requires cast-result returns)
+get-u16-spec = tie.close (tie.spec (λ c κs. search needs) (λ c. search needs) returns)

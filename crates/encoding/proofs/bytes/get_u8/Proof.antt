@@ -10,18 +10,9 @@ use Rattle.layout.specs.Fields.{decoded}
 use Rattle.encoding.proofs.bytes.get_u8.Statement.{statement}
 use Rattle.encoding.proofs.bytes.get_u8.Tie as tie
 
-shared-slice-read-wide : tie.Need-shared-slice-read-wide
-shared-slice-read-wide c = search needs
-
-wide-requires : tie.Need-wide-requires
-wide-requires c κs = search needs
-
-cast-result : tie.Need-cast-result
-cast-result c = search needs
-
 returns : tie.Need-returns
 unfolding decoded
 returns c = toZ-pos w32 (omega arith) ∙ ap pos (c .wide .ensures .0 ∙ sym (be-one (c .before .before .before .args .f .now) (c .before .before .before .args .at) (omega arith)))
 
 pub get-u8-spec : {M : Type 1} → statement M
-get-u8-spec = tie.close (tie.spec shared-slice-read-wide wide-requires cast-result returns)
+get-u8-spec = tie.close (tie.spec (λ c. search needs) (λ c κs. search needs) (λ c. search needs) returns)

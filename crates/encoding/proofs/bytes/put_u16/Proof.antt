@@ -9,26 +9,8 @@ use Rattle.layout.specs.Fields.{encoded}
 use Rattle.encoding.proofs.bytes.put_u16.Statement.{statement}
 use Rattle.encoding.proofs.bytes.put_u16.Tie as tie
 
-bits-requires : tie.Need-bits-requires
-bits-requires c κs = search needs
-
-cast-s : tie.Need-cast-s
-cast-s c = search needs
-
-slice-write-s : tie.Need-slice-write-s
-slice-write-s c = search needs
-
-cast-s-2 : tie.Need-cast-s-2
-cast-s-2 c = search needs
-
-add-s : tie.Need-add-s
-add-s c = search needs
-
 slice-write-s-2 : tie.Need-slice-write-s-2
 slice-write-s-2 c = simp length-set (omega arith)
-
-same-length : tie.Need-same-length
-same-length c = search needs
 
 returns : tie.Need-returns
 unfolding encoded beBytes
@@ -38,11 +20,11 @@ pub put-u16-spec : {M : Type 1} → statement M
 put-u16-spec =
     tie.close
     (tie.spec
-    bits-requires
-    cast-s
-    slice-write-s
-    cast-s-2
-    add-s
+    (λ c κs. search needs)
+    (λ c. search needs)
+    (λ c. search needs)
+    (λ c. search needs)
+    (λ c. search needs)
     slice-write-s-2
-    same-length
+    (λ c. search needs)
     returns)

@@ -25,18 +25,6 @@ module _ (c : tie.Start) where
       let k : c .args .boxes + 1 ≤ maxBoxes + 1 = omega (arith, c .pre .1 .1) in
       mul-le-mul l k
 
-mul-result : tie.Need-mul-result
-mul-result c = search needs
-
-add-result : tie.Need-add-result
-add-result c = search needs
-
-mul-result-2 : tie.Need-mul-result-2
-mul-result-2 c = search needs
-
-add-result-2 : tie.Need-add-result-2
-add-result-2 c = search needs
-
 mul-result-3 : tie.Need-mul-result-3
 mul-result-3 c = omega (arith, rows c)
 
@@ -48,15 +36,6 @@ mul-result-4 c = omega (arith, all-bands c)
 
 add-result-4 : tie.Need-add-result-4
 add-result-4 c = omega (arith, all-bands c)
-
-mul-result-5 : tie.Need-mul-result-5
-mul-result-5 c = search needs
-
-add-result-5 : tie.Need-add-result-5
-add-result-5 c = search needs
-
-add-result-6 : tie.Need-add-result-6
-add-result-6 c = search needs
 
 mul-result-6 : tie.Need-mul-result-6
 mul-result-6 c = omega (arith, all-boxes c)
@@ -71,17 +50,17 @@ pub file-length-spec : {M : Type 1} → statement M
 file-length-spec =
     tie.close
     (tie.spec
-    mul-result
-    add-result
-    mul-result-2
-    add-result-2
+    (λ c. search needs)
+    (λ c. search needs)
+    (λ c. search needs)
+    (λ c. search needs)
     mul-result-3
     add-result-3
     mul-result-4
     add-result-4
-    mul-result-5
-    add-result-5
-    add-result-6
+    (λ c. search needs)
+    (λ c. search needs)
+    (λ c. search needs)
     mul-result-6
     add-result-7
     returns)

@@ -13,9 +13,6 @@ returns c = λ n. rw (head-is (sized n (c .before .args .bands) (c .before .args
 returns-2 : tie.Need-returns-2
 returns-2 c = λ n. rw (band-is (sized n (c .before .before .args .bands) (c .before .before .args .boxes)) (c .before .before .args .r) (c .before .if1 .left) (c .if2 .taken)) (refl, refl)
 
-add-if3 : tie.Need-add-if3
-add-if3 c = search needs
-
 returns-3 : tie.Need-returns-3
 returns-3 c = λ n. rw (unsafe-is (sized n (c .before .before .before .args .bands) (c .before .before .before .args .boxes)) (c .before .before .before .args .r) (omega arith) (omega arith)) (refl, refl)
 
@@ -23,4 +20,4 @@ returns-4 : tie.Need-returns-4
 returns-4 c = λ n. rw (recovery-is (sized n (c .before .before .before .args .bands) (c .before .before .before .args .boxes)) (c .before .before .before .args .r) (omega arith) (omega arith)) (refl, refl)
 
 pub mark-of-spec : {M : Type 1} → statement M
-mark-of-spec = tie.close (tie.spec returns returns-2 add-if3 returns-3 returns-4)
+mark-of-spec = tie.close (tie.spec returns returns-2 (λ c. search needs) returns-3 returns-4)

@@ -4,17 +4,8 @@ use borrow.Author.Tests.{eq-eqb, ne-eqb}
 use Rattle.encoding.proofs.marks.marked.Statement.{statement}
 use Rattle.encoding.proofs.marks.marked.Tie as tie
 
-shared-slice-read-if1 : tie.Need-shared-slice-read-if1
-shared-slice-read-if1 c = search needs
-
 returns : tie.Need-returns
 returns c = simp (ne-eqb _ _ (c .if1 .taken))
-
-add-result : tie.Need-add-result
-add-result c = search needs
-
-shared-slice-read-result : tie.Need-shared-slice-read-result
-shared-slice-read-result c = search needs
 
 returns-2 : tie.Need-returns-2
 returns-2 c = simp (eq-eqb _ _ (c .before .if1 .left))
@@ -22,4 +13,4 @@ returns-2 c = simp (eq-eqb _ _ (c .before .if1 .left))
 pub marked-spec : {M : Type 1} → statement M
 marked-spec =
     tie.close
-    (tie.spec shared-slice-read-if1 returns add-result shared-slice-read-result returns-2)
+    (tie.spec (λ c. search needs) returns (λ c. search needs) (λ c. search needs) returns-2)

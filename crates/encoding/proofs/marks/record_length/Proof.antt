@@ -10,20 +10,8 @@ use Rattle.encoding.proofs.marks.record_length.Tie as tie
 abbrev shape-at : tie.Start → Shape
 shape-at c = sized (c .args .n) (c .args .bands) (c .args .boxes)
 
-mul-result : tie.Need-mul-result
-mul-result c = search needs
-
-add-result : tie.Need-add-result
-add-result c = search needs
-
 returns : tie.Need-returns
 returns c = omega (arith, size-is (shape-at (c .before)) (c .before .args .r) (head-is (shape-at (c .before)) (c .before .args .r) (c .if1 .taken)))
-
-mul-result-2 : tie.Need-mul-result-2
-mul-result-2 c = search needs
-
-add-result-2 : tie.Need-add-result-2
-add-result-2 c = search needs
 
 mul-result-3 : tie.Need-mul-result-3
 mul-result-3 c = omega (arith, rows-most (c .before .before .args .n) (c .before .before .pre .0))
@@ -34,12 +22,6 @@ add-result-3 c = omega (arith, rows-most (c .before .before .args .n) (c .before
 returns-2 : tie.Need-returns-2
 returns-2 c = omega (arith, size-is (shape-at (c .before .before)) (c .before .before .args .r) (band-is (shape-at (c .before .before)) (c .before .before .args .r) (c .before .if1 .left) (c .if2 .taken)))
 
-mul-result-4 : tie.Need-mul-result-4
-mul-result-4 c = search needs
-
-add-result-4 : tie.Need-add-result-4
-add-result-4 c = search needs
-
 returns-3 : tie.Need-returns-3
 returns-3 c = omega (arith, box-size-is (shape-at (c .before .before)) (c .before .before .args .r) (omega arith) (omega arith))
 
@@ -47,14 +29,14 @@ pub record-length-spec : {M : Type 1} → statement M
 record-length-spec =
     tie.close
     (tie.spec
-    mul-result
-    add-result
+    (λ c. search needs)
+    (λ c. search needs)
     returns
-    mul-result-2
-    add-result-2
+    (λ c. search needs)
+    (λ c. search needs)
     mul-result-3
     add-result-3
     returns-2
-    mul-result-4
-    add-result-4
+    (λ c. search needs)
+    (λ c. search needs)
     returns-3)
