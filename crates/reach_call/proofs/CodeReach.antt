@@ -26,7 +26,7 @@ use Rattle.lifting.proofs.Count.{ticks-width}
 use Rattle.lifting.proofs.Refusals.{or-none, if-refused, if-accepted}
 use Rattle.reach_refusals.proofs.CodeSides.{sides-near}
 use Rattle.numbers.specs.Numbers.{numberBytes, sidesOf}
-use Rattle.guard.specs.Calls.{startBox, reachAnswer}
+use Rattle.reach_call.specs.ReachCall.{startBox, reachAnswer}
 use Rattle.numbers.proofs.CodeNumbers.{sides-length}
 
 -- ---- sides

@@ -7,11 +7,11 @@ use lib.IntN.{ℤ}
 use lib.Seq.{sets}
 use borrow.Author.Needs.{needs}
 use Rattle.numbers.specs.Numbers.{numberBytes, sidesOf}
-use Rattle.guard.specs.Calls.{reachedRefusal, reachedCall, reachedOut}
+use Rattle.reach_call.specs.ReachCall.{reachedRefusal, reachedCall, reachedOut}
 use Rattle.answers.proofs.Ways.{or-refused, or-answered, or-unchanged, or-written, room-stop, room-short, room-enough}
-use Rattle.guard.proofs.CodeReach.{boxes-bytes}
-use Rattle.guard.proofs.give_reached.Statement.{statement}
-use Rattle.guard.proofs.give_reached.Tie as tie
+use Rattle.reach_call.proofs.CodeReach.{boxes-bytes}
+use Rattle.reach_call.proofs.give_reached.Statement.{statement}
+use Rattle.reach_call.proofs.give_reached.Tie as tie
 
 returns : tie.Need-returns
 unfolding reachedRefusal reachedCall reachedOut

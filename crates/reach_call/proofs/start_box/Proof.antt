@@ -2,9 +2,9 @@
 use mathlib.Core.Path.{refl}
 use borrow.Author.Needs.{needs}
 use borrow.Author.Tests.{eq-eqb, ne-eqb}
-use Rattle.guard.specs.Calls.{startBox}
-use Rattle.guard.proofs.start_box.Statement.{statement}
-use Rattle.guard.proofs.start_box.Tie as tie
+use Rattle.reach_call.specs.ReachCall.{startBox}
+use Rattle.reach_call.proofs.start_box.Statement.{statement}
+use Rattle.reach_call.proofs.start_box.Tie as tie
 
 returns : tie.Need-returns
 unfolding startBox
