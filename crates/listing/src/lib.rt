@@ -19,15 +19,13 @@ use layout::slots::SLOTS;
 use layout::slots::VARS;
 use lines::put_question_line;
 use lines::put_sheet_line;
+use question::PAIR;
+use question::SIDES_AT;
 use sheet::read_into;
 use text::LINE;
 
-// The bytes of a question before its sides, of a pair of sides, and the most bytes of a question.
-const FRONT: usize = 10;
-
-const PAIR: usize = 8;
-
-pub const QUESTION: usize = FRONT + PAIR * N;
+// The most bytes of a question.
+pub const QUESTION: usize = SIDES_AT + PAIR * N;
 
 // The end of the sheet's line, and whether the questions follow.
 pub struct SheetLine {
@@ -61,5 +59,5 @@ pub fn question_length(sheet: &[u8]) -> usize
 {
     let mut v = [0i32; SLOTS];
     read_into(sheet, &mut v);
-    FRONT + PAIR * count(&v, VARS)
+    SIDES_AT + PAIR * count(&v, VARS)
 }

@@ -20,9 +20,9 @@ const ALLOWANCE_AT: usize = 2;
 
 const COMMAND_AT: usize = ALLOWANCE_AT + 4;
 
-const SIDES_AT: usize = COMMAND_AT + I32;
+pub const SIDES_AT: usize = COMMAND_AT + I32;
 
-const PAIR: usize = 2 * I32;
+pub const PAIR: usize = 2 * I32;
 
 const FORM: u8 = 12;
 

@@ -12,17 +12,14 @@ use boxes::ReachAnswer;
 use boxes::reach_of;
 use layout::count;
 use layout::refusals::ROOM;
-use layout::sizes::I32;
 use layout::slots::BOX_SIZE;
 use layout::slots::SLOTS;
 use layout::slots::VARS;
 use numbers::put_numbers;
 use numbers::put_sides;
+use question::PAIR;
 use question::pairs;
 use sheet::read_into;
-
-// The bytes of a pair of sides.
-const PAIR: usize = 2 * I32;
 
 // The start box of a reach of n variables.
 fn start_box(n: usize, start: &[u8]) -> [i64; BOX_SIZE]
