@@ -1,6 +1,6 @@
-// The rate at which each face of a box moves (document 01, "One lifted step"). A machine is a
-// `Plant` beside the sheet's value, which is lent; a box is lent too. The definitions are in machine/specs/Machine and
-// machine/specs/Rate.
+// The rate at which each face of a box moves (document 01, "One lifted step"), over the rows of the sheet that `rows` bounds. A
+// machine is a `Plant` beside the sheet's value, which is lent; a box is lent too. The definitions are in
+// machine/specs/Machine and machine/specs/Rate.
 pub mod rate;
 
 // A sheet's machine under a law: the baseline, or else the one command.
