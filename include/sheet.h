@@ -15,7 +15,7 @@ enum { SHEET_NUMBERS = 365 };
 
 /* Reads the sheet's numbers to their slots, which guard.h names (GUARD_SLOT_..), and answers 0; numbers
  * beyond the sheet's counts are 0. Where the sheet is refused the answer is the number of the refusal,
- * 1 to 11 (GUARD_REFUSED_..), and all numbers are 0. sheet may be NULL where sheet_length is 0. */
+ * 1 to 11 (GUARD_REFUSED_..), and numbers is as it was. sheet may be NULL where sheet_length is 0. */
 uint8_t sheet_read(const uint8_t *sheet, size_t sheet_length, int32_t numbers[SHEET_NUMBERS]);
 
 #ifdef __cplusplus

@@ -1,6 +1,7 @@
 /* The call of include/sheet.h from C, linked with the archive of the crate `sheet` beside that of the
- * guard: sheet A's numbers at each slot, and the refusal and the zeros for each shorter file and for each
- * byte of it changed, as guard_sheet and guard_sheet_read have them. The last line is `N passed, M failed`. */
+ * guard: sheet A's numbers at each slot, and the refusal, with the array as it was, for each shorter file
+ * and for each byte of it changed, as guard_sheet and guard_sheet_read answer. The last line is
+ * `N passed, M failed`. */
 #include "guard.h"
 #include "sheet.h"
 
@@ -30,7 +31,7 @@ static void expect(const char *what, size_t number, int64_t got, int64_t want)
     printf("%s %zu: %lld where %lld is due\n", what, number, (long long)got, (long long)want);
 }
 
-/* Reads a file with both archives: the same refusal, and the same number at each slot, or zeros. */
+/* Reads a file with both archives: the same refusal, and the same number at each slot, or none written. */
 static void compare(const char *what, size_t number, const uint8_t *sheet, size_t length)
 {
     static int32_t numbers[SHEET_NUMBERS + 1];
@@ -45,7 +46,7 @@ static void compare(const char *what, size_t number, const uint8_t *sheet, size_
     expect(what, number, (int64_t)read, answer == 0 ? (int64_t)length : (int64_t)answer);
     int same = 1;
     for (size_t slot = 0; slot < SHEET_NUMBERS; slot++)
-        same &= numbers[slot] == guard_get(bytes, slot);
+        same &= numbers[slot] == (refusal == 0 ? guard_get(bytes, slot) : FILL);
     expect(what, number, same, 1);
     expect(what, number, numbers[SHEET_NUMBERS], FILL);
 }

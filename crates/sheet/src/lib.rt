@@ -96,12 +96,18 @@ pub fn read(f: &[u8]) -> Parsed
     }
 }
 
-// `read_into` for C, in the archive of this crate alone (include/sheet.h).
+// Reads a sheet for C, in the archive of this crate alone (include/sheet.h); a refusal leaves the array as it was.
 #[no_mangle]
 pub extern "C" fn sheet_read(f: &[u8], v: &mut [i32; SLOTS]) -> u8
-    ensures { λ r. ⌜ (r ≡ refusal (now (f .entry))) × (now (v .exit) ≡ values (now (f .entry))) ⌝ }
+    ensures { λ r. ⌜ r ≡ refusal (now (f .entry)) ⌝ }
+    ensures { λ r. ⌜ (r ≡ 0 → now (v .exit) ≡ values (now (f .entry))) × ((r ≡ 0 → ⊥) → now (v .exit) ≡ now (v .entry)) ⌝ }
 {
-    read_into(f, v)
+    let mut numbers = [0i32; SLOTS];
+    let refused = read_into(f, &mut numbers);
+    if refused == 0 {
+        *v = numbers;
+    }
+    refused
 }
 
 // Writes a sheet to the buffer from a place on; a refusal leaves the buffer as it was.

@@ -14,11 +14,14 @@ pub fn sheet(sheet: &[u8]) -> u64 {
     sheet::read(sheet).map_or_else(pack_refusal, |_| 0)
 }
 
-/// A sheet's numbers with 0, or zeros with the number of the refusal.
-pub fn numbers(sheet: &[u8]) -> (u8, [i32; NUMBERS]) {
+/// Puts a sheet's numbers and answers 0, or answers the number of the refusal and puts none.
+pub fn numbers(sheet: &[u8], numbers: &mut [i32; NUMBERS]) -> u8 {
     match sheet::read(sheet) {
-        Ok(read) => (0, read.numbers()),
-        Err(refusal) => (refusal.number(), [0; NUMBERS]),
+        Ok(read) => {
+            *numbers = read.numbers();
+            0
+        }
+        Err(refusal) => refusal.number(),
     }
 }
 

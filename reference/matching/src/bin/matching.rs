@@ -204,9 +204,10 @@ impl Matching {
     /// A sheet's refusal, and its numbers by the archive of the crate `sheet` alone.
     fn call_sheet(&mut self, kinds: &[KindId], sheet: &[u8]) -> u64 {
         let (wanted, found) = (expected::sheet(sheet), archive::sheet(sheet));
-        let mut numbers = [0x77; NUMBERS];
-        let refusal = archive::numbers(sheet, &mut numbers);
-        let same = (refusal, numbers) == expected::numbers(sheet);
+        let (mut wanted_numbers, mut numbers) = ([0x77; NUMBERS], [0x77; NUMBERS]);
+        let same = expected::numbers(sheet, &mut wanted_numbers)
+            == archive::numbers(sheet, &mut numbers)
+            && wanted_numbers == numbers;
         self.note(kinds, wanted, wanted == found && same, || {
             format!(
                 "sheet {}: wanted {}, found {}, same numbers {same}",
