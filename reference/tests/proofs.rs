@@ -17,12 +17,12 @@ fn words(text: &str) -> Vec<&str> {
 
 #[test]
 fn the_reach_examples_are_those_of_the_list() {
-    let kept = include_str!("../../crates/lifting/proofs/Reference.antt");
+    let kept = include_str!("../../crates/boxes_spec/proofs/Reference.antt");
     assert_eq!(words(&printed("lifting")), words(kept));
 }
 
 #[test]
 fn the_decision_examples_are_those_of_the_list() {
-    let kept = include_str!("../../crates/safety/proofs/Reference.antt");
+    let kept = include_str!("../../crates/decision_spec/proofs/Reference.antt");
     assert_eq!(words(&printed("safety")), words(kept));
 }

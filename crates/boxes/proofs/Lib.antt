@@ -1,1 +1,3 @@
-mod CodeReach
+mod Answer
+pub mod Turn
+pub mod Bounds

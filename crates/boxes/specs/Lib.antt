@@ -1,1 +1,3 @@
-pub mod Code
+pub mod Walked
+pub mod Limits
+pub mod ReachAnswer

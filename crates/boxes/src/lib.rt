@@ -1,20 +1,23 @@
 // The reach (document 01, "One lifted step"): the boxes that hold every state that the machine can reach in so many ticks from
-// a start box, under a law. `reach` is the public operation on any bytes. The definitions are in lifting/specs/Reach.
-// What may be asked is tested in `reach_refusals`.
+// a start box, under a law. `reach` is the public operation on any bytes. The definitions are in boxes_spec/specs/Reach.
+// What may be asked is tested in `boxes_refusals`.
 ghost use mathlib.Core.Path.{_≡_};
-ghost use Rattle.layout.specs.Valid.{Valid};
-ghost use Rattle.rates.specs.Plant.{lawOf};
-ghost use Rattle.lifting.specs.Reach as spec;
-ghost use Rattle.boxes.specs.Code.{answered};
-use layout::slots::BOX_SIZE;
-use layout::slots::SLOTS;
-use reach_refusals::reach_refusal;
-use shapes::trim;
+ghost use Rattle.sheet_spec.specs.Valid.{Valid};
+ghost use Rattle.machine_spec.specs.Machine.{lawOf};
+ghost use Rattle.boxes_spec.specs.Reach as spec;
+ghost use Rattle.boxes.specs.ReachAnswer.{answered};
+
+pub mod steps;
+
+use crate::steps::Walked;
+use crate::steps::plant;
+use crate::steps::walk;
+use boxes_refusals::reach_refusal;
+use boxes_shape::compare::trim;
+use boxes_step::Budget;
 use sheet::read_into;
-use step::Budget;
-use walk::Walked;
-use walk::plant;
-use walk::walk;
+use sheet_spec::slots::BOX_SIZE;
+use sheet_spec::slots::SLOTS;
 
 // A refusal number, or 0 with the two boxes and the rounds.
 pub struct ReachAnswer {

@@ -1,2 +1,3 @@
-mod CodeRecovery
-mod CodeAnswers
+pub mod Turn
+mod RecoveryBox
+mod Answer

@@ -1,1 +1,3 @@
-pub mod Code
+pub mod Trial
+pub mod Attempted
+pub mod Limits

@@ -1,30 +1,33 @@
 // The decision and the recovery check (document 01, "The decision") on any bytes. What they answer is equal to the definitions
-// in safety/specs/Decision.antt; safety/specs/Run.antt says what these are for, that every run of the machine is safe. The
-// attempts at ever smaller widths are in `attempts`, a question's bytes in `question`.
+// in decision_spec/specs/Decision.antt; safety/specs/Run.antt says what these are for, that every run of the machine is safe. The
+// attempts at ever smaller widths are in `attempts`, a question's bytes in `decision_question`.
 ghost use mathlib.Core.Path.{_≡_};
 ghost use Prim.Native.Nat.{_≤_, max};
-ghost use Rattle.layout.specs.Slots.{recoveryBox, vars};
-ghost use Rattle.layout.specs.Valid.{Valid};
-ghost use Rattle.machine.specs.Box.{trim};
-ghost use Rattle.safety.specs.Question.{allowanceOf};
-ghost use Rattle.safety.specs.Decision.{checkRecovery, decide, recoveryOf, roundsOf};
-ghost use Rattle.answers.specs.Code.{checked, decided};
-ghost use Rattle.decision.specs.Code.{decisionOn};
-use answers::Decision;
-use answers::Recovery;
-use answers::recovery_of;
-use attempts::Trial;
-use attempts::tries;
-use layout::count;
-use layout::slots::ALPHA;
-use layout::slots::DELTA;
-use layout::slots::RECOVERY;
-use layout::slots::RHO;
-use layout::slots::SLOTS;
-use layout::slots::VARS;
-use shapes::box_at;
+ghost use Rattle.sheet_spec.specs.Slots.{recoveryBox, vars};
+ghost use Rattle.sheet_spec.specs.Valid.{Valid};
+ghost use Rattle.machine_spec.specs.Box.{trim};
+ghost use Rattle.decision_spec.specs.Question.{allowanceOf};
+ghost use Rattle.decision_spec.specs.Decision.{checkRecovery, decide, recoveryOf, roundsOf, decisionOn};
+ghost use Rattle.decision_answers.specs.Recovery.{checked};
+ghost use Rattle.decision_answers.specs.Decision.{decided};
+
+pub mod attempts;
+
+use crate::attempts::Trial;
+use crate::attempts::tries;
+use boxes_shape::compare::box_at;
+use boxes_step::Budget;
+use decision_answers::Decision;
+use decision_answers::Recovery;
+use decision_answers::recovery_of;
 use sheet::read_into;
-use step::Budget;
+use sheet_encoding::count;
+use sheet_spec::slots::ALPHA;
+use sheet_spec::slots::DELTA;
+use sheet_spec::slots::RECOVERY;
+use sheet_spec::slots::RHO;
+use sheet_spec::slots::SLOTS;
+use sheet_spec::slots::VARS;
 
 fn larger(a: usize, b: usize) -> usize
     ensures { λ r. ⌜ r ≡ max a b ⌝ }
@@ -38,20 +41,20 @@ fn decide_on(sheet: &[i32; SLOTS], g: &[u8]) -> Decision
     ensures { λ r. ⌜ decided r ≡ decisionOn (now (sheet .entry)) (now (g .entry)) ⌝ }
 {
     let n = count(sheet, VARS);
-    let refusal = question::refusal(n, sheet, g);
+    let refusal = decision_question::refusal(n, sheet, g);
     if refusal != 0 {
         return Decision::Refused { number: refusal };
     }
-    let start = question::measured(n, g);
+    let start = decision_question::measured(n, g);
     let first = count(sheet, DELTA);
     let then = count(sheet, ALPHA);
     let budget = Budget {
         limited: true,
-        allowance: question::allowance(g),
+        allowance: decision_question::allowance(g),
     };
     let t = Trial {
         budget: budget,
-        command: question::command(g),
+        command: decision_question::command(g),
         first: first,
         then: then,
     };

@@ -3,13 +3,13 @@
 ghost use Prim.Native.Nat.{_≤_, _<_};
 ghost use lib.ListN.{length};
 ghost use Rattle.io.specs.Counts.{Counts};
-ghost use Rattle.layout.specs.Slots.{N};
-ghost use Rattle.safety.specs.Question.{questionLength};
-ghost use Rattle.text.specs.Text.{lineRoom};
-ghost use Rattle.listing.specs.Longest.{longest};
+ghost use Rattle.sheet_spec.specs.Slots.{N};
+ghost use Rattle.decision_spec.specs.Question.{questionLength};
+ghost use Rattle.listing_text.specs.Text.{lineRoom};
+ghost use Rattle.listing.specs.Limits.{longest};
 use libc::STDOUT_FILENO;
 use listing::QUESTION;
-use text::LINE;
+use listing_text::LINE;
 
 // Reads the sheet's file, as much of it as there is room for, and answers how many bytes. What cannot be opened or read has
 // none. With more room than the longest sheet takes, nothing more of the file counts.

@@ -1,22 +1,26 @@
 // The C interface (include/guard.h) and nothing else: wrappers around the crates below, each answer one 64-bit number.
-// specs/Calls.antt (of a reach: reach_call/specs) says what a call answers and what it leaves in a lent buffer; no call has a
+// decision_spec/specs/Calls (of a reach: decision_spec/specs/ReachCall) says what a call answers and what it leaves in a lent buffer; no call has a
 // `requires`. The first three are the drive's; `numbers` has the form in which the others take and give numbers.
 ghost use mathlib.Core.Path.{_≡_};
-ghost use Rattle.reach_call.specs.ReachCall.{reachCall, reachOut};
-ghost use Rattle.guard.specs.Calls.{decideCall, readCall, readOut, recoveryCall, sheetCall, writeCall, writeOut};
-use answers::as_decision;
-use answers::pack_decision;
-use answers::pack_refusal;
+ghost use Rattle.decision_spec.specs.ReachCall.{reachCall, reachOut};
+ghost use Rattle.decision_spec.specs.Calls.{decideCall, readCall, readOut, recoveryCall, sheetCall, writeCall, writeOut};
+
+pub mod numbers;
+pub mod reach;
+
+use crate::numbers::get_numbers;
+use crate::numbers::put_numbers;
+use crate::reach::reach_call;
 use decision::check_recovery;
 use decision::decide;
-use layout::refusals::ROOM;
-use layout::sizes::I32;
-use layout::slots::SLOTS;
-use numbers::get_numbers;
-use numbers::put_numbers;
-use reach_call::reach_call;
+use decision_answers::as_decision;
+use decision_answers::pack_decision;
+use decision_answers::pack_refusal;
 use sheet::read_into;
 use sheet::write;
+use sheet_spec::refusals::ROOM;
+use sheet_spec::sizes::I32;
+use sheet_spec::slots::SLOTS;
 
 // The bytes of a sheet's numbers.
 const NUMBERS_SIZE: usize = I32 * SLOTS;

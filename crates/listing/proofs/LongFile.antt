@@ -11,22 +11,21 @@ use lib.IntN.{ℤ}
 use lib.ListN.{length, take, drop, set, length-take}
 use lib.Seq.{take-all, take-take, take-nil, getD-take}
 use borrow.Author.Tests.{le-leb}
-use Rattle.layout.specs.Slots.{headSize, vars}
-use Rattle.layout.specs.Fields.{Field, width, numberOf, decoded, offset, filled, bad}
-use Rattle.layout.specs.Layout.{head, headFields}
-use Rattle.layout.specs.File.{Shape, records, start, marked}
-use Rattle.layout.specs.Sheet.{headOf, shapeOf, refusal, values, zeros}
-use Rattle.layout.proofs.Laws.{bad-ranges}
-use Rattle.layout.proofs.Streams.{lt-or-le}
-use Rattle.layout.proofs.Places.{Small}
-use Rattle.layout.proofs.Ranges.{small}
-use Rattle.layout.proofs.Length.{cap-offset, file-length}
-use Rattle.layout.proofs.Answers.{refused-beginning, refused-head, refused-size}
-use Rattle.safety.specs.Question.{questionLength}
-use Rattle.safety.specs.Decision.{Reply, recoveryOf, unless, checkRecovery}
-use Rattle.safety.specs.Run.{isKeep}
-use Rattle.safety.specs.Listing.{_␣_, newline, sheetWord, checkWord, replyText, sheetLine, questionLines, listing}
-use Rattle.listing.specs.Longest.{longest}
+use Rattle.sheet_spec.specs.Slots.{headSize, vars}
+use Rattle.sheet_spec.specs.Fields.{Field, width, numberOf, decoded, offset, filled, bad}
+use Rattle.sheet_spec.specs.Layout.{head, headFields}
+use Rattle.sheet_spec.specs.File.{Shape, records, start, marked}
+use Rattle.sheet_spec.specs.Sheet.{headOf, shapeOf, refusal, values, zeros}
+use Rattle.sheet_spec.proofs.Laws.{bad-ranges}
+use Rattle.sheet_spec.proofs.Streams.{lt-or-le}
+use Rattle.sheet_spec.proofs.Places.{Small}
+use Rattle.sheet_spec.proofs.Ranges.{small}
+use Rattle.sheet_spec.proofs.Length.{cap-offset, file-length}
+use Rattle.sheet_spec.proofs.Answers.{refused-beginning, refused-head, refused-size}
+use Rattle.decision_spec.specs.Question.{questionLength}
+use Rattle.decision_spec.specs.Decision.{Reply, recoveryOf, unless, checkRecovery, isKeep}
+use Rattle.decision_spec.specs.Listing.{_␣_, newline, sheetWord, checkWord, replyText, sheetLine, questionLines, listing}
+use Rattle.listing.specs.Limits.{longest}
 
 -- the length grows with the counts
 grows : {n m b c g k : ℕ} → n ≤ m → b ≤ c → g ≤ k

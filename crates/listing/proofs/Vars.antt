@@ -6,9 +6,9 @@ use native.Mathlib.Omega.{arith}
 use lib.IntN.{ℤ, pos}
 use lib.Signed.{_≤ℤ_}
 use Rattle.integers.proofs.Z.{ints}
-use Rattle.layout.specs.Slots.{_!_, N, vars, varsSlot}
-use Rattle.layout.specs.Sheet.{refusal, values, zeros}
-use Rattle.layout.proofs.Valid.{valid, values-zero}
+use Rattle.sheet_spec.specs.Slots.{_!_, N, vars, varsSlot}
+use Rattle.sheet_spec.specs.Sheet.{refusal, values, zeros}
+use Rattle.sheet_spec.proofs.Valid.{valid, values-zero}
 
 -- v's number of variables is one for which there is room
 pub record Counted (v : List ℤ) : Type 0 where

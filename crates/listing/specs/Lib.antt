@@ -1,1 +1,1 @@
-pub mod Longest
+pub mod Limits

@@ -1,28 +1,30 @@
 // The floor listing (document 01) on bytes: the sheet's line, the line of a question, and how long a question is. The lines are
-// equal to those of safety/specs/Listing.antt; `lines` has their text. proofs/LongFile says how much of a sheet's file has to be
+// equal to those of decision_spec/specs/Listing.antt; `lines` has their text. proofs/LongFile says how much of a sheet's file has to be
 // read.
 ghost use mathlib.Core.Path.{_≡_};
 ghost use Prim.Native.Nat.{_≤_};
-ghost use Rattle.layout.specs.Slots as slots;
-ghost use Rattle.layout.specs.Sheet.{values};
-ghost use Rattle.safety.specs.Question.{questionLength};
-ghost use Rattle.safety.specs.Decision.{checkRecovery};
-ghost use Rattle.safety.specs.Run.{isKeep};
-ghost use Rattle.safety.specs.Listing.{questionLine, sheetLine};
-ghost use Rattle.text.specs.Text.{Put, lineRoom};
-use answers::has_passed;
+ghost use Rattle.sheet_spec.specs.Slots as slots;
+ghost use Rattle.sheet_spec.specs.Sheet.{values};
+ghost use Rattle.decision_spec.specs.Question.{questionLength};
+ghost use Rattle.decision_spec.specs.Decision.{checkRecovery, isKeep};
+ghost use Rattle.decision_spec.specs.Listing.{questionLine, sheetLine};
+ghost use Rattle.listing_text.specs.Text.{Put, lineRoom};
+
+pub mod lines;
+
+use crate::lines::put_question_line;
+use crate::lines::put_sheet_line;
 use decision::check_recovery;
 use decision::decide;
-use layout::count;
-use layout::slots::N;
-use layout::slots::SLOTS;
-use layout::slots::VARS;
-use lines::put_question_line;
-use lines::put_sheet_line;
-use question::PAIR;
-use question::SIDES_AT;
+use decision_answers::has_passed;
+use decision_question::PAIR;
+use decision_question::SIDES_AT;
+use listing_text::LINE;
 use sheet::read_into;
-use text::LINE;
+use sheet_encoding::count;
+use sheet_spec::slots::N;
+use sheet_spec::slots::SLOTS;
+use sheet_spec::slots::VARS;
 
 // The most bytes of a question.
 pub const QUESTION: usize = SIDES_AT + PAIR * N;

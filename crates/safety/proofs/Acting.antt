@@ -6,9 +6,9 @@ use Prim.Native.Nat.{ℕ, zero, suc, _+_, _*_, _<_}
 use native.Mathlib.Omega.{arith}
 use lib.ListN.{length, getD, replicate, length-append, length-replicate, getD-replicate, List·getD-append}
 use lib.Seq.{getD-append-add}
-use Rattle.layout.specs.Slots.{δ}
-use Rattle.layout.specs.Sheet.{values}
-use Rattle.machine.specs.Machine.{baseline}
+use Rattle.sheet_spec.specs.Slots.{δ}
+use Rattle.sheet_spec.specs.Sheet.{values}
+use Rattle.machine_spec.specs.Machine.{baseline}
 use Rattle.safety.specs.Run.{Period, lawOf, acting, lawAt}
 
 pub acting-length : (f : List ℕ) (qs : List Period) → length (acting f qs) ≡ length qs * δ (values f)

@@ -10,13 +10,13 @@ use lib.IntN.{ℤ, pos, negsuc}
 use lib.Seq.{sets}
 use mir.Syntax.{w32}
 use Rattle.integers.specs.Bytes.{beBytes, encode}
-use Rattle.layout.specs.Slots.{N, bandSlot, rowSlot, recoverySlot, unsafeSlot, recoveryBox}
-use Rattle.layout.specs.Sheet.{zeros, values, bytesOf}
-use Rattle.layout.specs.SheetA.{fileA}
-use Rattle.machine.specs.Box.{In}
-use Rattle.machine.specs.Machine.{Law, baseline, command}
-use Rattle.machine.proofs.Box.{differ, all-at}
-use Rattle.safety.specs.Decision.{keep, finest, spent, Reply, refused, answered, checkRecovery, decide}
+use Rattle.sheet_spec.specs.Slots.{N, bandSlot, rowSlot, recoverySlot, unsafeSlot, recoveryBox}
+use Rattle.sheet_spec.specs.Sheet.{zeros, values, bytesOf}
+use Rattle.sheet_spec.specs.SheetA.{fileA}
+use Rattle.machine_spec.specs.Box.{In}
+use Rattle.machine_spec.specs.Machine.{Law, baseline, command}
+use Rattle.machine_spec.proofs.Box.{differ, all-at}
+use Rattle.decision_spec.specs.Decision.{keep, finest, spent, Reply, refused, answered, checkRecovery, decide}
 use Rattle.safety.specs.Run.{Period, lawAt, Run, Safe}
 use Rattle.safety.proofs.Everything.{everything}
 use Rattle.safety.proofs.Run.{safe-runs}

@@ -11,20 +11,19 @@ use lib.Signed.{_≤ℤ_}
 use lib.ListN.{length, replicate, length-append, length-replicate}
 use Rattle.integers.specs.Bound.{size}
 use Rattle.integers.proofs.Z.{ints, sub, neg}
-use Rattle.layout.specs.Slots.{_!_, vars, δ, α, ρ, recoveryBox}
-use Rattle.layout.specs.Valid.{Valid}
-use Rattle.machine.specs.Box.{In}
-use Rattle.machine.specs.Machine.{Law, baseline, command, machine, Tick}
-use Rattle.machine.specs.Rate.{neutral}
-use Rattle.machine.proofs.Sound.{proper, cap-bounds}
-use Rattle.lifting.specs.Reach.{orNext, lawRefusal}
-use Rattle.lifting.proofs.Sound.{Ticks}
-use Rattle.lifting.proofs.Ranges.{Sized, start-sized, recovery-sized}
-use Rattle.safety.specs.Question.{questionRefusal, formRefusal, allowanceRefusal, allowanceOf, commandOf, measured}
-use Rattle.safety.specs.Decision.{recoveryOf, decisionOf}
-use Rattle.safety.specs.Run.{isKeep}
-use Rattle.safety.proofs.Cover.{Covered}
-use Rattle.safety.proofs.Attempt.{recovery-sound, decision-sound}
+use Rattle.sheet_spec.specs.Slots.{_!_, vars, δ, α, ρ, recoveryBox}
+use Rattle.sheet_spec.specs.Valid.{Valid}
+use Rattle.machine_spec.specs.Box.{In}
+use Rattle.machine_spec.specs.Machine.{Law, baseline, command, machine, Tick}
+use Rattle.machine_spec.specs.Rate.{neutral}
+use Rattle.machine_spec.proofs.Sound.{proper, cap-bounds}
+use Rattle.boxes_spec.specs.Reach.{orNext, lawRefusal}
+use Rattle.boxes_spec.proofs.Sound.{Ticks}
+use Rattle.boxes_spec.proofs.Ranges.{Sized, start-sized, recovery-sized}
+use Rattle.decision_spec.specs.Question.{questionRefusal, formRefusal, allowanceRefusal, allowanceOf, commandOf, measured}
+use Rattle.decision_spec.specs.Decision.{recoveryOf, decisionOf, isKeep}
+use Rattle.decision_spec.proofs.Cover.{Covered}
+use Rattle.decision_spec.proofs.Attempt.{recovery-sound, decision-sound}
 
 pub record Held (v : List ℤ) (ls : List Law) (x : List ℤ) : Type 0 where
   pub covered : Covered v ls x

@@ -12,18 +12,18 @@ use lib.ListN.{length, getD, length-append, List·getD-append}
 use lib.Seq.{getD-append-add}
 use Rattle.integers.specs.Bound.{Bound}
 use Rattle.integers.proofs.Z.{ints}
-use Rattle.layout.specs.Slots.{_!_, vars, bands, bandVar, δ, recoveryBox}
-use Rattle.layout.specs.Sheet.{values}
-use Rattle.layout.specs.Valid.{Valid}
-use Rattle.machine.specs.Box.{In}
-use Rattle.machine.specs.Machine.{Law, Machine, machine, Tick}
-use Rattle.machine.proofs.Bands.{Band, has-band}
-use Rattle.machine.proofs.Sound.{proper}
-use Rattle.machine.proofs.Progress.{permits, goes-on}
-use Rattle.lifting.proofs.Sound.{Ticks}
-use Rattle.safety.specs.Decision.{checkRecovery}
-use Rattle.safety.specs.Run.{Period, isKeep, lawOf, lawAt, Measured, Run}
-use Rattle.safety.proofs.Cover.{behind, behind-ticks}
+use Rattle.sheet_spec.specs.Slots.{_!_, vars, bands, bandVar, δ, recoveryBox}
+use Rattle.sheet_spec.specs.Sheet.{values}
+use Rattle.sheet_spec.specs.Valid.{Valid}
+use Rattle.machine_spec.specs.Box.{In}
+use Rattle.machine_spec.specs.Machine.{Law, Machine, machine, Tick}
+use Rattle.machine_spec.proofs.Bands.{Band, has-band}
+use Rattle.machine_spec.proofs.Sound.{proper}
+use Rattle.machine_spec.proofs.Progress.{permits, goes-on}
+use Rattle.boxes_spec.proofs.Sound.{Ticks}
+use Rattle.decision_spec.specs.Decision.{checkRecovery, isKeep}
+use Rattle.safety.specs.Run.{Period, lawOf, lawAt, Measured, Run}
+use Rattle.decision_spec.proofs.Cover.{behind, behind-ticks}
 use Rattle.safety.proofs.Acting.{law-at, law-before, law-behind}
 use Rattle.safety.proofs.Run.{Backed, Guarded, backed-guarded, ok, begins, backed-tick, at-period, guarded}
 

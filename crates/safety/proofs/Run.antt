@@ -11,17 +11,17 @@ use native.Mathlib.Omega.{arith}
 use lib.Dec.{T, T-not}
 use lib.IntN.{ℤ}
 use lib.ListN.{length, getD, replicate}
-use Rattle.layout.specs.Slots.{vars, δ, α, recoveryBox}
-use Rattle.layout.specs.Sheet.{values}
-use Rattle.layout.specs.Valid.{Valid}
-use Rattle.layout.proofs.Valid.{valid}
-use Rattle.machine.specs.Box.{In}
-use Rattle.machine.specs.Machine.{Law, baseline, command, machine, Tick}
-use Rattle.safety.specs.Decision.{checkRecovery, decide}
-use Rattle.safety.specs.Run.{Period, isKeep, kept, lawOf, lawAt, Measured, Run, SafeRuns}
-use Rattle.safety.proofs.Cover.{Covered}
+use Rattle.sheet_spec.specs.Slots.{vars, δ, α, recoveryBox}
+use Rattle.sheet_spec.specs.Sheet.{values}
+use Rattle.sheet_spec.specs.Valid.{Valid}
+use Rattle.sheet_spec.proofs.Valid.{valid}
+use Rattle.machine_spec.specs.Box.{In}
+use Rattle.machine_spec.specs.Machine.{Law, baseline, command, machine, Tick}
+use Rattle.decision_spec.specs.Decision.{checkRecovery, decide, isKeep}
+use Rattle.safety.specs.Run.{Period, kept, lawOf, lawAt, Measured, Run, SafeRuns}
+use Rattle.decision_spec.proofs.Cover.{Covered}
 use Rattle.safety.proofs.Acting.{law-at}
-use Rattle.safety.proofs.Attempt.{check-keep, decide-keep}
+use Rattle.decision_spec.proofs.Attempt.{check-keep, decide-keep}
 use Rattle.safety.proofs.Held.{Held, held-tick, held-returns, keep-held, Returning, recovered, returning, returning-tick}
 
 -- what is known of the state x in a period under the law l, of which `left` ticks are to come

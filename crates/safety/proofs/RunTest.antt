@@ -10,12 +10,12 @@ use lib.IntN.{ℤ, _-ℤ_}
 use lib.Signed.{leZ}
 use lib.ListN.{length, getD}
 use Rattle.integers.proofs.Z.{le-true}
-use Rattle.layout.specs.Slots.{_!_, vars, δ}
-use Rattle.layout.specs.Sheet.{values}
-use Rattle.machine.specs.Box.{lo, hi, In, all}
-use Rattle.machine.specs.Machine.{Law, baseline, Machine, machine, cap, rowOf, least, greatest, bandMeets, numerator, change, Tick}
-use Rattle.machine.proofs.Box.{differ, and-both, all-at}
-use Rattle.safety.specs.Question.{measured}
+use Rattle.sheet_spec.specs.Slots.{_!_, vars, δ}
+use Rattle.sheet_spec.specs.Sheet.{values}
+use Rattle.machine_spec.specs.Box.{lo, hi, In, all}
+use Rattle.machine_spec.specs.Machine.{Law, baseline, Machine, machine, cap, rowOf, least, greatest, bandMeets, numerator, change, Tick}
+use Rattle.machine_spec.proofs.Box.{differ, and-both, all-at}
+use Rattle.decision_spec.specs.Question.{measured}
 use Rattle.safety.specs.Run.{Period, kept, acting, Measured, Run}
 use Rattle.safety.proofs.Acting.{acting-length}
 

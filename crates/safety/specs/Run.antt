@@ -7,22 +7,16 @@ use Prim.Native.Nat.{ℕ, suc, _+_, _*_, _≤_, _<_}
 use lib.Dec.{T}
 use lib.IntN.{ℤ}
 use lib.ListN.{getD, length, replicate}
-use Rattle.layout.specs.Slots.{vars, boxes, δ, α, recoveryBox, unsafeBox}
-use Rattle.layout.specs.Sheet.{values}
-use Rattle.machine.specs.Box.{In}
-use Rattle.machine.specs.Machine.{Law, baseline, command, machine, Tick}
-use Rattle.safety.specs.Question.{commandOf, measured}
-use Rattle.safety.specs.Decision.{keep, finest, spent, Reply, refused, answered, decide, checkRecovery}
+use Rattle.sheet_spec.specs.Slots.{vars, boxes, δ, α, recoveryBox, unsafeBox}
+use Rattle.sheet_spec.specs.Sheet.{values}
+use Rattle.machine_spec.specs.Box.{In}
+use Rattle.machine_spec.specs.Machine.{Law, baseline, command, machine, Tick}
+use Rattle.decision_spec.specs.Question.{commandOf, measured}
+use Rattle.decision_spec.specs.Decision.{isKeep, decide, checkRecovery}
 
 -- a period has a question's bytes, or none
 abbrev pub Period : Type 0
 Period = Option (List ℕ)
-
-unfoldable pub isKeep : Reply → Bool
-isKeep (answered keep w c) = true
-isKeep (answered finest w c) = false
-isKeep (answered spent w c) = false
-isKeep (refused r) = false
 
 -- the decision on the period's question is keep
 unfoldable pub kept : List ℕ → Period → Bool

@@ -1,29 +1,29 @@
 // Reading and writing a sheet (document 01, "Sheet layout"). A sheet's value is an array of numbers at named slots (slots).
 // `read` and `write` take any input: what they answer, and what they leave in a buffer, is equal to the definitions in
-// layout/specs/Sheet.antt.
+// sheet_spec/specs/Sheet.antt.
 ghost use mathlib.Core.Path.{_≡_};
 ghost use mathlib.Core.Bool.{true, _&&_};
 ghost use lib.Dec.{leb};
 ghost use lib.ListN.{length};
-ghost use Rattle.layout.specs.Slots.{headSize};
-ghost use Rattle.layout.specs.Fields.{bad};
-ghost use Rattle.layout.specs.Sizes.{capsAt};
-ghost use Rattle.layout.specs.Layout.{head, headFields};
-ghost use Rattle.layout.specs.File.{marked};
-ghost use Rattle.layout.specs.Sheet.{zeros, headOf, contents, refusal, values};
-ghost use Rattle.layout.specs.Written.{Wrote};
-use encoding::marks;
-pub use layout::Written;
-use layout::count;
-pub use layout::refusals;
-use layout::refusals::BEGINNING;
-use layout::refusals::SIZE;
-use layout::sizes;
-pub use layout::slots;
-use layout::slots::BANDS;
-use layout::slots::BOXES;
-use layout::slots::SLOTS;
-use layout::slots::VARS;
+ghost use Rattle.sheet_spec.specs.Slots.{headSize};
+ghost use Rattle.sheet_spec.specs.Fields.{bad};
+ghost use Rattle.sheet_spec.specs.Sizes.{capsAt};
+ghost use Rattle.sheet_spec.specs.Layout.{head, headFields};
+ghost use Rattle.sheet_spec.specs.File.{marked};
+ghost use Rattle.sheet_spec.specs.Sheet.{zeros, headOf, contents, refusal, values};
+ghost use Rattle.sheet_spec.specs.Written.{Wrote};
+use sheet_encoding::count;
+use sheet_encoding::marks;
+pub use sheet_spec::Written;
+pub use sheet_spec::refusals;
+use sheet_spec::refusals::BEGINNING;
+use sheet_spec::refusals::SIZE;
+use sheet_spec::sizes;
+pub use sheet_spec::slots;
+use sheet_spec::slots::BANDS;
+use sheet_spec::slots::BOXES;
+use sheet_spec::slots::SLOTS;
+use sheet_spec::slots::VARS;
 
 // A refusal, or 0 and a sheet's numbers.
 pub struct Parsed {
@@ -49,8 +49,8 @@ fn read_rest(f: &[u8], v: &mut [i32; SLOTS]) -> u8
     if f.len() != marks::file_length(n, bands, boxes) {
         return SIZE;
     }
-    reader::read_records(f, n, bands, boxes, v);
-    reader::bad_file(f, n, bands, boxes, v)
+    sheet_reader::read_records(f, n, bands, boxes, v);
+    sheet_reader::bad_file(f, n, bands, boxes, v)
 }
 
 fn read_cleared(f: &[u8], v: &mut [i32; SLOTS]) -> u8
@@ -64,8 +64,8 @@ fn read_cleared(f: &[u8], v: &mut [i32; SLOTS]) -> u8
     if !right {
         return BEGINNING;
     }
-    reader::read_head(f, v);
-    let x = validation::bad_head(v);
+    sheet_reader::read_head(f, v);
+    let x = sheet_validation::bad_head(v);
     if x != 0 {
         return x;
     }
@@ -114,12 +114,12 @@ pub extern "C" fn sheet_read(f: &[u8], v: &mut [i32; SLOTS]) -> u8
 pub fn write(v: &[i32; SLOTS], buffer: &mut [u8], place: usize) -> Written
     ensures { λ r. ⌜ Wrote (now (v .entry)) (now (buffer .entry)) place (r .refusal) (r .length) (now (buffer .exit)) ⌝ }
 {
-    let x = writer::bad_sheet(v);
+    let x = sheet_writer::bad_sheet(v);
     if x != 0 {
         return Written {
             refusal: x,
             length: 0,
         };
     }
-    writer::write_valid(v, buffer, place)
+    sheet_writer::write_valid(v, buffer, place)
 }

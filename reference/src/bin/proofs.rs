@@ -143,11 +143,11 @@ use mathlib.Core.Path.{_≡_, refl}
 use mathlib.Core.List.{List, [], _∷_}
 use Prim.Native.Nat.{ℕ}
 use lib.IntN.{ℤ, pos, negsuc}
-use Rattle.layout.specs.Sheet.{values}
-use Rattle.layout.proofs.Everything as sheet
-use Rattle.machine.specs.Machine.{baseline, command}
-use Rattle.lifting.specs.Reach.{Answer, refused, reachOf}
-use Rattle.lifting.proofs.Everything.{everything}
+use Rattle.sheet_spec.specs.Sheet.{values}
+use Rattle.sheet_spec.proofs.Everything as sheet
+use Rattle.machine_spec.specs.Machine.{baseline, command}
+use Rattle.boxes_spec.specs.Reach.{Answer, refused, reachOf}
+use Rattle.boxes_spec.proofs.Everything.{everything}
 
 abbrev answered : List ℤ → List ℤ → ℕ → Answer
 answered E W c = record { refusal = 0; end = E; swept = W; rounds = c }
@@ -157,8 +157,8 @@ const SAFETY: &str = "\
 use mathlib.Core.Path.{_≡_, refl}
 use mathlib.Core.List.{List, [], _∷_}
 use Prim.Native.Nat.{ℕ}
-use Rattle.safety.specs.Decision.{keep, finest, spent, refused, answered, decide, checkRecovery}
-use Rattle.safety.proofs.Everything.{everything}
+use Rattle.decision_spec.specs.Decision.{keep, finest, spent, refused, answered, decide, checkRecovery}
+use Rattle.decision_spec.proofs.Everything.{everything}
 ";
 
 fn print(examples: &[Example], header: &str, row: impl Fn(&Example, usize) -> (String, String), opened: &str) {

@@ -3,11 +3,11 @@ use mathlib.Core.Path.{sym, ap, _∙_, subst}
 use mathlib.Core.List.{List}
 use lib.IntN.{ℤ}
 use mir.Facts.{toZ-ofZ}
-use Rattle.layout.specs.Valid.{Valid}
-use Rattle.layout.proofs.Valid.{valid}
-use Rattle.rates.specs.Plant.{lawOf}
-use Rattle.lifting.specs.Reach.{reachOf, reachFile}
-use Rattle.lifting.proofs.Refusals.{if-refused, if-accepted}
+use Rattle.sheet_spec.specs.Valid.{Valid}
+use Rattle.sheet_spec.proofs.Valid.{valid}
+use Rattle.machine_spec.specs.Machine.{lawOf}
+use Rattle.boxes_spec.specs.Reach.{reachOf, reachFile}
+use Rattle.boxes_spec.proofs.Refusals.{if-refused, if-accepted}
 use Rattle.boxes.proofs.reach.Statement.{statement}
 use Rattle.boxes.proofs.reach.Tie as tie
 

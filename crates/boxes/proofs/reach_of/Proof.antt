@@ -6,13 +6,13 @@ use lib.IntN.{ℤ}
 use mir.Facts.{toZ-ofZ}
 use borrow.Author.Needs.{needs}
 use denote.Enum.Declared.{tagOf}
-use Rattle.machine.specs.Machine.{Law, Machine, machine}
-use Rattle.rates.specs.Plant.{Usable, lawOf, machineOf}
-use Rattle.machine.proofs.InPlace.{trim-trim, trim-as}
-use Rattle.rates.proofs.Rates.{usable}
-use Rattle.rates.proofs.Sides.{wider}
-use Rattle.boxes.proofs.CodeReach.{Refusal, reach-refused, walkable, reach-ended, reach-failed}
-use Rattle.walk.proofs.Walked.{the-type}
+use Rattle.machine_spec.specs.Machine.{Law, Machine, machine, lawOf}
+use Rattle.boxes_rates.specs.Plant.{Usable, machineOf}
+use Rattle.machine_spec.proofs.InPlace.{trim-trim, trim-as}
+use Rattle.boxes_rates.proofs.Rates.{usable}
+use Rattle.boxes_rates.proofs.Bounds.{wider}
+use Rattle.boxes.proofs.Answer.{Refusal, reach-refused, walkable, reach-ended, reach-failed}
+use Rattle.boxes.proofs.steps.Walked.{the-type}
 use Rattle.boxes.proofs.reach_of.Statement.{statement}
 use Rattle.boxes.proofs.reach_of.Tie as tie
 

@@ -2,16 +2,16 @@
 use mathlib.Core.Path.{_≡_, sym, ap, _∙_, subst}
 use Prim.Native.Nat.{ℕ}
 use native.Mathlib.Omega.{arith}
-use Rattle.layout.specs.Slots.{vars, recoveryBox}
-use Rattle.machine.specs.Box.{trim}
-use Rattle.arithmetic.specs.Limits.{Sides}
-use Rattle.machine.proofs.InPlace.{trim-as}
-use Rattle.safety.specs.Decision.{recoveryOf}
-use Rattle.answers.specs.Code.{decided}
-use Rattle.attempts.specs.Code.{startLimit}
-use Rattle.safety.proofs.Allowance.{recoveryOf-unspent}
-use Rattle.decision.proofs.CodeAnswers.{trial-checks}
-use Rattle.decision.proofs.CodeRecovery.{recovery-near}
+use Rattle.sheet_spec.specs.Slots.{vars, recoveryBox}
+use Rattle.machine_spec.specs.Box.{trim}
+use Rattle.boxes_arithmetic.specs.Limits.{Sides}
+use Rattle.machine_spec.proofs.InPlace.{trim-as}
+use Rattle.decision_spec.specs.Decision.{recoveryOf}
+use Rattle.decision_answers.specs.Decision.{decided}
+use Rattle.decision.specs.Limits.{startLimit}
+use Rattle.decision_spec.proofs.Allowance.{recoveryOf-unspent}
+use Rattle.decision.proofs.Answer.{trial-checks}
+use Rattle.decision.proofs.RecoveryBox.{recovery-near}
 use Rattle.decision.proofs.check_on.Statement.{statement}
 use Rattle.decision.proofs.check_on.Tie as tie
 

@@ -3,14 +3,14 @@ use mathlib.Core.Path.{_≡_, sym, ap, _∙_, subst}
 use mathlib.Core.List.{List}
 use lib.IntN.{ℤ}
 use borrow.Author.Needs.{needs}
-use Rattle.layout.specs.Slots.{vars, recoveryBox}
-use Rattle.layout.specs.Valid.{Valid}
-use Rattle.layout.proofs.Valid.{valid}
-use Rattle.machine.specs.Box.{trim}
-use Rattle.safety.specs.Decision.{recoveryOf, checkRecovery}
-use Rattle.answers.specs.Code.{checked}
-use Rattle.decision.proofs.CodeAnswers.{unless-refused, unless-passed}
-use Rattle.decision.proofs.CodeRecovery.{recovery-trimmed}
+use Rattle.sheet_spec.specs.Slots.{vars, recoveryBox}
+use Rattle.sheet_spec.specs.Valid.{Valid}
+use Rattle.sheet_spec.proofs.Valid.{valid}
+use Rattle.machine_spec.specs.Box.{trim}
+use Rattle.decision_spec.specs.Decision.{recoveryOf, checkRecovery}
+use Rattle.decision_answers.specs.Recovery.{checked}
+use Rattle.decision.proofs.Answer.{unless-refused, unless-passed}
+use Rattle.decision.proofs.RecoveryBox.{recovery-trimmed}
 use Rattle.decision.proofs.check_recovery.Statement.{statement}
 use Rattle.decision.proofs.check_recovery.Tie as tie
 

@@ -3,13 +3,12 @@ use mathlib.Core.Path.{sym, ap, _∙_, subst}
 use mathlib.Core.List.{List}
 use lib.IntN.{ℤ}
 use borrow.Author.Needs.{needs}
-use Rattle.layout.specs.Valid.{Valid}
-use Rattle.layout.proofs.Valid.{valid}
-use Rattle.safety.specs.Decision.{decide}
-use Rattle.answers.specs.Code.{decided}
-use Rattle.decision.specs.Code.{decisionOn}
-use Rattle.safety.proofs.Allowance.{answer-allowed}
-use Rattle.decision.proofs.CodeAnswers.{unless-refused, unless-passed}
+use Rattle.sheet_spec.specs.Valid.{Valid}
+use Rattle.sheet_spec.proofs.Valid.{valid}
+use Rattle.decision_spec.specs.Decision.{decide, decisionOn}
+use Rattle.decision_answers.specs.Decision.{decided}
+use Rattle.decision_spec.proofs.Allowance.{answer-allowed}
+use Rattle.decision.proofs.Answer.{unless-refused, unless-passed}
 use Rattle.decision.proofs.decide.Statement.{statement}
 use Rattle.decision.proofs.decide.Tie as tie
 

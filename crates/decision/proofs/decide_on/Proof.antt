@@ -9,14 +9,14 @@ use mir.Facts.{toZ-ofZ}
 use mir.Syntax.{w32}
 use mir.Val.{SFits}
 use borrow.Author.Needs.{needs}
-use Rattle.layout.specs.Slots.{N, vars}
-use Rattle.arithmetic.specs.Limits.{Sides}
-use Rattle.machine.proofs.InPlace.{trim-as}
-use Rattle.safety.specs.Question.{questionLength, measured, questionRefusal}
-use Rattle.answers.specs.Code.{decided}
-use Rattle.attempts.specs.Code.{startLimit}
-use Rattle.question.proofs.CodeQuestion.{asked-length, measured-near, measured-trimmed}
-use Rattle.decision.proofs.CodeAnswers.{unless-refused, unless-passed, trial-decides}
+use Rattle.sheet_spec.specs.Slots.{N, vars}
+use Rattle.boxes_arithmetic.specs.Limits.{Sides}
+use Rattle.machine_spec.proofs.InPlace.{trim-as}
+use Rattle.decision_spec.specs.Question.{questionLength, measured, questionRefusal}
+use Rattle.decision_answers.specs.Decision.{decided}
+use Rattle.decision.specs.Limits.{startLimit}
+use Rattle.decision_question.proofs.Refusals.{asked-length, measured-near, measured-trimmed}
+use Rattle.decision.proofs.Answer.{unless-refused, unless-passed, trial-decides}
 use Rattle.decision.proofs.decide_on.Statement.{statement}
 use Rattle.decision.proofs.decide_on.Tie as tie
 

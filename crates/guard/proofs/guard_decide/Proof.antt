@@ -2,9 +2,9 @@
 use mathlib.Core.Path.{sym, ap, _∙_, subst}
 use Prim.Native.Nat.{_≤_}
 use borrow.Author.Needs.{needs}
-use Rattle.safety.specs.Decision.{Reply, widthOf, packed}
-use Rattle.safety.proofs.Allowance.{decide-answer}
-use Rattle.guard.specs.Calls.{decideCall}
+use Rattle.decision_spec.specs.Decision.{Reply, widthOf, packed}
+use Rattle.decision_spec.proofs.Allowance.{decide-answer}
+use Rattle.decision_spec.specs.Calls.{decideCall}
 use Rattle.guard.proofs.guard_decide.Statement.{statement}
 use Rattle.guard.proofs.guard_decide.Tie as tie
 

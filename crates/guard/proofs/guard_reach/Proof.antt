@@ -3,7 +3,7 @@ use mathlib.Core.Path.{ap, _∙_}
 use lib.IntN.{ℤ}
 use mir.Facts.{toZ-ofZ}
 use borrow.Author.Needs.{needs}
-use Rattle.reach_call.specs.ReachCall.{reachCall, reachOut}
+use Rattle.decision_spec.specs.ReachCall.{reachCall, reachOut}
 use Rattle.guard.proofs.guard_reach.Statement.{statement}
 use Rattle.guard.proofs.guard_reach.Tie as tie
 

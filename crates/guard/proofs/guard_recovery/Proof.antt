@@ -2,10 +2,10 @@
 use mathlib.Core.Path.{_≡_, sym, ap, _∙_, subst}
 use Prim.Native.Nat.{_≤_}
 use borrow.Author.Needs.{needs}
-use Rattle.safety.specs.Decision.{Reply, widthOf, packed, checkRecovery}
-use Rattle.answers.specs.Code.{decided}
-use Rattle.safety.proofs.Allowance.{check-answer}
-use Rattle.guard.specs.Calls.{recoveryCall}
+use Rattle.decision_spec.specs.Decision.{Reply, widthOf, packed, checkRecovery}
+use Rattle.decision_answers.specs.Decision.{decided}
+use Rattle.decision_spec.proofs.Allowance.{check-answer}
+use Rattle.decision_spec.specs.Calls.{recoveryCall}
 use Rattle.guard.proofs.guard_recovery.Statement.{statement}
 use Rattle.guard.proofs.guard_recovery.Tie as tie
 

@@ -1,8 +1,8 @@
 -- `guard_sheet` answers 0 or the refusal. Assumes nothing.
 use mathlib.Core.Path.{sym, _∙_}
 use borrow.Author.Needs.{needs}
-use Rattle.guard.specs.Calls.{sheetCall}
-use Rattle.answers.proofs.Ways.{or-refused, or-answered}
+use Rattle.decision_spec.specs.Calls.{sheetCall}
+use Rattle.decision_spec.proofs.Calls.{or-refused, or-answered}
 use Rattle.guard.proofs.guard_sheet.Statement.{statement}
 use Rattle.guard.proofs.guard_sheet.Tie as tie
 

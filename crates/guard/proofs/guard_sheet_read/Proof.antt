@@ -5,10 +5,10 @@ use native.Mathlib.Omega.{arith}
 use lib.IntN.{ℤ}
 use lib.Seq.{sets}
 use borrow.Author.Needs.{needs}
-use Rattle.layout.specs.Slots.{slots}
-use Rattle.numbers.specs.Numbers.{numberBytes, numbersSize}
-use Rattle.guard.specs.Calls.{readRefusal, readCall, readOut}
-use Rattle.answers.proofs.Ways.{or-refused, or-answered, or-unchanged, or-written, room-stop, room-short, room-enough}
+use Rattle.sheet_spec.specs.Slots.{slots}
+use Rattle.decision_spec.specs.Numbers.{numberBytes, numbersSize}
+use Rattle.decision_spec.specs.Calls.{readRefusal, readCall, readOut}
+use Rattle.decision_spec.proofs.Calls.{or-refused, or-answered, or-unchanged, or-written, room-stop, room-short, room-enough}
 use Rattle.guard.proofs.guard_sheet_read.Statement.{statement}
 use Rattle.guard.proofs.guard_sheet_read.Tie as tie
 

@@ -4,11 +4,11 @@ use mathlib.Core.List.{List}
 use Prim.Native.Nat.{ℕ}
 use lib.IntN.{ℤ}
 use borrow.Author.Needs.{needs}
-use Rattle.layout.specs.Sheet.{zeros, length-of, writeRefusal}
-use Rattle.layout.specs.Written.{writtenLength, Wrote}
-use Rattle.numbers.specs.Numbers.{sheetIn}
-use Rattle.guard.specs.Calls.{writeCall, writeOut}
-use Rattle.answers.proofs.Ways.{or-refused, or-answered}
+use Rattle.sheet_spec.specs.Sheet.{zeros, length-of, writeRefusal}
+use Rattle.sheet_spec.specs.Written.{writtenLength, Wrote}
+use Rattle.decision_spec.specs.Numbers.{sheetIn}
+use Rattle.decision_spec.specs.Calls.{writeCall, writeOut}
+use Rattle.decision_spec.proofs.Calls.{or-refused, or-answered}
 use Rattle.guard.proofs.guard_sheet_write.Statement.{statement}
 use Rattle.guard.proofs.guard_sheet_write.Tie as tie
 

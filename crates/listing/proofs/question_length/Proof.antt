@@ -3,8 +3,8 @@ use mathlib.Core.Path.{_≡_, _∙_, sym, subst, ap}
 use Prim.Native.Nat.{_≤_}
 use native.Mathlib.Omega.{arith}
 use borrow.Author.Needs.{needs}
-use Rattle.layout.specs.Slots.{N, vars}
-use Rattle.layout.specs.Sheet.{values}
+use Rattle.sheet_spec.specs.Slots.{N, vars}
+use Rattle.sheet_spec.specs.Sheet.{values}
 use Rattle.listing.proofs.Vars.{Counted, counted}
 use Rattle.listing.proofs.question_length.Statement.{statement}
 use Rattle.listing.proofs.question_length.Tie as tie

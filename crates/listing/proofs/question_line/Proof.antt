@@ -1,6 +1,6 @@
 -- `question_line` is the line over the decision. Assumes nothing.
 use borrow.Author.Needs.{needs}
-use Rattle.safety.specs.Listing.{questionLine}
+use Rattle.decision_spec.specs.Listing.{questionLine}
 use Rattle.listing.proofs.question_line.Statement.{statement}
 use Rattle.listing.proofs.question_line.Tie as tie
 

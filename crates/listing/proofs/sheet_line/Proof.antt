@@ -1,8 +1,8 @@
 -- `sheet_line` is the line over the recovery check's answer. Assumes nothing.
 use mathlib.Core.Path.{ap, _∙_}
 use borrow.Author.Needs.{needs}
-use Rattle.safety.specs.Run.{isKeep}
-use Rattle.safety.specs.Listing.{sheetLine}
+use Rattle.decision_spec.specs.Decision.{isKeep}
+use Rattle.decision_spec.specs.Listing.{sheetLine}
 use Rattle.listing.proofs.sheet_line.Statement.{statement}
 use Rattle.listing.proofs.sheet_line.Tie as tie
 

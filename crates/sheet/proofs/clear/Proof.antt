@@ -1,6 +1,6 @@
 -- `clear`: zeros everywhere. Assumes nothing.
 use mathlib.Core.Path.{refl}
-use Rattle.layout.specs.Sheet.{zeros}
+use Rattle.sheet_spec.specs.Sheet.{zeros}
 use Rattle.sheet.proofs.clear.Statement.{statement}
 use Rattle.sheet.proofs.clear.Tie as tie
 

@@ -8,16 +8,15 @@ use lib.IntN.{ℤ}
 use lib.ListN.{length}
 use borrow.Author.Needs.{needs}
 use borrow.Author.Tests.{not-false, not-true}
-use Rattle.layout.proofs.Answers.{refused-head}
-use Rattle.layout.proofs.CodeFile.{mark-is}
-use Rattle.layout.proofs.CodeRead.{begins, begins-short, begins-wrong}
-use Rattle.layout.specs.Fields.{bad, filled}
-use Rattle.layout.specs.File.{marked, recordAt, start}
-use Rattle.layout.specs.Layout.{_▸_, head, headFields}
-use Rattle.layout.specs.Sheet.{headOf}
-use Rattle.layout.specs.Slots.{headSize}
-use Rattle.layout.specs.Steps.{sized}
-use Rattle.layout.specs.Sizes.{letters, capsAt}
+use Rattle.sheet_spec.proofs.Answers.{refused-head}
+use Rattle.sheet_encoding.proofs.RecordTurn.{mark-is}
+use Rattle.sheet_encoding.proofs.ReaderAnswer.{begins, begins-short, begins-wrong}
+use Rattle.sheet_spec.specs.Fields.{bad, filled}
+use Rattle.sheet_spec.specs.File.{marked, recordAt, start, sized}
+use Rattle.sheet_spec.specs.Layout.{_▸_, head, headFields}
+use Rattle.sheet_spec.specs.Sheet.{headOf}
+use Rattle.sheet_spec.specs.Slots.{headSize}
+use Rattle.sheet_spec.specs.Sizes.{letters, capsAt}
 use Rattle.sheet.proofs.read_cleared.Statement.{statement}
 use Rattle.sheet.proofs.read_cleared.Tie as tie
 

@@ -1,8 +1,8 @@
 -- `read_into`: the numbers, or zeros where the file is refused. Assumes nothing.
 use mathlib.Core.Path.{_∙_, sym}
 use borrow.Author.Needs.{needs}
-use Rattle.layout.proofs.Accepted.{accepted}
-use Rattle.layout.proofs.Valid.{values-zero}
+use Rattle.sheet_spec.proofs.Accepted.{accepted}
+use Rattle.sheet_spec.proofs.Valid.{values-zero}
 use Rattle.sheet.proofs.read_into.Statement.{statement}
 use Rattle.sheet.proofs.read_into.Tie as tie
 

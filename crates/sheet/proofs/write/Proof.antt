@@ -1,5 +1,5 @@
 -- `write`: the tests of the values, and then the writing. Assumes nothing.
-use Rattle.writer.proofs.CodeWrite.{wrote-bad}
+use Rattle.sheet_writer.proofs.FileTurn.{wrote-bad}
 use borrow.Author.Needs.{needs}
 use Rattle.sheet.proofs.write.Statement.{statement}
 use Rattle.sheet.proofs.write.Tie as tie

@@ -1,0 +1,31 @@
+-- `plant` has the sheet's machine: the counts of an accepted sheet are not negative. Assumes nothing.
+use mathlib.Core.List.{List}
+use Prim.Native.Nat.{ℕ, _<_}
+use native.Mathlib.Omega.{arith}
+use lib.Dec.{T}
+use lib.IntN.{ℤ, natAbs}
+use lib.Signed.{nonNeg, yes-nonNeg}
+use mir.Facts.{toZ-ofZ, fits-natAbs}
+use mir.Syntax.{w32, w64}
+use mir.Val.{Fits, toZ, ofZ}
+use borrow.Author.Needs.{needs}
+use Rattle.sheet_spec.specs.Slots.{_!_}
+use Rattle.sheet_spec.specs.Valid.{Valid}
+use Rattle.boxes.proofs.steps.plant.Statement.{statement}
+use Rattle.boxes.proofs.steps.plant.Tie as tie
+
+-- a number of the head as a count
+counts : {v : List ℤ} → Valid v → (i : ℕ) → i < 7 → T (nonNeg (toZ w32 (ofZ w32 (v ! i)))) × Fits w64 (natAbs (toZ w32 (ofZ w32 (v ! i))))
+counts ok i h = let f = ok .fits i in rw (toZ-ofZ f) (yes-nonNeg (ok .head i h), fits-natAbs tt f)
+
+pub plant-spec : {M : Type 1} → statement M
+plant-spec =
+    tie.close
+    (tie.spec
+    (λ c. search needs)
+    (λ c. counts (c .before .pre) 0 (omega arith))
+    (λ c. search needs)
+    (λ c. counts (c .before .before .pre) 1 (omega arith))
+    (λ c. search needs)
+    (λ c. counts (c .before .before .before .pre) 3 (omega arith))
+    (λ c. search needs))

@@ -1,0 +1,4 @@
+pub mod Cut
+pub mod Rates
+pub mod Bounds
+mod RowNumbers

@@ -1,0 +1,14 @@
+// The rate at which each face of a box moves (document 01, "One lifted step"), over the rows of the sheet that `row` bounds. A
+// machine is a `Plant` beside the sheet's value, which is lent; a box is lent too. The definitions are in
+// machine_spec/specs/Machine and machine_spec/specs/Rate.
+pub mod rate;
+pub mod row;
+
+// A sheet's machine under a law: the baseline, or else the one command.
+pub struct Plant {
+    pub n: usize,
+    pub bands: usize,
+    pub var: usize,
+    pub baseline: bool,
+    pub command: i32,
+}

@@ -1,0 +1,104 @@
+// Why a reach is refused (document 01, "Refused calls"): 16 its ticks or its width, 14 its command, 15 its start box. A question
+// is refused for the last two as well, with the same numbers. The definitions are in boxes_spec/specs/Reach; the sheet's own
+// refusals are in `sheet_spec`.
+ghost use mathlib.Core.Path.{_≡_};
+ghost use mathlib.Core.Bool.{_&&_};
+ghost use Prim.Native.Nat.{_≤_};
+ghost use lib.IntN.{pos, negℤ};
+ghost use lib.Signed.{leZ};
+ghost use Rattle.sheet_spec.specs.Slots as slots;
+ghost use Rattle.machine_spec.specs.Machine.{lawOf};
+ghost use Rattle.boxes_spec.specs.Reach.{lawRefusal, reachRefusal, sidesRefusal, ticksRefusal};
+use sheet_spec::slots::BOX_SIZE;
+use sheet_spec::slots::GREATEST;
+use sheet_spec::slots::LEAST;
+use sheet_spec::slots::N;
+use sheet_spec::slots::SLOTS;
+
+// The numbers, as sheet's own refusals have theirs.
+pub const COMMAND: u8 = 14;
+
+pub const SIDES: u8 = 15;
+
+pub const TICKS: u8 = 16;
+
+fn ticks_refusal(ticks: u32, width: u32) -> u8
+    ensures { λ r. ⌜ r ≡ ticksRefusal ticks width ⌝ }
+{
+    if 1000 < ticks {
+        return TICKS;
+    }
+    if width < 1 {
+        return TICKS;
+    }
+    if 1000 < width {
+        return TICKS;
+    }
+    0
+}
+
+pub fn law_refusal(sheet: &[i32; SLOTS], baseline: bool, command: i32) -> u8
+    ensures { λ r. ⌜ r ≡ lawRefusal (now (sheet .entry)) (lawOf baseline command) ⌝ }
+{
+    if baseline {
+        return 0;
+    }
+    if command < sheet[LEAST] {
+        return COMMAND;
+    }
+    if sheet[GREATEST] < command {
+        return COMMAND;
+    }
+    0
+}
+
+fn in_range(l: i64, h: i64) -> bool
+    ensures { λ r. ⌜ r ≡ (leZ (negℤ (pos 1000000)) l && leZ l h && leZ h (pos 1000000)) ⌝ }
+{
+    if l < -1000000 {
+        return false;
+    }
+    if h < l {
+        return false;
+    }
+    h <= 1000000
+}
+
+pub fn sides_refusal(n: usize, b: &[i64; BOX_SIZE]) -> u8
+    requires { ⌜ n ≤ slots.N ⌝ }
+    ensures { λ r. ⌜ r ≡ sidesRefusal n (now (b .entry)) ⌝ }
+{
+    let mut i: usize = 0;
+    while i < n {
+        let h = i + N;
+        if !in_range(b[i], b[h]) {
+            return SIDES;
+        }
+        i += 1;
+    }
+    0
+}
+
+// The first of them, for a sheet of n variables.
+pub fn reach_refusal(
+    n: usize,
+    sheet: &[i32; SLOTS],
+    ticks: u32,
+    width: u32,
+    baseline: bool,
+    command: i32,
+    start: &[i64; BOX_SIZE],
+) -> u8
+    requires { ⌜ (n ≡ slots.vars (now sheet)) × (n ≤ slots.N) ⌝ }
+    ensures { λ r. ⌜ r ≡ reachRefusal (now (sheet .entry)) ticks width (lawOf baseline command) (now (start .entry)) ⌝ }
+{
+    let a = ticks_refusal(ticks, width);
+    if a != 0 {
+        return a;
+    }
+    let b = law_refusal(sheet, baseline, command);
+    if b != 0 {
+        return b;
+    }
+    sides_refusal(n, start)
+}

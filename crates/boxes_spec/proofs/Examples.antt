@@ -1,0 +1,55 @@
+-- The definitions compute: reaches and a step on document 01's sheet A. Assumes nothing.
+use mathlib.Core.Path.{_≡_, refl}
+use mathlib.Core.Bool.{false}
+use mathlib.Core.List.{List, _∷_, _++_}
+use Prim.Native.Nat.{ℕ, _-_}
+use lib.IntN.{ℤ, pos}
+use lib.ListN.{replicate}
+use Rattle.sheet_spec.specs.Slots.{N}
+use Rattle.sheet_spec.specs.Sheet.{values}
+use Rattle.sheet_spec.specs.SheetA.{fileA}
+use Rattle.machine_spec.specs.Machine.{Law, baseline, command, machine}
+use Rattle.boxes_spec.specs.Step.{Got, Step, got, failed, unsafe}
+use Rattle.boxes_spec.specs.Reach.{Reached, leg, reach, clear, Answer, refused, reachFile}
+use Rattle.boxes_spec.proofs.Everything.{everything}
+
+-- a box of one variable
+box : ℤ → ℤ → List ℤ
+box l h = (l ∷ replicate (N - 1) (pos 0)) ++ (h ∷ replicate (N - 1) (pos 0))
+
+-- four ticks at width 4 after c rounds, and a step of width 1
+four : Law → List ℤ → ℕ → Got Reached
+four l S c = reach false 0 (machine (values fileA) l) (clear 1 (values fileA) 1) 4 S 4 c
+
+one : Law → List ℤ → Got Step
+one l S = leg false 0 (machine (values fileA) l) (clear 1 (values fileA) 1) 1 S 4 0
+
+after-δ : four (command (pos 25)) (box (pos 0) (pos 0)) 0 ≡ got (record { end = box (pos 16) (pos 20); swept = box (pos 0) (pos 20) }) 2
+unfolding everything box four
+after-δ = refl
+
+after-α : four baseline (box (pos 16) (pos 20)) 2 ≡ got (record { end = box (pos 12) (pos 20); swept = box (pos 12) (pos 20) }) 4
+unfolding everything box four
+after-α = refl
+
+-- here the rates hang on where the box is at the last tick but one, and not at the last
+under-24 : four (command (pos 24)) (box (pos 0) (pos 0)) 0 ≡ got (record { end = box (pos 16) (pos 20); swept = box (pos 0) (pos 20) }) 2
+unfolding everything box four
+under-24 = refl
+
+-- a step from 131 ends clear of the no-go box from 130, and its swept box is not clear
+from-131 : one baseline (box (pos 131) (pos 131)) ≡ failed (unsafe 4 (box (pos 126) (pos 131))) 1
+unfolding everything box one
+from-131 = refl
+
+-- the public reach: no ticks, and the order of the refusals
+answers : Law → ℕ → List ℤ → Answer
+answers l w S = reachFile fileA 0 w l S
+
+no-ticks : answers baseline 1 (box (pos 5) (pos 7)) ≡ record { refusal = 0; end = box (pos 5) (pos 7); swept = box (pos 5) (pos 7); rounds = 0 }
+unfolding everything box answers
+no-ticks = refl
+
+refusals : (answers (command (pos 26)) 0 (box (pos 1) (pos 0)) ≡ refused 16) × (answers (command (pos 26)) 1 (box (pos 1) (pos 0)) ≡ refused 14) × (answers baseline 1 (box (pos 1) (pos 0)) ≡ refused 15)
+unfolding everything box answers
+refusals = (refl, refl, refl)

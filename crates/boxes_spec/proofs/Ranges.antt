@@ -1,0 +1,166 @@
+-- How far the numbers of a reach go: sides, neighborhoods and the rows' numbers, at every step of a walk; and no box on the way is
+-- reversed. Assumes nothing.
+use mathlib.Core.Path.{_≡_, subst}
+use mathlib.Core.Bool.{Bool, true, false, _&&_}
+use mathlib.Core.List.{List}
+use Prim.Native.Nat.{ℕ, _+_, _*_, _-_, _≤_, _<_}
+use native.Mathlib.Omega.{arith}
+use lib.IntN.{ℤ, pos, negℤ, _+ℤ_, _-ℤ_, _*ℤ_}
+use lib.Signed.{leZ, _≤ℤ_}
+use Rattle.integers.specs.Bound.{Bound}
+use Rattle.integers.proofs.Z.{ints, le-true, bound-sum, bound-sub, bound-less, bound-in}
+use Rattle.sheet_spec.specs.Slots.{N, vars, edge, leastCommand, greatestCommand, recoverySlot, recoveryBox}
+use Rattle.machine_spec.specs.Box.{lo, hi, hull}
+use Rattle.sheet_spec.specs.Valid.{Valid}
+use Rattle.machine_spec.specs.Machine.{Law, baseline, command, Machine, machine, cap, rowOf, least, greatest}
+use Rattle.machine_spec.specs.Rate.{bound, part, neighborhood}
+use Rattle.machine_spec.proofs.Box.{and-both, all-at, box-lo, box-hi}
+use Rattle.machine_spec.proofs.Inside.{side, Ordered}
+use Rattle.machine_spec.proofs.Neighborhood.{inward, neighborhood-part}
+use Rattle.machine_spec.proofs.Sound.{Proper, proper}
+use Rattle.machine_spec.proofs.Progress.{Permits, permits}
+use Rattle.machine_spec.proofs.Ranges.{Near, near-less, near-part, hull-near, moved-near, Ranged, Lawful, ranged, rates-near, limit-near, row-near}
+use Rattle.boxes_spec.specs.Step.{lifted, grown, endBox, Step}
+use Rattle.boxes_spec.specs.Reach.{lawRefusal, sidesRefusal}
+use Rattle.boxes_spec.proofs.Settled.{Working, starts, grows, Settled, Place, start, Walks, here, next, walks-less}
+use Rattle.boxes_spec.proofs.Count.{cond-zero}
+use Rattle.boxes_spec.proofs.Order.{working-holds, face-ordered, end-ordered}
+
+-- ---- a step of length k from S, whose sides are at most b
+
+module _ {m : Machine} (ok : Proper m) (r : Ranged m) {S : List ℤ} (k : ℕ) {b : ℕ} (s : Near (m .n) b S) where
+  pub end-near : (E : List ℤ) → Near (m .n) (b + k * 1000) (endBox m S k E)
+  unfolding endBox
+  end-near E = moved-near (ok .room) k s (rates-near ok r S k E)
+
+  pub lifted-near : (E : List ℤ) → Near (m .n) (b + (k - 1) * 1000) (lifted m S k E)
+  unfolding lifted
+  lifted-near E = hull-near (ok .room) (near-less (omega arith) s) (moved-near (ok .room) (k - 1) s (rates-near ok r S k E))
+
+  pub working-near : {E : List ℤ} → Working m S k E → Near (m .n) (b + (k - 1) * 1000) E
+  unfolding grown
+  working-near starts = near-less (omega arith) s
+  working-near (grows {E = E} w) = hull-near (ok .room) (working-near w) (lifted-near E)
+
+-- ---- a walk
+
+-- a box that is not empty, and whose sides are at most b
+pub record Sized (n b : ℕ) (B : List ℤ) : Type 0 where
+  pub near : Near n b B
+  pub ordered : Ordered n B
+
+-- an accepted sheet's machine
+pub record Accepted (m : Machine) : Type 0 where
+  pub vars : m .n ≤ 4
+  pub proper : Proper m
+  pub permits : Permits m
+  pub ranged : Ranged m
+  pub bands : 0 < m .bands
+  pub first : edge (m .sheet) 0 ≡ negℤ (pos 2000000)
+
+pub accepted : {v : List ℤ} (l : Law) → Valid v → Lawful v l → Accepted (machine v l)
+accepted l ok t = record { vars = ok .vars-high; proper = proper l ok; permits = permits l ok; ranged = ranged ok l t; bands = ok .bands-low; first = ok .first-edge }
+
+module _ {m : Machine} (ok : Accepted m) where
+  above-first : {b : ℕ} (E : List ℤ) → Near (m .n) b E → b ≤ 2000000 → edge (m .sheet) 0 ≤ℤ lo E (m .var)
+  above-first E e h = omega (ints, ok .first, e .at false (m .var) (ok .proper .var) .at-most)
+
+  -- behind a step
+  settled-sized : {S : List ℤ} {k b : ℕ} {t : Step} → Sized (m .n) b S → b + k * 1000 ≤ 2000000 → Settled m S k t → Sized (m .n) (b + t .ticks * 1000) (t .end)
+  settled-sized {S} {k} {b} {t} s h e = rw (e .end) (record {
+    near = end-near (ok .proper) (ok .ranged) (t .ticks) (s .near) (e .E);
+    ordered = end-ordered (ok .proper) (ok .permits) (ok .bands) S (t .ticks) (s .ordered) (working-holds (ok .proper .room) (e .working))
+        (above-first (e .E) (working-near (ok .proper) (ok .ranged) (t .ticks) (s .near) (e .working)) (omega (arith, e .most, e .some)));
+  })
+
+  -- NEVER REVERSED, and b grows by 1,000 with each tick, wherever a walk stands
+  pub walks-sized : {clear : List ℤ → Bool} {w b : ℕ} {p q : Place} → Walks m clear w q p → Sized (m .n) b (p .box) → b + p .left * 1000 ≤ 2000000
+      → Sized (m .n) (b + (p .left - q .left) * 1000) (q .box)
+  walks-sized {b} {q} here s h = let e : b ≡ b + (q .left - q .left) * 1000 = omega arith in subst (λ (c : ℕ). Sized (m .n) c (q .box)) e s
+  walks-sized {b} {p} {q} (next {t = t} e k w) s h =
+      let n : b + t .ticks * 1000 + (p .left - t .ticks - q .left) * 1000 ≡ b + (p .left - q .left) * 1000 = omega (arith, walks-less w, e .most) in
+      subst (λ (c : ℕ). Sized (m .n) c (q .box)) n (walks-sized w (settled-sized s (omega (arith, e .most)) e) (omega (arith, e .most)))
+
+-- ---- the numbers of a round
+
+-- a row's number N over the neighborhood of a face of variable i, for band j
+abbrev pub numerator : Machine → List ℤ → ℕ → List ℤ → Bool → ℕ → ℕ → ℤ
+numerator m S k E up i j = bound up (m .n) (rowOf m j i) (part m j (neighborhood up S (pos (k + 1) *ℤ cap m i) E i)) (least m j) (greatest m j)
+
+pub record Ranges (m : Machine) (S : List ℤ) (k : ℕ) (E : List ℤ) : Type 0 where
+  pub working : Near (m .n) 1999000 E
+  pub front : Near (m .n) 1999000 (lifted m S k E)
+  pub end : Near (m .n) 2000000 (endBox m S k E)
+  pub swept : Near (m .n) 2000000 (hull (m .n) S (endBox m S k E))
+  pub neighborhoods : (up : Bool) (i : ℕ) → i < m .n → Sized (m .n) 1999000 (neighborhood up S (pos (k + 1) *ℤ cap m i) E i)
+  -- where they are cut
+  pub limits : (up : Bool) (i : ℕ) → i < m .n → Bound (inward up (side up S i) (pos (k + 1) *ℤ cap m i)) 2001000
+  -- N, N − d and N + d
+  pub numbers : (up : Bool) (i j : ℕ) → i < m .n → j < m .bands → Bound (numerator m S k E up i j) 8106000000
+  pub below : (up : Bool) (i j : ℕ) → i < m .n → j < m .bands → Bound (numerator m S k E up i j -ℤ rowOf m j i .d) 8206000000
+  pub above : (up : Bool) (i j : ℕ) → i < m .n → j < m .bands → Bound (numerator m S k E up i j +ℤ rowOf m j i .d) 8206000000
+
+-- a round of a step of length k, at least 1, from a box that leaves room for k ticks
+module _ {m : Machine} (ok : Accepted m) {S : List ℤ} (k : ℕ) {b : ℕ} (s : Sized (m .n) b S) (z : 0 < k) (h : b + k * 1000 ≤ 2000000) {E : List ℤ} (w : Working m S k E) where
+  around : (up : Bool) (i : ℕ) → i < m .n → Sized (m .n) 1999000 (neighborhood up S (pos (k + 1) *ℤ cap m i) E i)
+  around up i g =
+      let o = face-ordered (ok .proper) S k (s .ordered) (working-holds (ok .proper .room) w) up i g in
+      record { near = near-part o (neighborhood-part (ok .proper .room) S _ i g up E) (near-less (omega arith) (working-near (ok .proper) (ok .ranged) k (s .near) w)); ordered = o }
+
+  number : (up : Bool) (i j : ℕ) → i < m .n → j < m .bands → Bound (numerator m S k E up i j) 8106000000
+  number up i j g l = bound-less (row-near (least m j) (greatest m j) (ok .ranged .rows j i l g) (around up i g .near) (ok .ranged .least j l) (ok .ranged .greatest j l) up) (omega (arith, ok .vars))
+
+  spread : (i j : ℕ) → i < m .n → j < m .bands → Bound (rowOf m j i .d) 100000000
+  spread i j g l = let d = ok .ranged .rows j i l g .d in bound-in (omega (ints, d .low)) (d .high)
+
+  pub round-ranges : Ranges m S k E
+  round-ranges = record {
+    working = near-less (omega arith) (working-near (ok .proper) (ok .ranged) k (s .near) w);
+    front = near-less (omega arith) (lifted-near (ok .proper) (ok .ranged) k (s .near) E);
+    end = near-less (omega arith) (end-near (ok .proper) (ok .ranged) k (s .near) E);
+    swept = hull-near (ok .proper .room) (near-less (omega arith) (s .near)) (near-less (omega arith) (end-near (ok .proper) (ok .ranged) k (s .near) E));
+    neighborhoods = around;
+    limits = λ up i g. bound-less (limit-near (ok .proper) (ok .ranged) (s .near) up (k + 1) i g) (omega arith);
+    numbers = number;
+    below = λ up i j g l. bound-sub (number up i j g l) (spread i j g l);
+    above = λ up i j g l. bound-sum (number up i j g l) (spread i j g l);
+  }
+
+-- RANGES: each round of each step of a reach, its start box S and its ticks leaving room
+pub reach-ranges : {m : Machine} {clear : List ℤ → Bool} {w b ticks : ℕ} {S : List ℤ} {q : Place} {E : List ℤ} (k : ℕ) → Accepted m → Sized (m .n) b S → b + ticks * 1000 ≤ 2000000
+    → Walks m clear w q (start S ticks) → 0 < k → k ≤ q .left → Working m (q .box) k E → Ranges m (q .box) k E
+reach-ranges k ok s h w z l e = round-ranges ok k (walks-sized ok w s h) z (omega (arith, walks-less w)) e
+
+-- ---- the start boxes and the laws that are not refused
+
+pub lawful : (v : List ℤ) (l : Law) → lawRefusal v l ≡ 0 → Lawful v l
+unfolding lawRefusal
+lawful v baseline e = tt
+lawful v (command u) e =
+    let b = and-both (leZ (leastCommand v) u) (leZ u (greatestCommand v)) (cond-zero _ 13 e) in
+    record { low = le-true (leastCommand v) u (b .0); high = le-true u (greatestCommand v) (b .1) }
+
+pub sized-by : {n b : ℕ} {B : List ℤ} → ((i : ℕ) → i < n → negℤ (pos b) ≤ℤ lo B i) → Ordered n B → ((i : ℕ) → i < n → hi B i ≤ℤ pos b) → Sized n b B
+sized-by {n} {b} {B} l o u = record { near = record { at = at }; ordered = o }
+  where
+    at : (up : Bool) (i : ℕ) → i < n → Bound (side up B i) b
+    at false i h = bound-in (l i h) (omega (ints, o .at i h, u i h))
+    at true i h = bound-in (omega (ints, l i h, o .at i h)) (u i h)
+
+pub start-sized : (n : ℕ) (B : List ℤ) → sidesRefusal n B ≡ 0 → Sized n 1000000 B
+unfolding sidesRefusal
+start-sized n B e = sized-by (λ i h. le-true (negℤ (pos 1000000)) (lo B i) (both i h .0)) (record { at = λ i h. le-true (lo B i) (hi B i) (both i h .1) }) (λ i h. le-true (hi B i) (pos 1000000) (last i h .1))
+  where
+    last : (i : ℕ) → i < n → ((leZ (negℤ (pos 1000000)) (lo B i) && leZ (lo B i) (hi B i)) ≡ true) × (leZ (hi B i) (pos 1000000) ≡ true)
+    last i h = and-both _ (leZ (hi B i) (pos 1000000)) (all-at n _ i (cond-zero _ 14 e) h)
+
+    both : (i : ℕ) → i < n → (leZ (negℤ (pos 1000000)) (lo B i) ≡ true) × (leZ (lo B i) (hi B i) ≡ true)
+    both i h = and-both (leZ (negℤ (pos 1000000)) (lo B i)) (leZ (lo B i) (hi B i)) (last i h .0)
+
+pub recovery-sized : {v : List ℤ} → Valid v → Sized (vars v) 1000000 (recoveryBox v)
+recovery-sized {v} ok =
+    sized-by (λ i h. rw (box-lo v recoverySlot i (room i h)) (ok .recovery .lower i h)) (record { at = λ i h. rw (box-lo v recoverySlot i (room i h), box-hi v recoverySlot i (room i h)) (ok .recovery .ordered i h) })
+    (λ i h. rw (box-hi v recoverySlot i (room i h)) (ok .recovery .upper i h))
+  where
+    room : (i : ℕ) → i < vars v → i < N
+    room i h = omega (arith, ok .vars-high)

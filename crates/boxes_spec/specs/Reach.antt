@@ -1,0 +1,97 @@
+-- The reach (document 01, "One lifted step", its last paragraph), and the public reach with its refusals. All of it computes.
+use mathlib.Core.Bool.{Bool, true, false, not, cond, _&&_}
+use mathlib.Core.List.{List}
+use Prim.Native.Nat.{ℕ, zero, suc, _-_, min}
+use lib.Dec.{leb}
+use lib.IntN.{ℤ, pos, negℤ}
+use lib.Signed.{leZ}
+use lib.ListN.{replicate}
+use Rattle.sheet_spec.specs.Slots.{boxSize, vars, leastCommand, greatestCommand, unsafeBox}
+use Rattle.sheet_spec.specs.Sheet.{refusal, values}
+use Rattle.machine_spec.specs.Box.{lo, hi, all, any, hull, meets, trim}
+use Rattle.machine_spec.specs.Machine.{Law, baseline, command, Machine, machine}
+use Rattle.boxes_spec.specs.Step.{Got, got, failed, out, unsafe, unsettled, andThen, Step, step, swept}
+
+pub record Reached : Type 0 where
+  pub end : List ℤ
+  pub swept : List ℤ
+
+-- an allowance (if `limited`), a machine, the test that a swept box is clear of the no-go boxes, the width
+module _ (limited : Bool) (allowance : ℕ) (m : Machine) (clear : List ℤ → Bool) (w : ℕ) where
+  -- one step from S with `left` ticks left, which fails where its swept box is not clear
+  unfoldable pub leg : List ℤ → ℕ → ℕ → Got Step
+  leg S left c =
+      andThen (step limited allowance m S (min w left) c) (λ t c′.
+      elim (clear (swept m S t)) [ true ↦ got t c′ | false ↦ failed (unsafe left (swept m S t)) c′ ])
+
+  -- steps from S until no ticks are left; W is the hull of the swept boxes so far. Each step covers a tick, so that the fuel
+  -- is not used up where it is more than the ticks left
+  unfoldable pub walk : ℕ → List ℤ → List ℤ → ℕ → ℕ → Got Reached
+  walk zero S W left c = failed unsettled c
+  walk (suc fuel) S W left c =
+      elim (leb left 0) [
+        | true ↦ got (record { end = S; swept = W }) c
+        | false ↦ andThen (leg S left c) (λ t c′. walk fuel (t .end) (hull (m .n) W (swept m S t)) (left - t .ticks) c′)
+      ]
+
+  -- a reach of `ticks` ticks from S, after c rounds
+  unfoldable pub reach : List ℤ → ℕ → ℕ → Got Reached
+  reach S ticks c = walk (suc ticks) S S ticks c
+
+-- the box shares no state with the first `count` no-go boxes of the sheet v
+unfoldable pub clear : ℕ → List ℤ → ℕ → List ℤ → Bool
+clear n v count B = not (any count (λ j. meets n B (unsafeBox v j)))
+
+-- ---- the public reach of a sheet v: no boxes to keep clear of, no allowance
+
+-- 14: a command outside the head's
+unfoldable pub lawRefusal : List ℤ → Law → ℕ
+lawRefusal v baseline = 0
+lawRefusal v (command u) = cond (leZ (leastCommand v) u && leZ u (greatestCommand v)) 0 14
+
+-- 15: a box that is reversed or not within ±1,000,000
+unfoldable pub sidesRefusal : ℕ → List ℤ → ℕ
+sidesRefusal n B = cond (all n (λ i. leZ (negℤ (pos 1000000)) (lo B i) && leZ (lo B i) (hi B i) && leZ (hi B i) (pos 1000000))) 0 15
+
+-- 16: the ticks or the width
+unfoldable pub ticksRefusal : ℕ → ℕ → ℕ
+ticksRefusal ticks w = cond (leb ticks 1000 && leb 1 w && leb w 1000) 0 16
+
+-- a refusal, or where there is none the next
+abbrev pub orNext : ℕ → ℕ → ℕ
+orNext zero s = s
+orNext (suc r) s = suc r
+
+-- the refusals of a reach behind the sheet's own
+unfoldable pub reachRefusal : List ℤ → ℕ → ℕ → Law → List ℤ → ℕ
+reachRefusal v ticks w l B = orNext (ticksRefusal ticks w) (orNext (lawRefusal v l) (sidesRefusal (vars v) B))
+
+-- what a reach answers: a refusal number, or 0 and the two boxes with the rounds
+pub record Answer : Type 0 where
+  pub refusal : ℕ
+  pub end : List ℤ
+  pub swept : List ℤ
+  pub rounds : ℕ
+
+abbrev pub noBox : List ℤ
+noBox = replicate boxSize (pos 0)
+
+abbrev pub refused : ℕ → Answer
+refused r = record { refusal = r; end = noBox; swept = noBox; rounds = 0 }
+
+unfoldable pub answer : Got Reached → Answer
+answer (got r c) = record { refusal = 0; end = r .end; swept = r .swept; rounds = c }
+answer (failed why c) = refused 0
+answer (out c) = refused 0
+
+abbrev pub ifAccepted : ℕ → Answer → Answer
+ifAccepted zero a = a
+ifAccepted (suc r) a = refused (suc r)
+
+-- a reach of an accepted sheet's value
+unfoldable pub reachOf : List ℤ → ℕ → ℕ → Law → List ℤ → Answer
+reachOf v ticks w l B = ifAccepted (reachRefusal v ticks w l B) (answer (reach false 0 (machine v l) (clear (vars v) v 0) w (trim (vars v) B) ticks 0))
+
+-- a reach of a sheet's file
+unfoldable pub reachFile : List ℕ → ℕ → ℕ → Law → List ℤ → Answer
+reachFile f ticks w l B = ifAccepted (refusal f) (reachOf (values f) ticks w l B)

@@ -1,0 +1,92 @@
+-- One lifted step (document 01, "One lifted step"): rounds, settling, halving. All of it computes.
+use mathlib.Core.Bool.{Bool, true, false, _&&_}
+use mathlib.Core.List.{List}
+use Prim.Native.Nat.{ℕ, zero, suc, _+_, _-_, _/_}
+use lib.Dec.{leb, eqb}
+use lib.IntN.{ℤ}
+use Rattle.machine_spec.specs.Box.{hull, within, moved}
+use Rattle.machine_spec.specs.Machine.{Machine}
+use Rattle.machine_spec.specs.Rate.{rates}
+
+-- ---- a round of a step of length k from the box S, with the working box E
+
+-- M: the hull of start and of start with each face moved by k − 1 rates
+unfoldable pub lifted : Machine → List ℤ → ℕ → List ℤ → List ℤ
+lifted m S k E = hull (m .n) S (moved (m .n) S (k - 1) (rates m S k E))
+
+unfoldable pub settles : Machine → List ℤ → ℕ → List ℤ → Bool
+settles m S k E = within (m .n) (lifted m S k E) E
+
+-- the end box of a step that settles: start moved by k rates
+unfoldable pub endBox : Machine → List ℤ → ℕ → List ℤ → List ℤ
+endBox m S k E = moved (m .n) S k (rates m S k E)
+
+-- the next working box
+unfoldable pub grown : Machine → List ℤ → ℕ → List ℤ → List ℤ
+grown m S k E = hull (m .n) E (lifted m S k E)
+
+-- ---- what a stage gives, with the count of rounds after it
+
+-- why an attempt fails
+pub data Failure : Type 0 where
+  -- no length settled; it does not happen
+  unsettled : Failure
+  -- a swept box shares a state with a no-go box: the ticks left when its step began, and that swept box
+  unsafe : ℕ → List ℤ → Failure
+  -- the last end box is not within the recovery box
+  unrecovered : Failure
+
+-- a value, a failure, or no round left
+pub data Got (A : Type 0) : Type 0 where
+  got : A → ℕ → Got A
+  failed : Failure → ℕ → Got A
+  out : ℕ → Got A
+
+-- go on where there is a value
+unfoldable pub andThen : {A B : Type 0} → Got A → (A → ℕ → Got B) → Got B
+andThen (got a c) k = k a c
+andThen (failed w c) k = failed w c
+andThen (out c) k = out c
+
+-- try another way where it failed
+unfoldable pub orElse : {A : Type 0} → Got A → (ℕ → Got A) → Got A
+orElse (got a c) k = got a c
+orElse (failed w c) k = k c
+orElse (out c) k = out c
+
+-- a round is due and none is left: there is an allowance, and the count equals it
+unfoldable pub isOut : Bool → ℕ → ℕ → Bool
+isOut limited allowance c = limited && eqb c allowance
+
+-- ---- the step
+
+pub record Step : Type 0 where
+  pub ticks : ℕ
+  pub end : List ℤ
+
+-- an allowance (if `limited`), a machine, the start box
+module _ (limited : Bool) (allowance : ℕ) (m : Machine) (S : List ℤ) where
+  -- up to `left` rounds of length k with the working box E
+  unfoldable pub rounds : ℕ → ℕ → List ℤ → ℕ → Got Step
+  rounds k zero E c = failed unsettled c
+  rounds k (suc left) E c =
+      elim (isOut limited allowance c) [
+        | true ↦ out c
+        | false ↦
+            elim (settles m S k E) [
+              | true ↦ got (record { ticks = k; end = endBox m S k E }) (c + 1)
+              | false ↦ rounds k left (grown m S k E) (c + 1)
+            ]
+      ]
+
+  -- eight rounds of length k, then of half of it rounded down, and so on to 1. The fuel is not used up where it is at least k
+  unfoldable pub halving : ℕ → ℕ → ℕ → Got Step
+  halving zero k c = failed unsettled c
+  halving (suc fuel) k c = orElse (rounds k 8 S c) (λ c′. elim (leb k 1) [ true ↦ failed unsettled c′ | false ↦ halving fuel (k / 2) c′ ])
+
+  unfoldable pub step : ℕ → ℕ → Got Step
+  step k c = halving k k c
+
+-- the swept box of a settled step from S
+unfoldable pub swept : Machine → List ℤ → Step → List ℤ
+swept m S t = hull (m .n) S (t .end)

@@ -1,0 +1,7 @@
+pub mod Calls
+pub mod Everything
+pub mod Starred
+pub mod Cover
+pub mod Attempt
+pub mod Allowance
+mod Reference

@@ -1,0 +1,40 @@
+-- What a reach on bytes answers and what it leaves in a lent buffer. Law 0 is the baseline, any other the command u.
+use mathlib.Core.Bool.{cond}
+use mathlib.Core.List.{List, _++_}
+use Prim.Native.Nat.{ℕ, _*_}
+use lib.Dec.{eqb}
+use lib.IntN.{ℤ, pos}
+use lib.ListN.{set, length}
+use lib.Seq.{sets}
+use Rattle.sheet_spec.specs.Slots.{vars}
+use Rattle.sheet_spec.specs.Sheet.{values}
+use Rattle.machine_spec.specs.Machine.{lawOf}
+use Rattle.boxes_spec.specs.Reach.{Answer, noBox, reachFile}
+use Rattle.decision_spec.specs.Question.{pairs}
+use Rattle.decision_spec.specs.Call.{orRefused, orUnchanged, orRoom}
+use Rattle.decision_spec.specs.Numbers.{numberBytes, sidesOf}
+
+-- n pairs of sides; another length counts as a reversed box, which is 15
+unfoldable pub startBox : ℕ → List ℕ → List ℤ
+startBox n s = cond (eqb (length s) (8 * n)) (pairs n s 0) (set noBox 0 (pos 1))
+
+-- where a reach of n variables answers a: the pairs of the end box and then of the swept box go to the first bytes of `out`; the
+-- answer is the rounds
+module _ (n : ℕ) (a : Answer) (out : List ℕ) where
+  unfoldable pub reachedRefusal : ℕ
+  reachedRefusal = orRoom (a .refusal) (16 * n) out
+
+  unfoldable pub reachedCall : ℕ
+  reachedCall = orRefused reachedRefusal (a .rounds)
+
+  unfoldable pub reachedOut : List ℕ
+  reachedOut = orUnchanged reachedRefusal (sets out 0 (numberBytes (sidesOf n (a .end) ++ sidesOf n (a .swept)) (4 * n))) out
+
+unfoldable pub reachAnswer : List ℕ → ℕ → ℕ → ℕ → ℤ → List ℕ → Answer
+reachAnswer f ticks w law u s = reachFile f ticks w (lawOf (eqb law 0) u) (startBox (vars (values f)) s)
+
+unfoldable pub reachCall : List ℕ → ℕ → ℕ → ℕ → ℤ → List ℕ → List ℕ → ℕ
+reachCall f ticks w law u s out = reachedCall (vars (values f)) (reachAnswer f ticks w law u s) out
+
+unfoldable pub reachOut : List ℕ → ℕ → ℕ → ℕ → ℤ → List ℕ → List ℕ → List ℕ
+reachOut f ticks w law u s out = reachedOut (vars (values f)) (reachAnswer f ticks w law u s) out

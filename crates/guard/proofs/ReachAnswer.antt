@@ -1,0 +1,108 @@
+-- What a reach answers: how far the sides of its boxes go, and their bytes. Assumes nothing.
+use mathlib.Core.Path.{_≡_, refl, ap}
+use mathlib.Core.Bool.{Bool, false}
+use mathlib.Core.List.{List, _++_}
+use Prim.Native.Nat.{ℕ, zero, suc, _+_, _*_, _-_, _≤_, _<_}
+use native.Mathlib.Omega.{arith}
+use lib.Dec.{eqb}
+use lib.IntN.{ℤ, pos}
+use lib.ListN.{length, length-append, List·getD-append}
+use lib.Seq.{sets, sets-eq}
+use Rattle.integers.proofs.Lists.{sets-append}
+use Rattle.sheet_spec.specs.Slots.{_!_, vars}
+use Rattle.sheet_spec.specs.Sheet.{refusal, values}
+use Rattle.sheet_spec.specs.Valid.{Valid}
+use Rattle.machine_spec.specs.Box.{sides, trim}
+use Rattle.machine_spec.specs.Machine.{Law, Machine, machine, lawOf}
+use Rattle.boxes_arithmetic.specs.Limits.{Sides}
+use Rattle.boxes_rates.specs.Plant.{Usable}
+use Rattle.boxes_rates.proofs.Rates.{usable}
+use Rattle.boxes_rates.proofs.Bounds.{wider, sides-bound, hull-bound, moved-bound, rates-bound}
+use Rattle.boxes_spec.specs.Step.{Failure, Got, Step, endBox, swept}
+use Rattle.boxes_spec.specs.Reach.{Reached, reach, clear, ticksRefusal, lawRefusal, reachRefusal, noBox, Answer, answer, ifAccepted, reachOf, reachFile}
+use Rattle.boxes_spec.proofs.Stages.{Takes, value, failure, spent}
+use Rattle.boxes_spec.proofs.Settled.{Settled, Place, start, Walks, here, next, Ends, reach-takes}
+use Rattle.boxes_spec.proofs.Count.{ticks-width}
+use Rattle.boxes_spec.proofs.Refusals.{or-none, if-refused, if-accepted}
+use Rattle.boxes_refusals.proofs.Turn.{sides-near}
+use Rattle.decision_spec.specs.Numbers.{numberBytes, sidesOf}
+use Rattle.decision_spec.specs.ReachCall.{startBox, reachAnswer}
+use Rattle.guard.proofs.Turn.{sides-length}
+
+-- ---- sides
+
+-- both boxes of a reach
+abbrev Far : ℕ → List ℤ → List ℤ → Type 0
+Far b E W = Sides b E × Sides b W
+
+module _ {m : Machine} (ok : Usable m) where
+  step-far : {S : List ℤ} {k b : ℕ} {t : Step} → Sides b S → Settled m S k t → Sides (b + t .ticks * 1000) (t .end)
+  unfolding endBox
+  step-far {S} {t = t} h s = rw (s .end) (moved-bound (m .n) S (t .ticks) _ h (rates-bound ok S (t .ticks) (s .E)))
+
+  walks-far : {clear : List ℤ → Bool} {w b : ℕ} {p q : Place} → Walks m clear w q p → Far b (p .box) (p .swept) → Far (b + p .left * 1000) (q .box) (q .swept)
+  unfolding swept
+  walks-far here h = (wider (omega arith) (h .0), wider (omega arith) (h .1))
+  walks-far {b = b} {p = p} (next {t = t} s k r) h =
+      let e = step-far (h .0) s in
+      let o : b ≤ b + t .ticks * 1000 = omega arith in
+      let f = walks-far r (e, hull-bound (m .n) (p .swept) _ (wider o (h .1)) (hull-bound (m .n) (p .box) _ (wider o (h .0)) e)) in
+      let g : b + t .ticks * 1000 + (p .left - t .ticks) * 1000 ≤ b + p .left * 1000 = omega (arith, s .most) in
+      (wider g (f .0), wider g (f .1))
+
+none-far : {b : ℕ} → Far b noBox noBox
+unfolding sides
+none-far {b} = let h : Sides b noBox = sides-bound b 0 (λ i. pos 0) (λ i. pos 0) (λ i l. absurd (omega arith)) (λ i l. absurd (omega arith)) in (h, h)
+
+-- the boxes of an answer lie within ±2,000,000
+pub reach-far : {v : List ℤ} → Valid v → (ticks w : ℕ) (l : Law) (B : List ℤ) → Far 2000000 (reachOf v ticks w l B .end) (reachOf v ticks w l B .swept)
+unfolding reachOf reachRefusal answer
+reach-far {v} ok ticks w l B = by (reachRefusal v ticks w l B) refl
+  where
+    far : {g : Got Reached} {Q : Failure → Type 0} → Sides 1000000 (trim (vars v) B) → ticks ≤ 1000
+        → Takes false 0 0 (73 * ticks) (Ends (machine v l) (clear (vars v) v 0) w (start (trim (vars v) B) ticks)) Q g → Far 2000000 (answer g .end) (answer g .swept)
+    far h k (value p n) = let f = walks-far (usable l ok) (p .walks) (h, h) in (wider (omega arith) (f .0), wider (omega arith) (f .1))
+    far h k (failure q n) = none-far
+    far h k (spent i e n) = none-far
+
+    by : (r : ℕ) → reachRefusal v ticks w l B ≡ r → Far 2000000 (ifAccepted r (answer (reach false 0 (machine v l) (clear (vars v) v 0) w (trim (vars v) B) ticks 0)) .end) (ifAccepted r (answer (reach false 0 (machine v l) (clear (vars v) v 0) w (trim (vars v) B) ticks 0)) .swept)
+    by (suc r) e = none-far
+    by zero e =
+        let t = or-none (ticksRefusal ticks w) _ e in
+        let k = ticks-width ticks w (t .0) in
+        far (sides-near (vars v) B (or-none (lawRefusal v l) _ (t .1) .1)) (k .0) (reach-takes false 0 (machine v l) (clear (vars v) v 0) w 9 (omega (arith, ok .vars-high)) (k .1) (omega (arith, k .2)) (trim (vars v) B) ticks 0)
+
+-- ---- bytes
+
+bytes-same : (xs ys : List ℤ) (k : ℕ) → ((i : ℕ) → i < k → xs ! i ≡ ys ! i) → numberBytes xs k ≡ numberBytes ys k
+unfolding numberBytes
+bytes-same xs ys zero h = refl
+bytes-same xs ys (suc k) h = rw (bytes-same xs ys k (λ i l. h i (omega arith)), h k (omega arith)) refl
+
+-- the sides of two boxes, put one behind the other at the front of l
+pub boxes-bytes : (l : List ℤ) (n : ℕ) (E W : List ℤ) → 4 * n ≤ length l
+    → numberBytes (sets (sets l 0 (sidesOf n E)) (2 * n) (sidesOf n W)) (4 * n) ≡ numberBytes (sidesOf n E ++ sidesOf n W) (4 * n)
+boxes-bytes l n E W h = bytes-same _ _ (4 * n) at
+  where
+    both : List ℤ
+    both = sidesOf n E ++ sidesOf n W
+
+    size : length both ≡ 4 * n
+    size = omega (arith, length-append (sidesOf n E) (sidesOf n W), sides-length n E, sides-length n W)
+
+    at : (i : ℕ) → i < 4 * n → sets (sets l 0 (sidesOf n E)) (2 * n) (sidesOf n W) ! i ≡ both ! i
+    at i k =
+        let e : 2 * n ≡ 0 + length (sidesOf n E) = omega (arith, sides-length n E) in
+        rw e (rw (sets-append l 0 (sidesOf n E) (sidesOf n W), sets-eq both l 0 (omega (arith, size))) (List·getD-append both _ (pos 0) i (omega (arith, size))))
+
+-- ---- of a file, whose refusal is r in the code
+
+module _ (f : List ℕ) (ticks w law : ℕ) (u : ℤ) (s : List ℕ) {r : ℕ} (p : r ≡ refusal f) where
+  pub file-refused : (r ≡ 0 → ⊥) → r ≡ reachAnswer f ticks w law u s .refusal
+  unfolding reachAnswer reachFile
+  file-refused n = ap (λ (a : Answer). a .refusal) (if-refused _ p n)
+
+  -- v and B are the code's value and start box
+  pub file-reached : r ≡ 0 → {v B : List ℤ} → v ≡ values f → B ≡ startBox (vars (values f)) s → reachOf v ticks w (lawOf (eqb law 0) u) B ≡ reachAnswer f ticks w law u s
+  unfolding reachAnswer reachFile
+  file-reached e h k = rw (h, k) (if-accepted _ p e)

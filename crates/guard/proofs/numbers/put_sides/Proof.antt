@@ -1,0 +1,61 @@
+-- `put_sides` puts the sides of a box's variables into an array: after i turns, those of the first i. Assumes nothing.
+use mathlib.Core.Path.{_≡_, refl}
+use Prim.Native.Nat.{_≤_, _-_, _+_}
+use native.Mathlib.Omega.{arith}
+use lib.Seq.{sets}
+use Rattle.sheet_spec.specs.Slots.{N}
+use Rattle.decision_spec.specs.Numbers.{sidesOf}
+use Rattle.guard.proofs.Turn.{sides-more, side-fits, side-is}
+use Rattle.guard.proofs.numbers.put_sides.Statement.{statement}
+use Rattle.guard.proofs.numbers.put_sides.Tie as tie
+
+abbrev Inv-loop : tie.InvT-loop
+Inv-loop v₀ at n b i₀ v i = (i ≤ n) × (v ≡ sets v₀ at (sidesOf i b))
+
+abbrev μ-loop : tie.MeasureT-loop
+μ-loop v₀ at n b i₀ v i = n - i
+
+loop-holds : tie.Need-loop-holds Inv-loop μ-loop
+unfolding sidesOf
+loop-holds c = (omega arith, refl)
+
+cast-v : tie.Need-cast-v Inv-loop μ-loop
+cast-v c = side-fits (c .before .before .before .pre .1 .1 .at (c .before .before .loop .i))
+
+cast-v-2 : tie.Need-cast-v-2 Inv-loop μ-loop
+cast-v-2 c = side-fits (c .before .before .before .before .pre .1 .1 .at (c .before .before .before .loop .i + N))
+
+loop-again : tie.Need-loop-again Inv-loop μ-loop
+loop-again c =
+    let l = c .before .before .before .loop in
+    let b = c .before .before .before .before .pre .1 .1 in
+    (omega arith, sides-more _ _ (l .i) _ (l .inv .1) (side-is (b .at (l .i))) (side-is (b .at (l .i + N))))
+
+returns : tie.Need-returns Inv-loop μ-loop
+returns c = let e : c .before .loop .i ≡ c .before .before .args .n = omega arith in rw e at (c .before .loop .inv .1)
+
+pub put-sides-spec : {M : Type 1} → statement M
+put-sides-spec =
+    tie.close
+    (tie.spec
+    Inv-loop
+    μ-loop
+    loop-holds
+    (λ c. omega arith)
+    (λ c. omega arith)
+    (λ c. omega arith)
+    (λ c. omega arith)
+    (λ c. omega arith)
+    cast-v
+    (λ c. omega arith)
+    (λ c. omega arith)
+    (λ c. omega arith)
+    (λ c. omega arith)
+    cast-v-2
+    (λ c. omega arith)
+    (λ c. omega arith)
+    (λ c. omega arith)
+    (λ c. omega arith)
+    (λ c. omega arith)
+    loop-again
+    returns)

@@ -1,0 +1,108 @@
+-- `reach_call` answers and writes what the definitions say. Assumes nothing.
+use mathlib.Core.Path.{_≡_, sym, ap, _∙_, subst}
+use mathlib.Core.List.{List}
+use Prim.Native.Nat.{ℕ, _*_}
+use native.Mathlib.Omega.{arith}
+use lib.Dec.{eqb}
+use lib.IntN.{ℤ}
+use mir.Facts.{toZ-ofZ}
+use borrow.Author.Needs.{needs}
+use Rattle.sheet_spec.specs.Slots.{vars}
+use Rattle.sheet_spec.specs.Sheet.{values}
+use Rattle.sheet_spec.specs.Valid.{Valid}
+use Rattle.sheet_spec.proofs.Valid.{valid}
+use Rattle.boxes_arithmetic.specs.Limits.{Sides}
+use Rattle.machine_spec.specs.Machine.{lawOf}
+use Rattle.boxes_spec.specs.Reach.{Answer, reachOf}
+use Rattle.boxes.specs.ReachAnswer.{answered}
+use Rattle.decision_spec.specs.ReachCall.{startBox, reachedRefusal, reachedCall, reachedOut, reachAnswer, reachCall, reachOut}
+use Rattle.decision_spec.proofs.Calls.{or-refused, or-unchanged, room-stop}
+use Rattle.guard.proofs.ReachAnswer.{reach-far, file-refused, file-reached}
+use Rattle.guard.proofs.reach.reach_call.Statement.{statement}
+use Rattle.guard.proofs.reach.reach_call.Tie as tie
+
+-- behind the reader
+module _ (c : tie.After-read-into) where
+  abbrev s : tie.Start
+  s = c .before .before .before .before .before
+
+  abbrev v : List ℤ
+  v = c .read-into .last .1 .0
+
+-- of an accepted sheet
+module _ (c : tie.Else1) where
+  accepted : Valid (v (c .before))
+  accepted = let r = c .before .read-into .ensures in subst Valid (sym (r .1)) (valid _ (sym (r .0) ∙ c .if1 .left))
+
+-- behind the reach
+module _ (c : tie.After-reach-of) where
+  abbrev b : tie.After-start-box
+  b = c .before .before .before
+
+  abbrev k : tie.After-count
+  k = b .before
+
+  abbrev e : tie.Else1
+  e = k .before .before
+
+  abbrev r : tie.After-read-into
+  r = e .before
+
+  n-is : k .count .result ≡ vars (values (s r .args .sheet .now))
+  n-is = k .count .ensures ∙ ap vars (r .read-into .ensures .1)
+
+  answer-is : answered (c .reach-of .result) ≡ reachAnswer (s r .args .sheet .now) (s r .args .ticks) (s r .args .width) (s r .args .law) (s r .args .command) (s r .args .start .now)
+  answer-is =
+      c .reach-of .ensures
+      ∙ ap (λ (u : ℤ). reachOf (v r) (s r .args .ticks) (s r .args .width) (lawOf (eqb (s r .args .law) 0) u) (b .start-box .result)) (toZ-ofZ (s r .fits .command))
+      ∙ file-reached (s r .args .sheet .now) (s r .args .ticks) (s r .args .width) (s r .args .law) (s r .args .command) (s r .args .start .now) (r .read-into .ensures .0) (e .if1 .left)
+      (r .read-into .ensures .1) (b .start-box .ensures ∙ ap (λ (n : ℕ). startBox n (s r .args .start .now)) n-is)
+
+returns : tie.Need-returns
+unfolding reachCall reachOut reachedRefusal reachedCall reachedOut
+returns c =
+    let t = c .before in
+    let a = s (t .before) .args in
+    let q = room-stop _ (16 * vars (values (a .sheet .now))) (a .out .now) (file-refused (a .sheet .now) (a .ticks) (a .width) (a .law) (a .command) (a .start .now) (t .before .read-into .ensures .0) (t .if1 .taken)) (t .if1 .taken) in
+    (c .pack-refusal .ensures ∙ or-refused _ _ q (t .if1 .taken), or-unchanged _ _ (a .out .now) q (t .if1 .taken))
+
+count-requires : tie.Need-count-requires
+count-requires c κs = (omega arith, accepted (c .before) .head 0 (omega arith))
+
+start-box-requires : tie.Need-start-box-requires
+start-box-requires c κs = omega (arith, c .count .ensures, accepted (c .before .before) .vars-high)
+
+reach-of-requires : tie.Need-reach-of-requires
+reach-of-requires c κs = accepted (c .before .before .before .before .before)
+
+give-reached-requires : tie.Need-give-reached-requires
+give-reached-requires c κs =
+    let d = c .before in
+    let ok = accepted (e d) in (
+      omega (arith, k d .count .ensures, ok .vars-high),
+      subst (λ (a : Answer). Sides 2000000 (a .end) × Sides 2000000 (a .swept)) (sym (d .reach-of .ensures)) (reach-far ok _ _ _ _),
+    )
+
+returns-2 : tie.Need-returns-2
+unfolding reachCall reachOut
+returns-2 c =
+    let g = c .before .before in
+    let d = g .before .before in
+    let out = s (r d) .args .out .now in (
+      g .give-reached .ensures .0 ∙ ap (λ (n : ℕ). reachedCall n (answered (d .reach-of .result)) out) (n-is d) ∙ ap (λ (a : Answer). reachedCall (vars (values (s (r d) .args .sheet .now))) a out) (answer-is d),
+      g .give-reached .ensures .1 ∙ ap (λ (n : ℕ). reachedOut n (answered (d .reach-of .result)) out) (n-is d) ∙ ap (λ (a : Answer). reachedOut (vars (values (s (r d) .args .sheet .now))) a out) (answer-is d),
+    )
+
+pub reach-call-spec : {M : Type 1} → statement M
+reach-call-spec =
+    tie.close
+    (tie.spec
+    (λ c κs. search needs)
+    (λ c κs. search needs)
+    returns
+    count-requires
+    start-box-requires
+    reach-of-requires
+    give-reached-requires
+    (λ c. search needs)
+    returns-2)

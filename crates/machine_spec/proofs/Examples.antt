@@ -1,0 +1,68 @@
+-- The definitions compute: document 01's checks of divisions, bands and no-go boxes, and the rates of a machine of two
+-- bands. Assumes nothing.
+use mathlib.Core.Path.{_≡_, refl}
+use mathlib.Core.Bool.{Bool, true, false}
+use mathlib.Core.List.{List, [], _∷_, _++_}
+use Prim.Native.Nat.{ℕ, _+_, _-_, _*_}
+use lib.IntN.{ℤ, pos, negsuc}
+use lib.ListN.{replicate}
+use Rattle.sheet_spec.specs.Slots.{N, rowSize, rowAt}
+use Rattle.machine_spec.specs.Box.{meets}
+use Rattle.machine_spec.specs.Machine.{baseline, command, machine, bandMeets, change}
+use Rattle.machine_spec.specs.Rate.{rates}
+use Rattle.machine_spec.proofs.Everything.{everything}
+
+zeros : ℕ → List ℤ
+zeros k = replicate k (pos 0)
+
+-- a box of one variable
+box : ℤ → ℤ → List ℤ
+box l h = (l ∷ zeros (N - 1)) ++ (h ∷ zeros (N - 1))
+
+-- N = −131, q = 20, d = 0: floor −7, ceil −6; with cap 5 both −5
+quotient : Bool → ℤ → ℤ
+quotient up cap = change up cap (rowAt (zeros (N + 3) ++ (pos 20 ∷ [])) 0) (negsuc 130)
+
+divided : (quotient false (pos 1000) ≡ negsuc 6) × (quotient true (pos 1000) ≡ negsuc 5)
+unfolding everything zeros quotient
+divided = (refl, refl)
+
+clamped : (quotient false (pos 5) ≡ negsuc 4) × (quotient true (pos 5) ≡ negsuc 4)
+unfolding everything zeros quotient
+clamped = (refl, refl)
+
+-- swept to 129 misses a no-go box from 130; to 130 meets it
+missed : meets 1 (box (pos 0) (pos 129)) (box (pos 130) (pos 2000000)) ≡ false
+unfolding everything zeros box
+missed = refl
+
+met : meets 1 (box (pos 0) (pos 130)) (box (pos 130) (pos 2000000)) ≡ true
+unfolding everything zeros box
+met = refl
+
+-- a sheet's value with edges −2,000,000 and 0 and cap 20. x changes by (−x + 4u ± 2)/6, from 0 on by
+-- (−x + 4u + 7 ± 30)/6; the safety ranges are 0..0 and 1..2
+band : ℤ → ℤ → ℤ → ℤ → ℤ → List ℤ
+band edge least greatest c d =
+    (edge ∷ least ∷ greatest ∷ negsuc 0 ∷ zeros (N - 1)) ++ ((pos 4 ∷ c ∷ d ∷ pos 6 ∷ zeros ((N - 1) * rowSize)))
+
+v : List ℤ
+v = (pos 1 ∷ pos 2 ∷ pos 1 ∷ pos 0 ∷ pos 4 ∷ pos 4 ∷ pos 4 ∷ negsuc 24 ∷ pos 25 ∷ pos 20 ∷ zeros (N - 1))
+    ++ (band (negsuc 1999999) (pos 0) (pos 0) (pos 0) (pos 2) ++ band (pos 0) (pos 1) (pos 2) (pos 7) (pos 30))
+
+-- −1 is in band one, 0 in band two
+bandAt : ℤ → List Bool
+bandAt x = bandMeets v 2 0 x x ∷ (bandMeets v 2 1 x x ∷ [])
+
+banded : (bandAt (negsuc 0) ≡ true ∷ (false ∷ [])) × (bandAt (pos 0) ≡ false ∷ (true ∷ []))
+unfolding everything zeros band v bandAt
+banded = (refl, refl)
+
+-- a step of length 2 from −20..10 with the working box −70..60: the neighborhoods are −70..40 and −50..60
+under-baseline : rates (machine v baseline) (box (negsuc 19) (pos 10)) 2 (box (negsuc 69) (pos 60)) ≡ box (negsuc 9) (pos 16)
+unfolding everything zeros box band v
+under-baseline = refl
+
+under-command : rates (machine v (command (pos 5))) (box (negsuc 19) (pos 10)) 2 (box (negsuc 69) (pos 60)) ≡ box (negsuc 7) (pos 18)
+unfolding everything zeros box band v
+under-command = refl

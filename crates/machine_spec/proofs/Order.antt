@@ -1,0 +1,73 @@
+-- A wider box has wider rates, and the rates over two boxes that share a state are in order. Assumes nothing.
+use mathlib.Core.Bool.{Bool, true, false, cond}
+use mathlib.Core.List.{List}
+use Prim.Native.Nat.{ℕ, zero, suc, _<_}
+use native.Mathlib.Omega.{arith}
+use lib.Dec.{T}
+use lib.IntN.{ℤ, _*ℤ_}
+use lib.Signed.{_≤ℤ_}
+use Rattle.integers.proofs.Z.{ints}
+use Rattle.sheet_spec.specs.Slots.{_!_, Row}
+use Rattle.machine_spec.specs.Box.{lo, hi, In}
+use Rattle.machine_spec.specs.Machine.{Machine, cap, rowOf, least, greatest, bandMeets}
+use Rattle.machine_spec.specs.Rate.{outer, outermost, weighted, bound, part, bandRate, rate}
+use Rattle.machine_spec.proofs.Face.{Beyond, beyond-refl, beyond-sum, sum-beyond, outer-in, outer-mono, span, change-mono}
+use Rattle.machine_spec.proofs.Inside.{Inside, Ordered}
+use Rattle.machine_spec.proofs.Bands.{Band, meets-read, meets-show, meets-wider}
+use Rattle.machine_spec.proofs.Sound.{Proper, change-within, beyond-neutral, rate-bounds}
+use Rattle.machine_spec.proofs.Progress.{Permits, goes-on}
+
+-- ---- a wider box has wider rates
+
+outermost-mono : {up : Bool} (z : ℤ) (n : ℕ) (f g : ℕ → ℤ) → ((i : ℕ) → i < n → Beyond up (f i) (g i)) → Beyond up (outermost up z n f) (outermost up z n g)
+unfolding outermost
+outermost-mono {up} z zero f g h = beyond-refl up z
+outermost-mono z (suc n) f g h = outer-mono (outermost-mono z n f g (λ i k. h i (omega arith))) (h n (omega arith))
+
+wider-span : (up : Bool) (a : ℤ) {l h l′ h′ : ℤ} → l ≤ℤ h → l′ ≤ℤ l → h ≤ℤ h′ → Beyond up (outer up (a *ℤ l′) (a *ℤ h′)) (outer up (a *ℤ l) (a *ℤ h))
+wider-span up a {l} {h} {l′} {h′} g i j = outer-in up _ _ _ (span up a l′ h′ l i (omega ints)) (span up a l′ h′ h (omega ints) j)
+
+bound-mono : (up : Bool) (n : ℕ) (r : Row) (A B : List ℤ) (u w : ℤ) → Ordered n A → Inside n A B → Beyond up (bound up n r B u w) (bound up n r A u w)
+unfolding bound weighted
+bound-mono up n r A B u w o s =
+    beyond-sum (beyond-sum (sum-beyond n _ _ (λ j h. wider-span up (r .a j) (o .at j h) (s .at false j h .order) (s .at true j h .order))) (beyond-refl up _)) (beyond-refl up (r .c))
+
+cond-beyond : {up : Bool} (t t′ : Bool) {x y z : ℤ} → (T t → T t′) → (T t → Beyond up y x) → Beyond up y z → Beyond up (cond t′ y z) (cond t x z)
+cond-beyond true true f g h = g tt
+cond-beyond true false f g h = absurd (f tt)
+cond-beyond false true f g h = h
+cond-beyond {up} false false {z = z} f g h = beyond-refl up z
+
+-- band k meets the box
+abbrev met : Machine → ℕ → List ℤ → Bool
+met m k B = bandMeets (m .sheet) (m .bands) k (lo B (m .var)) (hi B (m .var))
+
+module _ {m : Machine} (ok : Proper m) (A B : List ℤ) (o : Ordered (m .n) A) (s : Inside (m .n) A B) where
+  -- what a band's row is bounded over: not empty where the band meets the box, and wider in a wider box
+  part-ordered : (k : ℕ) → T (met m k A) → Ordered (m .n) (part m k A)
+  part-ordered k t = o
+
+  part-inside : (k : ℕ) → T (met m k A) → Inside (m .n) (part m k A) (part m k B)
+  part-inside k t = s
+
+  met-wider : (k : ℕ) → T (met m k A) → T (met m k B)
+  met-wider k t = meets-show (meets-wider (s .at false (m .var) (ok .var) .order) (s .at true (m .var) (ok .var) .order) (meets-read t))
+
+  share-mono : (up : Bool) (i k : ℕ) → i < m .n → k < m .bands → Beyond up (bandRate up m B i k) (bandRate up m A i k)
+  unfolding bandRate
+  share-mono up i k h g =
+      cond-beyond (met m k A) (met m k B) (met-wider k)
+      (λ t. change-mono up (cap m i) (rowOf m k i) _ _ (ok .divisors k i g h)
+      (bound-mono up (m .n) (rowOf m k i) (part m k A) (part m k B) (least m k) (greatest m k) (part-ordered k t) (part-inside k t)))
+      (beyond-neutral (change-within up (cap m i) (rowOf m k i) _ (ok .caps i h)) up)
+
+  pub rate-mono : (up : Bool) (i : ℕ) → i < m .n → Beyond up (rate up m B i) (rate up m A i)
+  unfolding rate
+  rate-mono up i h = outermost-mono _ (m .bands) _ _ (λ k g. share-mono up i k h g)
+
+-- ---- rates over two boxes that share a state
+
+pub rates-ordered : {m : Machine} {x : List ℤ} (A B : List ℤ) (i : ℕ) → Proper m → Permits m → Band (m .sheet) (m .bands) (x ! (m .var)) → In (m .n) A x → In (m .n) B x → i < m .n → rate false m A i ≤ℤ rate true m B i
+rates-ordered {m} {x} A B i ok p b a c h =
+    let t = goes-on x ok p b .tick in
+    omega (ints, rate-bounds ok t i h false A a .order, rate-bounds ok t i h true B c .order)

@@ -1,0 +1,142 @@
+-- The rates bound every allowed change: over a box that holds the state, a tick changes a variable by no more than the rates
+-- of its two faces, and never by more than its cap. Assumes nothing.
+use mathlib.Core.Path.{_≡_, refl}
+use mathlib.Core.Bool.{Bool, true, false, not, cond}
+use mathlib.Core.List.{List}
+use Prim.Native.Nat.{ℕ, _≤_, _<_}
+use native.Mathlib.Omega.{arith}
+use lib.Dec.{T}
+use lib.IntN.{ℤ, pos, negsuc, negℤ, natAbs, _-ℤ_}
+use lib.Signed.{_≤ℤ_, ≤ℤ-refl}
+use Rattle.integers.specs.Order.{minZ}
+use Rattle.integers.proofs.Z.{ints, min-is, max-is, neg}
+use Rattle.sheet_spec.specs.Slots.{_!_, N, Row}
+use Rattle.sheet_spec.specs.Valid.{Between, Valid}
+use Rattle.machine_spec.specs.Box.{lo, hi, In}
+use Rattle.machine_spec.specs.Machine.{Law, Machine, machine, cap, rowOf, least, greatest, bandMeets, clamp, numerator, change, Tick}
+use Rattle.machine_spec.specs.Rate.{outer, outermost, weighted, bound, part, neutral, bandRate, rate}
+use Rattle.machine_spec.proofs.Face.{Beyond, beyond-refl, beyond-trans, beyond-sum, sum-beyond, span, change-mono, cond-one, outer-one, outermost-one, outermost-at}
+use Rattle.machine_spec.proofs.Bands.{meets-read, meets-show, meets-wider}
+
+-- what the argument asks of a machine
+pub record Proper (m : Machine) : Type 0 where
+  pub room : m .n ≤ N
+  pub var : m .var < m .n
+  pub caps : (i : ℕ) → i < m .n → pos 0 ≤ℤ cap m i
+  pub divisors : (k i : ℕ) → k < m .bands → i < m .n → 0 < natAbs (rowOf m k i .q)
+
+positive : (q : ℤ) → pos 1 ≤ℤ q → 0 < natAbs q
+positive (pos n) h = omega ints
+positive (negsuc n) h = absurd (h .le)
+
+pub proper : {v : List ℤ} (l : Law) → Valid v → Proper (machine v l)
+proper l ok = record {
+  room = omega (arith, ok .vars-high);
+  var = ok .var;
+  caps = λ i h. omega (ints, ok .caps i h .low);
+  divisors = λ k i h g. positive _ (ok .rows k i h g .q .low);
+}
+
+-- ---- a row over a box that holds the state, and over commands that hold the one used
+
+pub bound-holds : (up : Bool) (n : ℕ) (r : Row) (B x : List ℤ) (u v w : ℤ) → In n B x → u ≤ℤ v → v ≤ℤ w → Beyond up (bound up n r B u w) (numerator n r x v)
+unfolding bound weighted numerator
+bound-holds up n r B x u v w b h k =
+    beyond-sum (beyond-sum (sum-beyond n _ _ (λ j l. span up (r .a j) _ _ (x ! j) (b .low j l) (b .high j l))) (span up (r .b) u w v h k)) (beyond-refl up (r .c))
+
+-- what band k's share in the rates over B is worked out over holds the state x and the command u
+pub record Covered (m : Machine) (B : List ℤ) (k : ℕ) (x : List ℤ) (u : ℤ) : Type 0 where
+  pub meets : T (bandMeets (m .sheet) (m .bands) k (lo B (m .var)) (hi B (m .var)))
+  pub state : In (m .n) (part m k B) x
+  pub least-used : least m k ≤ℤ u
+  pub most-used : u ≤ℤ greatest m k
+
+-- the part of a box that a band's row is bounded over holds those of the box's states that are in the band
+pub part-holds : (m : Machine) (k : ℕ) (B x : List ℤ) → In (m .n) B x → T (bandMeets (m .sheet) (m .bands) k (x ! (m .var)) (x ! (m .var))) → In (m .n) (part m k B) x
+part-holds m k B x b t = b
+
+pub tick-covered : {m : Machine} {x y : List ℤ} (B : List ℤ) → Proper m → In (m .n) B x → (t : Tick m x y) → Covered m B (t .band) x (t .used)
+tick-covered {m} {x} B ok b t = record {
+  meets = meets-show (meets-wider (b .low (m .var) (ok .var)) (b .high (m .var) (ok .var)) (meets-read (t .holds)));
+  state = part-holds m (t .band) B x b (t .holds);
+  least-used = t .least-used;
+  most-used = t .most-used;
+}
+
+-- ---- the rates
+
+cond-yes : (t : Bool) (x y : ℤ) → T t → cond t x y ≡ x
+cond-yes true x y h = refl
+cond-yes false x y h = absurd h
+
+-- a band's share in a rate bounds the outermost change from every state, with every command, that it covers
+pub share-bounds : {m : Machine} {B : List ℤ} {k : ℕ} {x : List ℤ} {u : ℤ} (up : Bool) (i : ℕ) → Covered m B k x u → 0 < natAbs (rowOf m k i .q)
+    → Beyond up (bandRate up m B i k) (change up (cap m i) (rowOf m k i) (numerator (m .n) (rowOf m k i) x u))
+unfolding bandRate
+share-bounds {m} {B} {k} {x} {u} up i c q =
+    rw (cond-yes _ _ _ (c .meets))
+    (change-mono up (cap m i) (rowOf m k i) _ _ q (bound-holds up (m .n) (rowOf m k i) (part m k B) x _ u _ (c .state) (c .least-used) (c .most-used)))
+
+-- a change lies within the cap
+clamp-within : (c z : ℤ) → pos 0 ≤ℤ c → Between (negℤ c) c (clamp c z)
+unfolding clamp
+clamp-within c z h = record { low = omega (ints, max-is (negℤ c) (minZ z c)); high = omega (ints, max-is (negℤ c) (minZ z c), min-is z c, neg c) }
+
+pub change-within : (up : Bool) (c : ℤ) (r : Row) (n : ℤ) → pos 0 ≤ℤ c → Between (negℤ c) c (change up c r n)
+unfolding change
+change-within false c r n h = clamp-within c _ h
+change-within true c r n h = clamp-within c _ h
+
+-- what lies within the cap is no further out than the one neutral value, and no further in than the other
+pub neutral-beyond : {c y : ℤ} → Between (negℤ c) c y → (up : Bool) → Beyond up (neutral (not up) c) y
+unfolding neutral
+neutral-beyond h false = record { order = h .low }
+neutral-beyond h true = record { order = h .high }
+
+pub beyond-neutral : {c y : ℤ} → Between (negℤ c) c y → (up : Bool) → Beyond up y (neutral up c)
+unfolding neutral
+beyond-neutral h false = record { order = h .high }
+beyond-neutral h true = record { order = h .low }
+
+-- so it is the outer one of itself and the neutral value; and the outer one of it and a change lies within the cap too
+pub outer-neutral : {c z : ℤ} → Between (negℤ c) c z → (up : Bool) → outer up z (neutral up c) ≡ z
+unfolding outer neutral
+outer-neutral {c} {z} h false = omega (ints, min-is z c, h .high)
+outer-neutral {c} {z} h true = omega (ints, max-is z (negℤ c), h .low)
+
+pub outer-within : {c z : ℤ} → Between (negℤ c) c z → (up : Bool) (r : Row) (n : ℤ) → Between (negℤ c) c (outer up z (change up c r n))
+outer-within {c} h up r n = outer-one (Between (negℤ c) c) up h (change-within up c r n (omega (ints, h .low, h .high, neg c)))
+
+module _ {m : Machine} {x y : List ℤ} (ok : Proper m) (t : Tick m x y) (i : ℕ) (h : i < m .n) where
+  allowed : (up : Bool) → Beyond up (change up (cap m i) (rowOf m (t .band) i) (numerator (m .n) (rowOf m (t .band) i) x (t .used))) (y ! i -ℤ x ! i)
+  allowed false = record { order = t .change i h .above }
+  allowed true = record { order = t .change i h .below }
+
+  -- a tick from a state of B changes variable i by no more than its rates over B
+  pub rate-bounds : (up : Bool) (B : List ℤ) → In (m .n) B x → Beyond up (rate up m B i) (y ! i -ℤ x ! i)
+  unfolding rate
+  rate-bounds up B b =
+      beyond-trans (outermost-at up _ (m .bands) _ (t .band) (t .among))
+      (beyond-trans (share-bounds up i (tick-covered B ok b t) (ok .divisors (t .band) i (t .among) h)) (allowed up))
+
+  -- and by no more than its cap
+  pub cap-bounds : (up : Bool) → Beyond up (neutral (not up) (cap m i)) (y ! i -ℤ x ! i)
+  cap-bounds up = beyond-trans (neutral-beyond (change-within up (cap m i) _ _ (ok .caps i h)) up) (allowed up)
+
+-- the rates too lie within the cap
+neutral-within : (up : Bool) (c : ℤ) → pos 0 ≤ℤ c → Between (negℤ c) c (neutral up c)
+unfolding neutral
+neutral-within false c h = record { low = omega (ints, neg c); high = ≤ℤ-refl c }
+neutral-within true c h = record { low = ≤ℤ-refl (negℤ c); high = omega (ints, neg c) }
+
+-- the outermost of some bands' shares, and so a rate
+pub outermost-within : (up : Bool) (m : Machine) (B : List ℤ) (i n : ℕ) → pos 0 ≤ℤ cap m i → Between (negℤ (cap m i)) (cap m i) (outermost up (neutral up (cap m i)) n (bandRate up m B i))
+unfolding bandRate
+outermost-within up m B i n h =
+    let z = neutral-within up (cap m i) h in
+    outermost-one (Between (negℤ (cap m i)) (cap m i)) up n (bandRate up m B i) z
+    (λ k g. cond-one (Between (negℤ (cap m i)) (cap m i)) (bandMeets (m .sheet) (m .bands) k (lo B (m .var)) (hi B (m .var))) (change-within up (cap m i) (rowOf m k i) _ h) z)
+
+pub rate-within : (up : Bool) (m : Machine) (B : List ℤ) (i : ℕ) → pos 0 ≤ℤ cap m i → Between (negℤ (cap m i)) (cap m i) (rate up m B i)
+unfolding rate
+rate-within up m B i h = outermost-within up m B i (m .bands) h

@@ -1,0 +1,93 @@
+-- The machine on a sheet (document 01, "The machine on a sheet"): bands, laws, allowed changes, ticks.
+use mathlib.Core.Path.{_≡_}
+use mathlib.Core.Bool.{Bool, true, false, _&&_, _||_}
+use mathlib.Core.List.{List}
+use Prim.Native.Nat.{ℕ, _+_, _<_}
+use lib.Dec.{T, leb}
+use lib.IntN.{ℤ, negℤ, natAbs, _+ℤ_, _-ℤ_, _*ℤ_}
+use lib.Signed.{leZ, ltZ, _≤ℤ_}
+use lib.ListN.{length}
+use Rattle.integers.specs.Order.{minZ, maxZ}
+use Rattle.integers.specs.Division.{floorDiv, ceilDiv}
+use Rattle.sheet_spec.specs.Slots.{_!_, Row, vars, bands, bandVar, row}
+use Rattle.sheet_spec.specs.Slots as sheet
+use Rattle.machine_spec.specs.Box.{sum}
+
+-- what acts on the motor: the plain law, or one command
+pub data Law : Type 0 where
+  baseline : Law
+  command : ℤ → Law
+
+-- the plain law, or else the command u
+unfoldable pub lawOf : Bool → ℤ → Law
+lawOf true u = baseline
+lawOf false u = command u
+
+-- a sheet's machine under a law
+pub record Machine : Type 0 where
+  pub n : ℕ
+  pub bands : ℕ
+  -- the band variable
+  pub var : ℕ
+  pub law : Law
+  -- the sheet's value
+  pub sheet : List ℤ
+
+abbrev pub machine : List ℤ → Law → Machine
+machine v l = record { n = vars v; bands = bands v; var = bandVar v; law = l; sheet = v }
+
+abbrev pub cap : Machine → ℕ → ℤ
+cap m i = sheet.cap (m .sheet) i
+
+abbrev pub rowOf : Machine → ℕ → ℕ → Row
+rowOf m k i = row (m .sheet) k i
+
+-- the law's commands in band k run from `least` to `greatest`: under the plain law the band's safety range
+unfoldable pub leastOf : Law → List ℤ → ℕ → ℤ
+leastOf baseline v k = sheet.safetyLeast v k
+leastOf (command u) v k = u
+
+unfoldable pub greatestOf : Law → List ℤ → ℕ → ℤ
+greatestOf baseline v k = sheet.safetyGreatest v k
+greatestOf (command u) v k = u
+
+abbrev pub least : Machine → ℕ → ℤ
+least m k = leastOf (m .law) (m .sheet) k
+
+abbrev pub greatest : Machine → ℕ → ℤ
+greatest m k = greatestOf (m .law) (m .sheet) k
+
+-- band k has a number from l to h: it runs from its edge up to just below the next edge, the last without end
+unfoldable pub bandMeets : List ℤ → ℕ → ℕ → ℤ → ℤ → Bool
+bandMeets v bands k l h = leZ (sheet.edge v k) h && (leb bands (k + 1) || ltZ l (sheet.edge v (k + 1)))
+
+-- ---- the allowed change
+
+unfoldable pub clamp : ℤ → ℤ → ℤ
+clamp cap z = maxZ (negℤ cap) (minZ z cap)
+
+-- N = Σ aj·xj + b·u + c
+unfoldable pub numerator : ℕ → Row → List ℤ → ℤ → ℤ
+numerator n r x u = sum n (λ j. r .a j *ℤ x ! j) +ℤ r .b *ℤ u +ℤ r .c
+
+-- the least (for a lower face, `false`) and the greatest (upper, `true`) allowed change where N is the row's number
+unfoldable pub change : Bool → ℤ → Row → ℤ → ℤ
+change false cap r N = clamp cap (floorDiv (N -ℤ r .d) (natAbs (r .q)))
+change true cap r N = clamp cap (ceilDiv (N +ℤ r .d) (natAbs (r .q)))
+
+-- variable i may change by y from the state x, in band k under the command u
+pub record Allowed (m : Machine) (k : ℕ) (x : List ℤ) (u : ℤ) (i : ℕ) (y : ℤ) : Type 0 where
+  pub above : change false (cap m i) (rowOf m k i) (numerator (m .n) (rowOf m k i) x u) ≤ℤ y
+  pub below : y ≤ℤ change true (cap m i) (rowOf m k i) (numerator (m .n) (rowOf m k i) x u)
+
+-- a tick from the state x to the state y: one band holds x, one of the law's commands is used for all variables, and each
+-- variable takes an allowed change
+pub record Tick (m : Machine) (x y : List ℤ) : Type 0 where
+  pub size : length y ≡ m .n
+  pub band : ℕ
+  pub among : band < m .bands
+  pub holds : T (bandMeets (m .sheet) (m .bands) band (x ! (m .var)) (x ! (m .var)))
+  pub used : ℤ
+  pub least-used : least m band ≤ℤ used
+  pub most-used : used ≤ℤ greatest m band
+  pub change : (i : ℕ) → i < m .n → Allowed m band x used i (y ! i -ℤ x ! i)

@@ -1,0 +1,65 @@
+-- The rates of a box's faces (document 01, "One lifted step"). All of it computes.
+-- A face is `false` for a lower and `true` for an upper one.
+use mathlib.Core.Bool.{Bool, true, false, cond}
+use mathlib.Core.List.{List}
+use Prim.Native.Nat.{ℕ, zero, suc, _+_}
+use lib.IntN.{ℤ, pos, negℤ, _+ℤ_, _-ℤ_, _*ℤ_}
+use lib.ListN.{set}
+use Rattle.integers.specs.Order.{minZ, maxZ}
+use Rattle.sheet_spec.specs.Slots.{N, Row}
+use Rattle.machine_spec.specs.Box.{lo, hi, sum, sides}
+use Rattle.machine_spec.specs.Machine.{Machine, cap, rowOf, least, greatest, bandMeets, change}
+
+-- ---- rates over a box
+
+-- the smaller for a lower face, the greater for an upper
+unfoldable pub outer : Bool → ℤ → ℤ → ℤ
+outer false a b = minZ a b
+outer true a b = maxZ a b
+
+-- the outermost of z and f 0, .. f (n − 1)
+unfoldable pub outermost : Bool → ℤ → ℕ → (ℕ → ℤ) → ℤ
+outermost up z zero f = z
+outermost up z (suc n) f = outer up (outermost up z n f) (f n)
+
+-- Σ aj·xj over the box, side by side
+unfoldable pub weighted : Bool → ℕ → Row → List ℤ → ℤ
+weighted up n r B = sum n (λ j. outer up (r .a j *ℤ lo B j) (r .a j *ℤ hi B j))
+
+-- a row's number N bounded over a box and over the commands from u to v
+unfoldable pub bound : Bool → ℕ → Row → List ℤ → ℤ → ℤ → ℤ
+bound up n r B u v = weighted up n r B +ℤ outer up (r .b *ℤ u) (r .b *ℤ v) +ℤ r .c
+
+-- what band k's row is bounded over: the whole box
+abbrev pub part : Machine → ℕ → List ℤ → List ℤ
+part m k B = B
+
+-- the value that leaves the outermost as it is
+unfoldable pub neutral : Bool → ℤ → ℤ
+neutral false cap = cap
+neutral true cap = negℤ cap
+
+-- band k's share in the rate of variable i over the box
+unfoldable pub bandRate : Bool → Machine → List ℤ → ℕ → ℕ → ℤ
+bandRate up m B i k =
+    cond (bandMeets (m .sheet) (m .bands) k (lo B (m .var)) (hi B (m .var)))
+    (change up (cap m i) (rowOf m k i) (bound up (m .n) (rowOf m k i) (part m k B) (least m k) (greatest m k)))
+    (neutral up (cap m i))
+
+-- the least (greatest) allowed change of variable i over the box: all commands, and every band that the box meets
+unfoldable pub rate : Bool → Machine → List ℤ → ℕ → ℤ
+rate up m B i = outermost up (neutral up (cap m i)) (m .bands) (bandRate up m B i)
+
+-- ---- the rates of a round: a step of length k from the box S, with the working box E
+
+-- the neighborhood (document 01: slab) of a face of variable i: the part of E within `reach` of S's face
+unfoldable pub neighborhood : Bool → List ℤ → ℤ → List ℤ → ℕ → List ℤ
+neighborhood false S reach E i = set E (i + N) (minZ (hi E i) (lo S i +ℤ reach))
+neighborhood true S reach E i = set E i (maxZ (lo E i) (hi S i -ℤ reach))
+
+unfoldable pub faceRate : Bool → Machine → List ℤ → ℕ → List ℤ → ℕ → ℤ
+faceRate up m S k E i = rate up m (neighborhood up S (pos (k + 1) *ℤ cap m i) E i) i
+
+-- the rates of all faces, as a box
+unfoldable pub rates : Machine → List ℤ → ℕ → List ℤ → List ℤ
+rates m S k E = sides (m .n) (faceRate false m S k E) (faceRate true m S k E)

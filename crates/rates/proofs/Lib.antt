@@ -1,3 +1,0 @@
-pub mod Cut
-pub mod Rates
-pub mod Sides

@@ -1,0 +1,5 @@
+mod ByteNumbers
+pub mod RecordTurn
+pub mod FieldTurn
+pub mod ReaderAnswer
+pub mod SlotNumber

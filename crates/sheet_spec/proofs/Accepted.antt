@@ -1,0 +1,87 @@
+-- What it tells that a file is accepted. Assumes nothing.
+use mathlib.Core.Path.{_≡_, sym, _∙_, subst}
+use mathlib.Core.Bool.{true, _&&_}
+use mathlib.Core.List.{List}
+use mathlib.Core.Logic.{⊎-elim}
+use Prim.Native.Nat.{ℕ, _+_, _≤_, _<_}
+use native.Mathlib.Omega.{arith}
+use lib.Dec.{eqb, leb}
+use lib.IntN.{ℤ, pos, natAbs}
+use lib.ListN.{length, drop, length-replicate, getD-replicate, List·getD-eq-default}
+use borrow.Author.Tests.{eqb-true, leb-true}
+use Rattle.sheet_spec.specs.Slots.{_!_, slots, headSize, vars, varsSlot, bandsSlot, boxesSlot}
+use Rattle.sheet_spec.specs.Fields.{decoded, offset}
+use Rattle.sheet_spec.specs.Refusals.{Cause}
+use Rattle.sheet_spec.specs.Sizes.{letters, capsAt}
+use Rattle.sheet_spec.specs.Layout.{_▸_, Record, headFields, fields, count, head}
+use Rattle.sheet_spec.specs.File.{shape, records, fieldsAt, countAt, start, marked, markedAt}
+use Rattle.sheet_spec.specs.Sheet.{zeros, headOf, shapeOf, contents, stage, refusal, values}
+use Rattle.sheet_spec.proofs.Streams.{lt-or-le}
+use Rattle.sheet_spec.proofs.Laws.{InRange, AllGood, first-none, unless-zero, both, bad-ranges, all-marks, all-good}
+use Rattle.sheet_spec.proofs.Records.{EachField, head-at}
+use Rattle.sheet_spec.proofs.Places.{Small, head-slot}
+use Rattle.sheet_spec.proofs.Filled.{filled-at, all-at}
+use Rattle.sheet_spec.proofs.Ranges.{small}
+
+pub length-zeros : length zeros ≡ slots
+unfolding zeros
+length-zeros = length-replicate slots (pos 0)
+
+pub zeros-at : (i : ℕ) → zeros ! i ≡ pos 0
+unfolding zeros
+zeros-at i = ⊎-elim (λ (l : i < slots). getD-replicate slots i (pos 0) (pos 0) l) (λ (l : slots ≤ i). List·getD-eq-default zeros (pos 0) {n = i} (omega (arith, length-zeros))) (lt-or-le i slots)
+
+-- ---- the four tests
+
+pub record Accepted (f : List ℕ) : Type 0 where
+  pub least : capsAt ≤ length f
+  pub small : Small (shapeOf f)
+  pub size : length f ≡ start (shapeOf f) (records (shapeOf f))
+  pub marks : (r : ℕ) → r < records (shapeOf f) → markedAt (shapeOf f) f r ≡ true
+  pub good : EachField (InRange (contents f)) (shapeOf f)
+  pub values : values f ≡ contents f
+
+pub accepted : (f : List ℕ) → refusal f ≡ 0 → Accepted f
+unfolding refusal stage values shapeOf
+accepted f e =
+    let s = shapeOf f in
+    let t = first-none (stage f) 4 e in
+    record {
+      least = leb-true _ _ (both _ _ (unless-zero (leb capsAt (length f) && marked f 0 head) Cause.beginning (t .at 0 (omega arith))) .0);
+      small = small (headOf f) (bad-ranges headFields (headOf f) headSize (t .at 1 (omega arith)));
+      size = eqb-true _ _ (unless-zero (eqb (length f) (start s (records s))) Cause.size (t .at 2 (omega arith)));
+      marks = all-marks (markedAt s f) s (contents f) (records s) (t .at 3 (omega arith));
+      good = all-good (markedAt s f) s (contents f) (records s) (t .at 3 (omega arith));
+      values = rw (e, values);
+    }
+
+-- ---- an accepted file's values pass the writer's tests: the counts are those that the head names
+
+module _ (v w : List ℤ) where
+  pub shape-same : v ! varsSlot ≡ w ! varsSlot → v ! bandsSlot ≡ w ! bandsSlot → v ! boxesSlot ≡ w ! boxesSlot → shape v ≡ shape w
+  shape-same p q r = λ i. record { vars = natAbs (p i); bands = natAbs (q i); boxes = natAbs (r i) }
+
+pub head-number : (f : List ℕ) (j : ℕ) → j < headSize → headOf f ! headFields j .slot ≡ decoded (headFields j .kind) (drop (letters + offset headFields j) f)
+unfolding headOf
+head-number f =
+    filled-at headFields f letters headSize zeros (λ i j a b e. omega (arith, head-slot i, head-slot j)) (λ j l. omega (arith, head-slot j, length-zeros))
+
+module _ (f : List ℕ) (m : Small (shapeOf f)) where
+  pub number-at : (r : ℕ) → r < records (shapeOf f) → (j : ℕ) → j < countAt (shapeOf f) r
+      → contents f ! fieldsAt (shapeOf f) r j .slot ≡ decoded (fieldsAt (shapeOf f) r j .kind) (drop (start (shapeOf f) r + letters + offset (fieldsAt (shapeOf f) r) j) f)
+  unfolding contents
+  number-at = all-at (shapeOf f) f m zeros length-zeros (records (shapeOf f)) (omega arith)
+
+  same-head : (j : ℕ) → j < headSize → contents f ! headFields j .slot ≡ headOf f ! headFields j .slot
+  unfolding fields start
+  same-head j l =
+      let s = shapeOf f in
+      let P : Record → Type 0 = λ x. j < count (s .vars) x → contents f ! fields (s .vars) x j .slot ≡ decoded (fields (s .vars) x j .kind) (drop (0 + letters + offset (fields (s .vars) x) j) f) in
+      subst P (head-at s) (number-at 0 (omega arith) j) (omega arith) ∙ sym (head-number f j l)
+
+  pub same-shape : shape (contents f) ≡ shapeOf f
+  unfolding headFields _▸_ shapeOf
+  same-shape = shape-same (contents f) (headOf f) (same-head varsSlot (omega arith)) (same-head bandsSlot (omega arith)) (same-head boxesSlot (omega arith))
+
+pub contents-good : (f : List ℕ) → Accepted f → AllGood (contents f)
+contents-good f a = subst (EachField (InRange (contents f))) (sym (same-shape f (a .small))) (a .good)

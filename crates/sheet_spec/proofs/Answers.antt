@@ -1,0 +1,90 @@
+-- What the reader and the writer answer, test by test. Assumes nothing.
+use mathlib.Core.Path.{_≡_, refl, sym, ap}
+use mathlib.Core.Bool.{Bool, true, false, _&&_}
+use mathlib.Core.List.{List}
+use Prim.Native.Nat.{ℕ, zero, suc, _+_, _≤_, _<_}
+use native.Mathlib.Omega.{arith}
+use lib.Dec.{leb}
+use lib.IntN.{ℤ}
+use lib.ListN.{length}
+use lib.Seq.{sets}
+use borrow.Author.Tests.{eq-eqb, ne-eqb, le-leb, lt-leb}
+use Rattle.sheet_spec.specs.Slots.{headSize, vars}
+use Rattle.sheet_spec.specs.Refusals.{Cause, number, unless, firstRefusal}
+use Rattle.sheet_spec.specs.Fields.{bad, test}
+use Rattle.sheet_spec.specs.Sizes.{capsAt}
+use Rattle.sheet_spec.specs.Layout.{_▸_, head, headFields, fields}
+use Rattle.sheet_spec.specs.File.{shape, records, recordAt, start, marked, markedAt, badRecord, badAll}
+use Rattle.sheet_spec.specs.Sheet.{headOf, shapeOf, contents, stage, refusal, valueRefusal, length-of, bytesOf, writeRefusal, written}
+use Rattle.sheet_spec.proofs.Laws.{first-next, first-keep, number-is}
+
+-- ---- reading
+
+module _ (f : List ℕ) where
+  -- the test that refuses first decides
+  at-stage : (i c : ℕ) → i < 4 → firstRefusal (stage f) i ≡ 0 → c ≡ stage f i → (c ≡ 0 → ⊥) → c ≡ refusal f
+  unfolding refusal
+  at-stage i c l z e n = first-keep (stage f) (i + 1) 4 c (omega arith) n (first-next (stage f) i c z e)
+
+  pub refused-beginning : leb capsAt (length f) && marked f 0 head ≡ false → number Cause.beginning ≡ refusal f
+  unfolding stage firstRefusal
+  refused-beginning e = at-stage 0 1 (omega arith) refl (ap (λ (b : Bool). unless b Cause.beginning) (sym e)) (number-is Cause.beginning)
+
+  module _ (begun : leb capsAt (length f) && marked f 0 head ≡ true) where
+    one : firstRefusal (stage f) 1 ≡ 0
+    unfolding stage firstRefusal
+    one = first-next (stage f) 0 0 refl (ap (λ (b : Bool). unless b Cause.beginning) (sym begun))
+
+    pub refused-head : (c : ℕ) → c ≡ bad headFields (headOf f) headSize → (c ≡ 0 → ⊥) → c ≡ refusal f
+    unfolding stage
+    refused-head c e n = at-stage 1 c (omega arith) one e n
+
+    module _ (headed : 0 ≡ bad headFields (headOf f) headSize) where
+      two : firstRefusal (stage f) 2 ≡ 0
+      unfolding stage
+      two = first-next (stage f) 1 0 one headed
+
+      pub refused-size : (length f ≡ start (shapeOf f) (records (shapeOf f)) → ⊥) → number Cause.size ≡ refusal f
+      unfolding stage
+      refused-size n =
+          at-stage 2 5 (omega arith) two (ap (λ (b : Bool). unless b Cause.size) (sym (ne-eqb (length f) (start (shapeOf f) (records (shapeOf f))) n))) (number-is Cause.size)
+
+      pub answer : length f ≡ start (shapeOf f) (records (shapeOf f)) → badAll (markedAt (shapeOf f) f) (shapeOf f) (contents f) (records (shapeOf f)) ≡ refusal f
+      unfolding stage refusal
+      answer e =
+          sym (first-next (stage f) 3 _ (first-next (stage f) 2 0 two (ap (λ (b : Bool). unless b Cause.size) (sym (eq-eqb (length f) (start (shapeOf f) (records (shapeOf f))) e)))) refl)
+
+-- ---- writing
+
+-- a bad number of the head decides before the counts count
+pub value-head : (v : List ℤ) (c : ℕ) → c ≡ bad headFields v headSize → (c ≡ 0 → ⊥) → c ≡ valueRefusal v
+unfolding valueRefusal badAll bad fields recordAt _▸_ firstRefusal
+value-head v c e n =
+    let s = shape v in
+    let d = first-keep (λ j. test v (headFields j)) headSize (headSize + vars v) c (omega arith) n (sym e) in
+    first-keep (badRecord (λ r. true) s v) 1 (records s) c (omega arith) n (first-next (badRecord (λ r. true) s v) 0 c refl d)
+
+module _ (v : List ℤ) (buffer : List ℕ) (place : ℕ) where
+  pub record Answer (c : ℕ) (after : List ℕ) : Type 0 where
+    pub refusal : c ≡ writeRefusal v buffer place
+    pub left : after ≡ written v buffer place
+
+  refused : (c : ℕ) → c ≡ writeRefusal v buffer place → (c ≡ 0 → ⊥) → Answer c buffer
+  unfolding written
+  refused zero e n = absurd (n refl)
+  refused (suc c) e n = record { refusal = e; left = rw (← e, written) }
+
+  pub write-bad : (c : ℕ) → c ≡ valueRefusal v → (c ≡ 0 → ⊥) → Answer c buffer
+  unfolding writeRefusal
+  write-bad zero e n = absurd (n refl)
+  write-bad (suc c) e n = refused (suc c) (rw (← e, writeRefusal)) n
+
+  pub write-short : 0 ≡ valueRefusal v → length buffer < place + length-of v → Answer (number Cause.room) buffer
+  unfolding writeRefusal
+  write-short e l = refused 17 (rw (← e, writeRefusal, lt-leb (place + length-of v) (length buffer) l)) (number-is Cause.room)
+
+  pub write-done : 0 ≡ valueRefusal v → place + length-of v ≤ length buffer → Answer 0 (sets buffer place (bytesOf v))
+  unfolding writeRefusal written
+  write-done e l =
+      let q : 0 ≡ writeRefusal v buffer place = rw (← e, writeRefusal, le-leb (place + length-of v) (length buffer) l) in
+      record { refusal = q; left = rw (← q, written) }

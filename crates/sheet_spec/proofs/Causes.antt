@@ -1,0 +1,57 @@
+-- A sheet's refusal is at most 17. Assumes nothing.
+use mathlib.Core.Bool.{Bool, true, false, _&&_}
+use mathlib.Core.List.{List}
+use Prim.Native.Nat.{ℕ, zero, suc, _≤_}
+use native.Mathlib.Omega.{arith}
+use lib.Dec.{eqb, leb}
+use lib.IntN.{ℤ}
+use lib.ListN.{length}
+use lib.Signed.{leZ}
+use Rattle.sheet_spec.specs.Slots.{_!_, headSize}
+use Rattle.sheet_spec.specs.Refusals.{Cause, number, unless, firstRefusal}
+use Rattle.sheet_spec.specs.Fields.{Field, test, bad}
+use Rattle.sheet_spec.specs.Sizes.{capsAt}
+use Rattle.sheet_spec.specs.Layout.{head, headFields}
+use Rattle.sheet_spec.specs.File.{Shape, records, fieldsAt, countAt, start, marked, markedAt, badRecord, badAll}
+use Rattle.sheet_spec.specs.Sheet.{headOf, shapeOf, contents, stage, refusal}
+use Rattle.sheet_spec.proofs.Laws.{number-range}
+
+first-most : (h : ℕ → ℕ) {most : ℕ} → ((j : ℕ) → h j ≤ most) → (k : ℕ) → firstRefusal h k ≤ most
+unfolding firstRefusal
+first-most h a zero = omega arith
+first-most h {most} a (suc k) = go (firstRefusal h k) (first-most h a k)
+  where
+    go : (c : ℕ) → c ≤ most → elim c [ zero ↦ h k | suc c ↦ suc c ] ≤ most
+    go zero l = a k
+    go (suc c) l = l
+
+unless-most : (b : Bool) (c : Cause) → unless b c ≤ 17
+unless-most true c = omega arith
+unless-most false c = number-range c .1
+
+test-most : (v : List ℤ) (x : Field) → test v x ≤ 17
+unfolding test
+test-most v x = unless-most (leZ (x .least v) (v ! x .slot) && leZ (v ! x .slot) (x .greatest v)) (x .cause)
+
+bad-most : (p : ℕ → Field) (v : List ℤ) (k : ℕ) → bad p v k ≤ 17
+unfolding bad
+bad-most p v = first-most (λ j. test v (p j)) (λ j. test-most v (p j))
+
+all-most : (marks : ℕ → Bool) (s : Shape) (v : List ℤ) (k : ℕ) → badAll marks s v k ≤ 17
+unfolding badAll
+all-most marks s v = first-most (badRecord marks s v) (λ r. go r (marks r))
+  where
+    go : (r : ℕ) (b : Bool) → elim b [ true ↦ bad (fieldsAt s r) v (countAt s r) | false ↦ number Cause.mark ] ≤ 17
+    go r true = bad-most (fieldsAt s r) v (countAt s r)
+    go r false = omega arith
+
+stage-most : (f : List ℕ) (i : ℕ) → stage f i ≤ 17
+unfolding stage
+stage-most f zero = unless-most (leb capsAt (length f) && marked f 0 head) Cause.beginning
+stage-most f (suc zero) = bad-most headFields (headOf f) headSize
+stage-most f (suc (suc zero)) = let s = shapeOf f in unless-most (eqb (length f) (start s (records s))) Cause.size
+stage-most f (suc (suc (suc i))) = let s = shapeOf f in all-most (markedAt s f) s (contents f) (records s)
+
+pub refusal-most : (f : List ℕ) → refusal f ≤ 17
+unfolding refusal
+refusal-most f = first-most (stage f) (stage-most f) 4

@@ -1,0 +1,96 @@
+-- The definitions at sheet A, whole and damaged. Assumes nothing.
+use mathlib.Core.Path.{_≡_, refl}
+use mathlib.Core.List.{List, [], _∷_, _++_, map}
+use Prim.Native.Nat.{ℕ, _+_, _^_}
+use lib.IntN.{ℤ, pos, negsuc}
+use lib.ListN.{take, replicate}
+use lib.Seq.{sets}
+use Rattle.sheet_spec.specs.Slots.{N, bandSlot, rowSlot, recoverySlot, unsafeSlot}
+use Rattle.sheet_spec.specs.Sheet.{zeros, refusal, values, bytesOf, length-of, writeRefusal, written}
+use Rattle.sheet_spec.specs.SheetA.{fileA}
+use Rattle.sheet_spec.proofs.Everything.{everything}
+
+-- ---- sheet A
+
+-- its head with the cap; edge, safety range and a; b, c, d, q; the two sides of each box
+valueA : List ℤ
+valueA =
+    sets (sets (sets (sets (sets (sets (sets zeros
+    0 (pos 1 ∷ pos 1 ∷ pos 1 ∷ pos 0 ∷ pos 4 ∷ pos 4 ∷ pos 4 ∷ negsuc 24 ∷ pos 25 ∷ pos 5 ∷ []))
+    (bandSlot 0) (negsuc 1999999 ∷ pos 0 ∷ pos 0 ∷ negsuc 0 ∷ []))
+    (rowSlot 0 0 + N) (pos 4 ∷ pos 0 ∷ pos 0 ∷ pos 20 ∷ []))
+    (unsafeSlot 0) (pos 130 ∷ [])) (unsafeSlot 0 + N) (pos 2000000 ∷ []))
+    recoverySlot (negsuc 99 ∷ [])) (recoverySlot + N) (pos 100 ∷ [])
+
+readA : (refusal fileA ≡ 0) × (values fileA ≡ valueA)
+unfolding everything valueA
+readA = (refl, refl)
+
+backA : (bytesOf valueA ≡ fileA) × (length-of valueA ≡ 70)
+unfolding everything valueA
+backA = (refl, refl)
+
+-- ---- a damaged file, and its refusal
+
+damage : ℕ → List ℕ → List ℕ
+damage = sets fileA
+
+damaged : List (List ℕ × ℕ)
+damaged =
+    (take 19 fileA, 1)
+    ∷ (damage 1 (73 ∷ []), 1)
+    -- n, bands, no-go boxes, band variable
+    ∷ (damage 2 (0 ∷ []), 2)
+    ∷ (damage 2 (5 ∷ []), 2)
+    ∷ (damage 3 (9 ∷ []), 2)
+    ∷ (damage 4 (255 ∷ []), 2)
+    ∷ (damage 5 (1 ∷ []), 2)
+    -- δ + α = 1,000, and 1,001; ρ
+    ∷ (damage 6 (0 ∷ 1 ∷ 3 ∷ 231 ∷ []), 0)
+    ∷ (damage 6 (0 ∷ 1 ∷ 3 ∷ 232 ∷ []), 3)
+    ∷ (damage 10 (3 ∷ 233 ∷ []), 3)
+    -- least command over the greatest
+    ∷ (damage 15 (231 ∷ 255 ∷ []), 4)
+    -- length, which comes before the cap
+    ∷ (take 69 fileA, 5)
+    ∷ (fileA ++ (0 ∷ []), 5)
+    ∷ (take 69 (damage 21 (0 ∷ [])), 5)
+    ∷ (damage 21 (0 ∷ []), 6)
+    -- marks, each before its record's numbers
+    ∷ (damage 23 (0 ∷ 0 ∷ []), 7)
+    ∷ (damage 50 (82 ∷ []), 7)
+    ∷ (damage 49 (0 ∷ 82 ∷ []), 10)
+    ∷ (damage 60 (78 ∷ []), 7)
+    ∷ (damage 27 (129 ∷ []), 8)
+    -- the safety range, with ends in the wrong order
+    ∷ (damage 31 (26 ∷ 0 ∷ 0 ∷ 0 ∷ 26 ∷ []), 9)
+    ∷ (damage 31 (1 ∷ []), 9)
+    -- a = 1,001, d = −1, q = 4,097
+    ∷ (damage 36 (3 ∷ 233 ∷ []), 10)
+    ∷ (damage 44 (255 ∷ 255 ∷ 255 ∷ 255 ∷ []), 10)
+    ∷ (damage 48 (16 ∷ 1 ∷ []), 10)
+    -- a no-go side of 2,000,001, one of the recovery box of 1,000,001
+    ∷ (damage 59 (129 ∷ []), 11)
+    ∷ (damage 66 (0 ∷ 15 ∷ 66 ∷ 65 ∷ []), 11)
+    ∷ []
+
+refusals : map (λ t. refusal (t .0)) damaged ≡ map (λ t. t .1) damaged
+unfolding everything damaged damage
+refusals = refl
+
+zerosA : values (take 69 fileA) ≡ zeros
+unfolding everything
+zerosA = refl
+
+-- ---- writing: into a buffer of 80 bytes from place 5 on; with one byte too few; from the greatest place; a value out of range, which comes first
+
+buffer : List ℕ
+buffer = replicate 80 7
+
+writtenA : written valueA buffer 5 ≡ replicate 5 7 ++ (fileA ++ replicate 5 7)
+unfolding everything valueA buffer
+writtenA = refl
+
+roomA : (writeRefusal valueA buffer 11 ≡ 17) × (written valueA buffer 11 ≡ buffer) × (writeRefusal valueA buffer (2 ^ 64) ≡ 17) × (writeRefusal (sets valueA 4 (pos 997 ∷ [])) buffer 11 ≡ 3)
+unfolding everything valueA buffer
+roomA = (refl, refl, refl, refl)

@@ -1,0 +1,109 @@
+-- Where a record's fields stand, and a sheet's length (document 01's formula). Assumes nothing.
+use mathlib.Core.Path.{_≡_, refl, ap, _∙_}
+use mathlib.Core.List.{List}
+use Prim.Native.Nat.{ℕ, zero, suc, _+_, _*_, _≤_, _<_}
+use native.Mathlib.Omega.{arith}
+use native.Mathlib.Nat.{zero-mul, suc-mul, mul-comm}
+use lib.IntN.{ℤ}
+use Rattle.sheet_spec.specs.Slots.{headSize, rowSlot, recoverySlot, unsafeSlot, vars, bands, boxes, restSize, firstRow, sides}
+use Rattle.sheet_spec.specs.Fields.{u16, i16, Field, width, offset}
+use Rattle.sheet_spec.specs.Sizes.{letters, capsAt, capBytes, rowsAt, coefficientBytes, rowBytes, pairBytes, boxBytes, bandHead}
+use Rattle.sheet_spec.specs.Layout.{_▸_, unsafeLimit, recoveryLimit, capField, headFields, edgeField, rowRest, rowFields, bandFields, sideFields, boxFields, fields, count, Record, head, band, unsafe, recovery, rowCount}
+use Rattle.sheet_spec.specs.File.{Shape, shape, records, recordAt, start}
+use Rattle.sheet_spec.specs.Sheet.{length-of}
+use Rattle.sheet_spec.proofs.Records.{head-at, band-at, unsafe-at, recovery-at}
+use Rattle.sheet_spec.proofs.FieldRuns.{Run, offset-part}
+use Rattle.sheet_spec.proofs.FieldPlaces.{cap-at, coefficient-at, rest-at, row-run, side-run}
+
+-- fields of one width
+offset-flat : (p : ℕ → Field) (w k : ℕ) → ((j : ℕ) → j < k → width (p j .kind) ≡ w) → offset p k ≡ k * w
+unfolding offset
+offset-flat p w zero e = omega arith
+offset-flat p w (suc k) e = rw (suc-mul k w) (omega (arith, offset-flat p w k (λ j l. e j (omega arith)), e k (omega arith)))
+
+-- runs of m fields and w bytes each, of which run i starts at `at i`
+offset-runs : (p : ℕ → Field) (q : ℕ → ℕ → Field) (at : ℕ → ℕ) (m w : ℕ) → ((i : ℕ) → at (suc i) ≡ at i + m) → ((i : ℕ) → Run p (q i) (at i) m) → ((i : ℕ) → offset (q i) m ≡ w)
+    → (i : ℕ) → offset p (at i) ≡ offset p (at 0) + i * w
+offset-runs p q at m w e r h zero = omega (arith, zero-mul w)
+offset-runs p q at m w e r h (suc i) = ap (offset p) (e i) ∙ omega (arith, offset-part p (q i) (at i) m (r i), offset-runs p q at m w e r h i, h i, suc-mul i w)
+
+-- ---- the sheet's records
+
+pub cap-offset : (i : ℕ) → letters + offset headFields (headSize + i) ≡ capsAt + capBytes i
+unfolding offset headFields _▸_
+cap-offset i = omega (arith, offset-part headFields capField headSize i (record { at = λ j l. cap-at j }), offset-flat capField (width u16) i (λ j l. refl))
+
+pub coefficient-offset : (n s j : ℕ) → j ≤ n → offset (rowFields n s) j ≡ coefficientBytes j
+coefficient-offset n s j l = offset-flat (rowFields n s) (width i16) j (λ i k. ap (λ (x : Field). width (x .kind)) (coefficient-at n s i (omega arith))) ∙ mul-comm j (width i16)
+
+pub rest-offset : (n s q : ℕ) → offset (rowFields n s) (n + q) ≡ coefficientBytes n + offset (rowRest s) q
+rest-offset n s q = offset-part (rowFields n s) (rowRest s) n q (record { at = λ j l. rest-at n s j }) ∙ omega (arith, coefficient-offset n s n (omega arith))
+
+row-size : (n s : ℕ) → offset (rowFields n s) (rowCount n) ≡ rowBytes n
+unfolding offset rowRest _▸_
+row-size n s = rest-offset n s restSize
+
+-- before the rows: edge and safety range
+rows-offset : (n k : ℕ) → offset (bandFields n k) firstRow ≡ rowsAt
+unfolding offset bandFields edgeField _▸_
+rows-offset n zero = refl
+rows-offset n (suc k) = refl
+
+-- where row i of a band starts
+pub row-offset : (n k i : ℕ) → offset (bandFields n k) (firstRow + i * rowCount n) ≡ rowsAt + i * rowBytes n
+row-offset n k i =
+    let e : firstRow + 0 * rowCount n ≡ firstRow = omega (arith, zero-mul (rowCount n)) in
+    offset-runs (bandFields n k) (λ i. rowFields n (rowSlot k i)) (λ i. firstRow + i * rowCount n) (rowCount n) (rowBytes n) (λ i. omega (arith, suc-mul i (rowCount n))) (row-run n k) (λ i. row-size n (rowSlot k i)) i
+    ∙ ap (λ (a : ℕ). a + i * rowBytes n) (ap (offset (bandFields n k)) e ∙ rows-offset n k)
+
+-- where the sides of variable i start
+pub side-offset : (h s i : ℕ) → offset (boxFields h s) (i * sides) ≡ boxBytes i
+unfolding offset sideFields _▸_
+side-offset h s i =
+    offset-runs (boxFields h s) (λ i. sideFields h (s + i)) (λ i. i * sides) sides pairBytes (λ i. suc-mul i sides) (side-run h s) (λ i. refl) i ∙ omega arith
+
+-- ---- records, and the file
+
+-- so many bytes a record has
+abbrev pub recordSize : ℕ → Record → ℕ
+recordSize n head = capsAt + capBytes n
+recordSize n (band k) = bandHead + n * rowBytes n
+recordSize n (unsafe j) = letters + boxBytes n
+recordSize n recovery = letters + boxBytes n
+
+pub record-size : (n : ℕ) (x : Record) → letters + offset (fields n x) (count n x) ≡ recordSize n x
+unfolding fields
+record-size n head = cap-offset n
+record-size n (band k) = omega (arith, row-offset n k n)
+record-size n (unsafe j) = ap (λ (a : ℕ). letters + a) (side-offset unsafeLimit (unsafeSlot j) n)
+record-size n recovery = ap (λ (a : ℕ). letters + a) (side-offset recoveryLimit recoverySlot n)
+
+module _ (s : Shape) where
+  pub start-next : (r : ℕ) {x : Record} → recordAt s r ≡ x → start s (suc r) ≡ start s r + recordSize (s .vars) x
+  unfolding start
+  start-next r e = omega (arith, record-size (s .vars) (recordAt s r) ∙ ap (recordSize (s .vars)) e)
+
+  -- where band k starts, and no-go box j
+  pub band-start : (k : ℕ) → k ≤ s .bands → start s (1 + k) ≡ capsAt + capBytes (s .vars) + k * (bandHead + s .vars * rowBytes (s .vars))
+  unfolding start
+  band-start zero l = start-next 0 (head-at s) ∙ omega arith
+  band-start (suc k) l =
+      let e : 1 + suc k ≡ suc (1 + k) = omega arith in
+      ap (start s) e ∙ start-next (1 + k) (band-at s k l) ∙ omega (arith, band-start k (omega arith), suc-mul k (bandHead + s .vars * rowBytes (s .vars)))
+
+  pub unsafe-start : (j : ℕ) → j ≤ s .boxes → start s (1 + (s .bands + j)) ≡ start s (1 + s .bands) + j * (letters + boxBytes (s .vars))
+  unsafe-start zero l = let e : s .bands + 0 ≡ s .bands = omega arith in rw e (omega (arith, zero-mul (letters + boxBytes (s .vars))))
+  unsafe-start (suc j) l =
+      let e : 1 + (s .bands + suc j) ≡ suc (1 + (s .bands + j)) = omega arith in
+      ap (start s) e ∙ start-next (1 + (s .bands + j)) (unsafe-at s j l) ∙ omega (arith, unsafe-start j (omega arith), suc-mul j (letters + boxBytes (s .vars)))
+
+  pub file-length : start s (records s) ≡ capsAt + capBytes (s .vars) + s .bands * (bandHead + s .vars * rowBytes (s .vars)) + (letters + boxBytes (s .vars)) * (s .boxes + 1)
+  file-length =
+      let e : records s ≡ suc (1 + (s .bands + s .boxes)) = omega arith in
+      ap (start s) e ∙ start-next (1 + (s .bands + s .boxes)) (recovery-at s)
+      ∙ omega (arith, unsafe-start (s .boxes) (omega arith), band-start (s .bands) (omega arith), mul-comm (letters + boxBytes (s .vars)) (s .boxes + 1), suc-mul (s .boxes) (letters + boxBytes (s .vars)))
+
+-- the length of document 01
+pub length-is : (v : List ℤ) → length-of v ≡ 20 + 2 * vars v + bands v * (14 + vars v * (2 * vars v + 12)) + (2 + 8 * vars v) * (boxes v + 1)
+unfolding length-of
+length-is v = file-length (shape v)

@@ -1,0 +1,120 @@
+-- The round trips: what was read is written to the same bytes, and what was written is read as the same sheet. Assumes nothing.
+use mathlib.Core.Path.{_≡_, refl, sym, ap, _∙_, subst}
+use mathlib.Core.Bool.{true}
+use mathlib.Core.List.{List, [], _++_, append-assoc, append-nil}
+use Prim.Native.Nat.{ℕ, zero, suc, _+_, _≤_, _<_}
+use native.Mathlib.Omega.{arith}
+use lib.Dec.{leb}
+use lib.IntN.{ℤ}
+use lib.ListN.{length, take, drop}
+use lib.Seq.{take-all, take-at, drop-at, length-take-le, sets-eq}
+use borrow.Author.Tests.{eq-eqb, le-leb, leb-true}
+use Rattle.integers.specs.Bytes.{Bytes}
+use Rattle.sheet_spec.specs.Slots.{_!_, headSize, varsSlot, bandsSlot, boxesSlot}
+use Rattle.sheet_spec.specs.Refusals.{Cause, unless}
+use Rattle.sheet_spec.specs.Fields.{decoded, offset}
+use Rattle.sheet_spec.specs.Sizes.{letters, capsAt}
+use Rattle.sheet_spec.specs.Layout.{_▸_, Record, head, headFields, fields, count}
+use Rattle.sheet_spec.specs.File.{Shape, shape, records, fieldsAt, start, filledAll, codedAll, marked, markedAt, badAll}
+use Rattle.sheet_spec.specs.Sheet.{zeros, headOf, shapeOf, contents, stage, refusal, values, valueRefusal, length-of, bytesOf, writeRefusal, written, Same}
+use Rattle.sheet_spec.proofs.Streams.{Each}
+use Rattle.sheet_spec.proofs.Records.{EachField, each-head, head-at}
+use Rattle.sheet_spec.proofs.Laws.{InRange, AllGood, unless-zero, value-good, none-first, ranges-bad, good-all}
+use Rattle.sheet_spec.proofs.Filled.{all-at}
+use Rattle.sheet_spec.proofs.Ranges.{small, all-fit}
+use Rattle.sheet_spec.proofs.Accepted.{accepted, head-number, number-at, shape-same, same-shape, length-zeros}
+use Rattle.sheet_spec.proofs.Length.{file-length}
+use Rattle.sheet_spec.proofs.Says.{Says, bytes-of, says, length-codedAll}
+use Rattle.sheet_spec.proofs.Same.{Equal, same-good, same-head}
+
+pub write-read : (f : List ℕ) → Bytes f → refusal f ≡ 0 → bytesOf (values f) ≡ f
+unfolding bytesOf
+write-read f b e =
+    let a = accepted f e in
+    let s = shapeOf f in
+    ap bytesOf (a .values) ∙ ap (λ (s : Shape). codedAll s (contents f) (records s)) (same-shape f (a .small))
+    ∙ bytes-of s f (contents f) b (records s) (record { marks = a .marks; numbers = number-at f (a .small) }) (omega (arith, a .size))
+    ∙ take-all (start s (records s)) f (omega (arith, a .size))
+
+-- a file of the right length that says a sheet whose numbers are in range is accepted, and is read as that sheet
+module _ (v : List ℤ) (f : List ℕ) (g : AllGood v) (size : length f ≡ start (shape v) (records (shape v))) (t : Says (shape v) f v (records (shape v))) where
+  nine : Each (InRange v) headFields headSize
+  nine = record { at = λ j l. each-head (shape v) g .at j (omega arith) }
+
+  head-equal : Each (Equal v (headOf f)) headFields headSize
+  unfolding fields start
+  head-equal =
+      let n = shape v .vars in
+      let P : Record → Type 0 = λ x. (j : ℕ) → j < count n x → v ! fields n x j .slot ≡ decoded (fields n x j .kind) (drop (0 + letters + offset (fields n x) j) f) in
+      record { at = λ j l. subst P (head-at (shape v)) (t .numbers 0 (omega arith)) j (omega arith) ∙ sym (head-number f j l) }
+
+  shape-is : shape v ≡ shapeOf f
+  unfolding headFields _▸_ shapeOf
+  shape-is = shape-same v (headOf f) (head-equal .at varsSlot (omega arith)) (head-equal .at bandsSlot (omega arith)) (head-equal .at boxesSlot (omega arith))
+
+  contents-equal : EachField (Equal v (contents f)) (shape v)
+  unfolding contents
+  contents-equal =
+      let s = shape v in
+      subst (λ (u : Shape). EachField (Equal v (filledAll u f (records u) zeros)) s) shape-is
+      (record { at = λ r l. record { at = λ j k. t .numbers r l j k ∙ sym (all-at s f (small v nine) zeros length-zeros (records s) (omega arith) r l j k) } })
+
+  first-mark : marked f 0 head ≡ true
+  unfolding start
+  first-mark = subst (λ (x : Record). marked f 0 x ≡ true) (head-at (shape v)) (t .marks 0 (omega arith))
+
+  passes : (i : ℕ) → stage f i ≡ 0
+  unfolding stage
+  passes zero = rw (le-leb capsAt (length f) (omega (arith, size, file-length (shape v))), first-mark)
+  passes (suc zero) = ranges-bad headFields (headOf f) headSize (same-head v (headOf f) head-equal nine)
+  passes (suc (suc zero)) = rw (← shape-is, eq-eqb (length f) (start (shape v) (records (shape v))) size)
+  passes (suc (suc (suc i))) =
+      subst (λ (s : Shape). badAll (markedAt s f) s (contents f) (records s) ≡ 0) shape-is
+      (good-all (markedAt (shape v) f) (shape v) (contents f) (records (shape v)) (t .marks) (same-good v (contents f) (shape v) contents-equal g))
+
+  says-read : (refusal f ≡ 0) × Same v (values f)
+  unfolding refusal
+  says-read =
+      let e = none-first (stage f) 4 (record { at = λ i l. passes i }) in
+      (e, record { same = λ r l j k. contents-equal .at r l .at j k ∙ ap (λ (w : List ℤ). w ! fieldsAt (shape v) r j .slot) (sym (accepted f e .values)) })
+
+pub read-write : (v : List ℤ) → valueRefusal v ≡ 0 → (refusal (bytesOf v) ≡ 0) × Same v (values (bytesOf v))
+unfolding bytesOf
+read-write v e =
+    let g = value-good v e in
+    let s = shape v in
+    says-read v (bytesOf v) g (length-codedAll s v (records s))
+    (subst (λ (f : List ℕ). Says s f v (records s)) (append-nil (bytesOf v)) (says s v (records s) [] (all-fit v g .at)))
+
+-- ---- in a buffer
+
+pub length-bytesOf : (v : List ℤ) → length (bytesOf v) ≡ length-of v
+unfolding bytesOf length-of
+length-bytesOf v = length-codedAll (shape v) v (records (shape v))
+
+module _ (v : List ℤ) (buffer : List ℕ) (place : ℕ) (e : writeRefusal v buffer place ≡ 0) where
+  passed : (valueRefusal v ≡ 0) × (place + length-of v ≤ length buffer)
+  unfolding writeRefusal
+  passed = go (valueRefusal v) e
+    where
+      go : (c : ℕ) → _≡_ {A = ℕ} (elim c [ zero ↦ unless (leb (place + length-of v) (length buffer)) Cause.room | suc c ↦ suc c ]) 0 → (c ≡ 0) × (place + length-of v ≤ length buffer)
+      go zero e = (refl, leb-true _ _ (unless-zero (leb (place + length-of v) (length buffer)) Cause.room e))
+      go (suc c) e = absurd (let z : ⊥ = omega arith in z)
+
+  -- the bytes before and after the sheet's remain
+  pub written-is : written v buffer place ≡ take place buffer ++ (bytesOf v ++ drop (place + length-of v) buffer)
+  unfolding written
+  written-is =
+      rw (e, written)
+      (sets-eq (bytesOf v) buffer place (omega (arith, length-bytesOf v, passed .1)) ∙ append-assoc (take place buffer) (bytesOf v) _
+      ∙ ap (λ (n : ℕ). take place buffer ++ (bytesOf v ++ drop (place + n) buffer)) (length-bytesOf v))
+
+  -- and the sheet's are read as the same sheet
+  pub read-written : (refusal (take (length-of v) (drop place (written v buffer place))) ≡ 0) × Same v (values (take (length-of v) (drop place (written v buffer place))))
+  read-written =
+      subst (λ (f : List ℕ). (refusal f ≡ 0) × Same v (values f))
+      (sym
+      (ap (λ (l : List ℕ). take (length-of v) (drop place l)) written-is
+      ∙ ap (take (length-of v)) (drop-at (take place buffer) (bytesOf v ++ drop (place + length-of v) buffer) place (length-take-le place buffer (omega (arith, passed .1))))
+      ∙ take-at (bytesOf v) (drop (place + length-of v) buffer) (length-of v) (length-bytesOf v)))
+      (read-write v (passed .0))

@@ -1,0 +1,98 @@
+-- Two values that agree up to the counts are in range together. Assumes nothing.
+use mathlib.Core.Path.{_≡_, refl, subst}
+use mathlib.Core.List.{List}
+use Prim.Native.Nat.{ℕ, zero, suc, _+_, _*_, _<_}
+use native.Mathlib.Omega.{arith}
+use lib.IntN.{ℤ}
+use lib.Signed.{_≤ℤ_}
+use Rattle.sheet_spec.specs.Slots.{_!_, headSize, bandSlot, rowSlot, recoverySlot, unsafeSlot, vars, bands, varsSlot, δSlot, leastSlot, greatestSlot, restSize, sides, edgeInBand, leastInBand}
+use Rattle.sheet_spec.specs.Fields.{Field}
+use Rattle.sheet_spec.specs.Layout.{unsafeLimit, recoveryLimit, _▸_, headFields, edgeField, rowRest, rowFields, bandFields, sideFields, boxFields, rowCount, bandCount, boxCount}
+use Rattle.sheet_spec.specs.File.{Shape}
+use Rattle.sheet_spec.proofs.Streams.{Each, each-next, each-first, each-groups, rows-more, caps-more}
+use Rattle.sheet_spec.proofs.Records.{EachField, each-field, each-head, each-band, each-unsafe, each-recovery, each-side}
+use Rattle.sheet_spec.proofs.Laws.{InRange}
+use Rattle.sheet_spec.proofs.Places.{edge-slot}
+
+-- ---- a field: its value is the same in both, and so are the ends of its range
+
+module _ (v w : List ℤ) where
+  abbrev pub Equal : Field → Type 0
+  Equal x = v ! x .slot ≡ w ! x .slot
+
+  pub record Ends (x : Field) : Type 0 where
+    pub least : x .least v ≡ x .least w
+    pub greatest : x .greatest v ≡ x .greatest w
+
+  given : {x : Field} → x .least v ≡ x .least w → x .greatest v ≡ x .greatest w → Ends x
+  given a b = record { least = a; greatest = b }
+
+  moved : {p : ℕ → Field} {k : ℕ} → Each Equal p k → Each Ends p k → Each (InRange v) p k → Each (InRange w) p k
+  moved {p} e d r = record {
+    at = λ j l. record {
+      low = subst (λ (z : ℤ). z ≤ℤ w ! p j .slot) (d .at j l .least) (subst (λ (z : ℤ). p j .least v ≤ℤ z) (e .at j l) (r .at j l .low));
+      high = subst (λ (z : ℤ). w ! p j .slot ≤ℤ z) (d .at j l .greatest) (subst (λ (z : ℤ). z ≤ℤ p j .greatest v) (e .at j l) (r .at j l .high));
+    };
+  }
+
+  -- ---- records
+
+  head-ends : (n : ℕ) → Each Equal headFields (headSize + n) → Each Ends headFields (headSize + n)
+  unfolding headFields _▸_
+  head-ends n h =
+      let vars = h .at varsSlot (omega arith) in
+      let δ = h .at δSlot (omega arith) in
+      let least = h .at leastSlot (omega arith) in
+      subst (Each Ends headFields) (caps-more n)
+      (each-next _ _ (given refl refl)
+      (each-next _ _ (given refl refl)
+      (each-next _ _ (given refl refl)
+      (each-next _ _ (given refl (cc vars))
+      (each-next _ _ (given refl refl)
+      (each-next _ _ (given refl (cc δ))
+      (each-next _ _ (given refl refl)
+      (each-next _ _ (given refl refl)
+      (each-next _ _ (given least refl) (record { at = λ i l. given refl refl }))))))))))
+
+  row-ends : (n s : ℕ) → Each Ends (rowFields n s) (rowCount n)
+  unfolding rowFields rowRest
+  row-ends n s =
+      each-first n restSize _ _ (record { at = λ j l. given refl refl })
+      (each-next _ _ (given refl refl) (each-next _ _ (given refl refl) (each-next _ _ (given refl refl) (record { at = λ j l. given refl refl }))))
+
+  box-ends : (n h s : ℕ) → Each Equal (boxFields h s) (boxCount n) → Each Ends (boxFields h s) (boxCount n)
+  unfolding boxFields sideFields _▸_
+  box-ends n h s e =
+      each-groups n sides _ (λ i l. each-next _ _ (given refl refl) (record { at = λ j k. given (each-side n h s e i l .at 0 (omega arith)) refl }))
+
+  -- ---- sheets
+
+  module _ (s : Shape) (e : EachField Equal s) where
+    edge-ends : (k : ℕ) → k < s .bands → Ends (edgeField k)
+    unfolding bandFields edgeField _▸_
+    edge-ends zero l = given refl refl
+    edge-ends (suc k) l = given (cc (edge-same k (omega arith))) refl
+      where
+        edge-same : (k : ℕ) → k < s .bands → v ! bandSlot k ≡ w ! bandSlot k
+        edge-same k l = subst (λ (i : ℕ). v ! i ≡ w ! i) (edge-slot k) (each-band s e k l .at edgeInBand (omega arith))
+
+    band-ends : (k : ℕ) → k < s .bands → Each Ends (bandFields (s .vars) k) (bandCount (s .vars))
+    unfolding headFields bandFields _▸_
+    band-ends k l =
+        let n = s .vars in
+        let greatest = each-head s e .at greatestSlot (omega arith) in
+        subst (Each Ends (bandFields n k)) (rows-more (n * rowCount n))
+        (each-next _ _ (edge-ends k l)
+        (each-next _ _ (given (each-head s e .at leastSlot (omega arith)) greatest)
+        (each-next _ _ (given (each-band s e k l .at leastInBand (omega arith)) greatest) (each-groups n (rowCount n) _ (λ i m. row-ends n (rowSlot k i))))))
+
+    pub same-good : EachField (InRange v) s → EachField (InRange w) s
+    same-good g =
+        each-field s (moved (each-head s e) (head-ends (s .vars) (each-head s e)) (each-head s g))
+        (λ k l. moved (each-band s e k l) (band-ends k l) (each-band s g k l))
+        (λ j l. moved (each-unsafe s e j l) (box-ends (s .vars) unsafeLimit (unsafeSlot j) (each-unsafe s e j l)) (each-unsafe s g j l))
+        (moved (each-recovery s e) (box-ends (s .vars) recoveryLimit recoverySlot (each-recovery s e)) (each-recovery s g))
+
+  -- the head alone, up to the commands
+  pub same-head : Each Equal headFields headSize → Each (InRange v) headFields headSize → Each (InRange w) headFields headSize
+  same-head e g = moved e (head-ends 0 e) g

@@ -1,0 +1,141 @@
+-- The sheet's records (document 01, "Sheet layout"): which fields each has, in the file's order.
+use mathlib.Core.Bool.{true, false}
+use mathlib.Core.List.{List}
+use Prim.Native.Nat.{ℕ, zero, suc, _+_, _*_, _-_, _/_, _%_}
+use lib.Dec.{ltb}
+use lib.IntN.{ℤ, pos, negℤ, _+ℤ_, _-ℤ_}
+use Rattle.sheet_spec.specs.Slots.{_!_, N, maxBands, maxBoxes, varsSlot, bandsSlot, boxesSlot, bandVarSlot, δSlot, αSlot, ρSlot, leastSlot, greatestSlot, headSize, capSlot, bSlot, cSlot, dSlot, qSlot, restSize, firstRow, bandSlot, safetyLeastSlot, safetyGreatestSlot, rowSlot, sides, recoverySlot, unsafeSlot}
+use Rattle.sheet_spec.specs.Refusals.{Cause}
+use Rattle.sheet_spec.specs.Fields.{Kind, u8, u16, i16, i32, Field}
+
+-- ---- one after another
+
+infixr 40 _▸_
+-- x, and then what g has
+unfoldable pub _▸_ : {A : Type 0} → A → (ℕ → A) → ℕ → A
+_▸_ x g zero = x
+_▸_ x g (suc j) = g j
+
+-- the first n of g, and then what h has
+unfoldable pub first : {A : Type 0} → ℕ → (ℕ → A) → (ℕ → A) → ℕ → A
+first n g h j = elim (ltb j n) [ true ↦ g j | false ↦ h (j - n) ]
+
+abbrev pub always : {A : Type 0} → A → ℕ → A
+always x j = x
+
+-- m of g 0, then m of g 1, ..
+unfoldable pub groups : {A : Type 0} → ℕ → (ℕ → ℕ → A) → ℕ → A
+groups m g j = g (j / m) (j % m)
+
+-- ---- fields
+
+abbrev pub ranged : Kind → ℕ → (List ℤ → ℤ) → (List ℤ → ℤ) → Cause → Field
+ranged k s l h c = record { kind = k; slot = s; least = l; greatest = h; cause = c }
+
+-- from l to h
+abbrev pub fromTo : Kind → ℕ → ℕ → ℕ → Cause → Field
+fromTo k s l h = ranged k s (λ v. pos l) (λ v. pos h)
+
+-- within ±h
+abbrev pub within : Kind → ℕ → ℕ → Cause → Field
+within k s h = ranged k s (λ v. negℤ (pos h)) (λ v. pos h)
+
+-- a sheet has at most so many variables; there is room for N
+abbrev pub maxVars : ℕ
+maxVars = 4
+
+abbrev pub capField : ℕ → Field
+capField i = fromTo u16 (capSlot i) 1 1000 Cause.cap
+
+-- n, bands, no-go boxes, band variable; δ, α, ρ; least and greatest command; caps
+unfoldable pub headFields : ℕ → Field
+headFields =
+    fromTo u8 varsSlot 1 maxVars Cause.shape
+    ▸ fromTo u8 bandsSlot 1 maxBands Cause.shape
+    ▸ fromTo u8 boxesSlot 1 maxBoxes Cause.shape
+    ▸ ranged u8 bandVarSlot (λ v. pos 0) (λ v. v ! varsSlot -ℤ pos 1) Cause.shape
+    ▸ fromTo u16 δSlot 1 1000 Cause.times
+    ▸ ranged u16 αSlot (λ v. pos 1) (λ v. pos 1000 -ℤ v ! δSlot) Cause.times
+    ▸ fromTo u16 ρSlot 1 1000 Cause.times
+    ▸ within i32 leastSlot 10000 Cause.commands
+    ▸ ranged i32 greatestSlot (λ v. v ! leastSlot) (λ v. pos 10000) Cause.commands
+    ▸ capField
+
+-- the first edge is given, a later one is greater than the one before it
+unfoldable pub edgeField : ℕ → Field
+edgeField zero = ranged i32 (bandSlot 0) (λ v. negℤ (pos 2000000)) (λ v. negℤ (pos 2000000)) Cause.edge
+edgeField (suc k) = ranged i32 (bandSlot (suc k)) (λ v. v ! bandSlot k +ℤ pos 1) (λ v. pos 2000000) Cause.edge
+
+-- b, c, d, q of the row at a slot
+unfoldable pub rowRest : ℕ → ℕ → Field
+rowRest s =
+    within i16 (bSlot s) 1000 Cause.row
+    ▸ within i32 (cSlot s) 100000000 Cause.row
+    ▸ fromTo i32 (dSlot s) 0 100000000 Cause.row
+    ▸ always (fromTo u16 (qSlot s) 1 4096 Cause.row)
+
+-- the row at a slot: n coefficients a, then the rest
+unfoldable pub rowFields : ℕ → ℕ → ℕ → Field
+rowFields n s = first n (λ j. within i16 (s + j) 1000 Cause.row) (rowRest s)
+
+-- so many fields a row has, a band, and a box, of a sheet with n variables
+abbrev pub rowCount : ℕ → ℕ
+rowCount n = n + restSize
+
+abbrev pub bandCount : ℕ → ℕ
+bandCount n = firstRow + n * rowCount n
+
+abbrev pub boxCount : ℕ → ℕ
+boxCount n = n * sides
+
+-- edge, safety least and greatest, n rows
+unfoldable pub bandFields : ℕ → ℕ → ℕ → Field
+bandFields n k =
+    edgeField k
+    ▸ ranged i32 (safetyLeastSlot k) (λ v. v ! leastSlot) (λ v. v ! greatestSlot) Cause.safety
+    ▸ ranged i32 (safetyGreatestSlot k) (λ v. v ! safetyLeastSlot k) (λ v. v ! greatestSlot) Cause.safety
+    ▸ groups (rowCount n) (λ i. rowFields n (rowSlot k i))
+
+-- the sides of a no-go box lie within ±unsafeLimit, those of the recovery box within ±recoveryLimit
+abbrev pub unsafeLimit : ℕ
+unsafeLimit = 2000000
+
+abbrev pub recoveryLimit : ℕ
+recoveryLimit = 1000000
+
+-- a lower side at a slot, within ±h, and its upper side
+unfoldable pub sideFields : ℕ → ℕ → ℕ → Field
+sideFields h s = within i32 s h Cause.side ▸ always (ranged i32 (s + N) (λ v. v ! s) (λ v. pos h) Cause.side)
+
+-- the box at a slot: for each variable the two sides
+unfoldable pub boxFields : ℕ → ℕ → ℕ → Field
+boxFields h s = groups sides (λ i. sideFields h (s + i))
+
+-- ---- records
+
+-- the head, band k, no-go box j, the recovery box
+pub data Record : Type 0 where
+  head : Record
+  band : ℕ → Record
+  unsafe : ℕ → Record
+  recovery : Record
+
+-- the letters that a record starts with: SH, BD, NG, RC
+abbrev pub mark : Record → ℕ × ℕ
+mark head = (83, 72)
+mark (band k) = (66, 68)
+mark (unsafe j) = (78, 71)
+mark recovery = (82, 67)
+
+-- the fields of a record of a sheet with n variables, and how many they are
+unfoldable pub fields : ℕ → Record → ℕ → Field
+fields n head = headFields
+fields n (band k) = bandFields n k
+fields n (unsafe j) = boxFields unsafeLimit (unsafeSlot j)
+fields n recovery = boxFields recoveryLimit recoverySlot
+
+abbrev pub count : ℕ → Record → ℕ
+count n head = headSize + n
+count n (band k) = bandCount n
+count n (unsafe j) = boxCount n
+count n recovery = boxCount n

@@ -1,0 +1,10 @@
+pub mod Slots
+pub mod Valid
+pub mod Refusals
+pub mod Fields
+pub mod Sizes
+pub mod Layout
+pub mod File
+pub mod Sheet
+pub mod SheetA
+pub mod Written

@@ -1,0 +1,69 @@
+-- What reading and writing a sheet give, for all inputs (document 01, "Sheet layout" and "Refused calls").
+use mathlib.Core.Path.{_≡_}
+use mathlib.Core.Bool.{true, _&&_}
+use mathlib.Core.List.{List}
+use Prim.Native.Nat.{ℕ, zero, suc, _+_, _<_}
+use lib.Dec.{eqb, leb}
+use lib.IntN.{ℤ, pos}
+use lib.ListN.{length, replicate}
+use lib.Seq.{sets}
+use Rattle.sheet_spec.specs.Slots.{_!_, headSize, slots}
+use Rattle.sheet_spec.specs.Refusals.{Cause, unless, firstRefusal}
+use Rattle.sheet_spec.specs.Fields.{filled, bad}
+use Rattle.sheet_spec.specs.Sizes.{letters, capsAt}
+use Rattle.sheet_spec.specs.Layout.{head, headFields}
+use Rattle.sheet_spec.specs.File.{Shape, shape, records, fieldsAt, countAt, start, filledAll, codedAll, marked, markedAt, badAll}
+
+unfoldable pub zeros : List ℤ
+zeros = replicate slots (pos 0)
+
+-- ---- reading
+
+-- the head's numbers up to the commands, which stand before the counts are known
+unfoldable pub headOf : List ℕ → List ℤ
+headOf f = filled headFields f letters headSize zeros
+
+-- the counts that a file's head names, and the file's values with these counts
+unfoldable pub shapeOf : List ℕ → Shape
+shapeOf f = shape (headOf f)
+
+unfoldable pub contents : List ℕ → List ℤ
+contents f = let s = shapeOf f in filledAll s f (records s) zeros
+
+-- the reader's tests in their order, each made only where those before it passed
+unfoldable pub stage : List ℕ → ℕ → ℕ
+stage f zero = unless (leb capsAt (length f) && marked f 0 head) Cause.beginning
+stage f (suc zero) = bad headFields (headOf f) headSize
+stage f (suc (suc zero)) = let s = shapeOf f in unless (eqb (length f) (start s (records s))) Cause.size
+stage f (suc (suc (suc i))) = let s = shapeOf f in badAll (markedAt s f) s (contents f) (records s)
+
+-- 0 where the file is accepted, else why it is refused
+unfoldable pub refusal : List ℕ → ℕ
+refusal f = firstRefusal (stage f) 4
+
+-- the sheet's value, zeros where the file is refused
+unfoldable pub values : List ℕ → List ℤ
+values f = elim (refusal f) [ zero ↦ contents f | suc c ↦ zeros ]
+
+-- ---- writing
+
+-- the refusal of the first value out of range, in the file's order, or 0
+unfoldable pub valueRefusal : List ℤ → ℕ
+valueRefusal v = badAll (λ r. true) (shape v) v (records (shape v))
+
+unfoldable pub length-of : List ℤ → ℕ
+length-of v = start (shape v) (records (shape v))
+
+unfoldable pub bytesOf : List ℤ → List ℕ
+bytesOf v = codedAll (shape v) v (records (shape v))
+
+unfoldable pub writeRefusal : List ℤ → List ℕ → ℕ → ℕ
+writeRefusal v buffer place = elim (valueRefusal v) [ zero ↦ unless (leb (place + length-of v) (length buffer)) Cause.room | suc c ↦ suc c ]
+
+-- the buffer after writing
+unfoldable pub written : List ℤ → List ℕ → ℕ → List ℕ
+written v buffer place = elim (writeRefusal v buffer place) [ zero ↦ sets buffer place (bytesOf v) | suc c ↦ buffer ]
+
+-- ---- two sheets are the same when their values up to their counts are
+pub record Same (v w : List ℤ) : Type 0 where
+  pub same : (r : ℕ) → r < records (shape v) → (j : ℕ) → j < countAt (shape v) r → v ! fieldsAt (shape v) r j .slot ≡ w ! fieldsAt (shape v) r j .slot

@@ -1,0 +1,88 @@
+-- Where the numbers of a record stand in a file, and how many bytes its parts have (document 01, "Sheet layout").
+use Prim.Native.Nat.{ℕ, _+_, _*_}
+use Rattle.sheet_spec.specs.Fields.{u8, u16, i16, i32, width}
+
+-- a record starts with so many letters
+abbrev pub letters : ℕ
+letters = 2
+
+-- the head, from its letters on. A file that ends before the caps, of under 20 bytes, is refused
+abbrev pub varsAt : ℕ
+varsAt = letters
+
+abbrev pub bandsAt : ℕ
+bandsAt = varsAt + width u8
+
+abbrev pub boxesAt : ℕ
+boxesAt = bandsAt + width u8
+
+abbrev pub bandVarAt : ℕ
+bandVarAt = boxesAt + width u8
+
+abbrev pub δAt : ℕ
+δAt = bandVarAt + width u8
+
+abbrev pub αAt : ℕ
+αAt = δAt + width u16
+
+abbrev pub ρAt : ℕ
+ρAt = αAt + width u16
+
+abbrev pub leastAt : ℕ
+leastAt = ρAt + width u16
+
+abbrev pub greatestAt : ℕ
+greatestAt = leastAt + width i32
+
+abbrev pub capsAt : ℕ
+capsAt = greatestAt + width i32
+
+-- the first n caps
+abbrev pub capBytes : ℕ → ℕ
+capBytes n = width u16 * n
+
+-- a band, from its edge on: the safety range, and the rows
+abbrev pub safetyLeastAt : ℕ
+safetyLeastAt = width i32
+
+abbrev pub safetyGreatestAt : ℕ
+safetyGreatestAt = safetyLeastAt + width i32
+
+abbrev pub rowsAt : ℕ
+rowsAt = safetyGreatestAt + width i32
+
+-- a row: the first n coefficients; then, from b on, c, d and q
+abbrev pub coefficientBytes : ℕ → ℕ
+coefficientBytes n = width i16 * n
+
+abbrev pub cAt : ℕ
+cAt = width i16
+
+abbrev pub dAt : ℕ
+dAt = cAt + width i32
+
+abbrev pub qAt : ℕ
+qAt = dAt + width i32
+
+abbrev pub restBytes : ℕ
+restBytes = qAt + width u16
+
+abbrev pub rowBytes : ℕ → ℕ
+rowBytes n = coefficientBytes n + restBytes
+
+-- a band's letters and what stands before its rows
+abbrev pub bandHead : ℕ
+bandHead = letters + rowsAt
+
+-- what follows the letters of a band, and of a box: its sides in pairs
+abbrev pub bandBytes : ℕ → ℕ
+bandBytes n = rowsAt + n * rowBytes n
+
+abbrev pub upperAt : ℕ
+upperAt = width i32
+
+abbrev pub pairBytes : ℕ
+pairBytes = upperAt + width i32
+
+abbrev pub boxBytes : ℕ → ℕ
+boxBytes n = pairBytes * n

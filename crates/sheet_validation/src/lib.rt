@@ -1,0 +1,205 @@
+// The tests of a sheet's numbers (document 01, "Sheet layout"), in the file's order, over the value: reader and writer share
+// them. Each gives 0, or the refusal of the first number out of range. The definitions are in sheet_spec/specs/Layout: each field
+// has its range and its cause.
+ghost use mathlib.Core.Path.{_≡_};
+ghost use mathlib.Core.Bool.{true};
+ghost use Prim.Native.Nat.{_+_, _≤_, _<_};
+ghost use Rattle.integers.specs.Bound.{Bound};
+ghost use Rattle.sheet_spec.specs.Slots.{_!_, N, maxBands, maxBoxes, headSize, boxSize, rowSize, slots};
+ghost use Rattle.sheet_spec.specs.Refusals.{number, orElse};
+ghost use Rattle.sheet_spec.specs.File.{sized, records, fieldsAt, countAt, badAll};
+ghost use Rattle.sheet_spec.specs.Fields.{Field, test, bad};
+ghost use Rattle.sheet_spec.specs.Layout.{headFields, edgeField, rowFields, rowCount, bandFields, bandCount, boxFields, boxCount};
+use sheet_spec::refusals::CAP;
+use sheet_spec::refusals::COMMANDS;
+use sheet_spec::refusals::EDGE;
+use sheet_spec::refusals::ROW;
+use sheet_spec::refusals::SAFETY;
+use sheet_spec::refusals::SHAPE;
+use sheet_spec::refusals::SIDE;
+use sheet_spec::refusals::TIMES;
+use sheet_spec::slots::*;
+
+const MAX_VARS: i64 = 4;
+
+const MAX_TICKS: i64 = 1000;
+
+const MAX_COMMAND: i64 = 10000;
+
+const MIN_COMMAND: i64 = -MAX_COMMAND;
+
+const MAX_CAP: i64 = 1000;
+
+const MAX_EDGE: i64 = 2000000;
+
+const MIN_EDGE: i64 = -MAX_EDGE;
+
+const MAX_COEFFICIENT: i64 = 1000;
+
+const MIN_COEFFICIENT: i64 = -MAX_COEFFICIENT;
+
+const MAX_OFFSET: i64 = 100000000;
+
+const MIN_OFFSET: i64 = -MAX_OFFSET;
+
+const MAX_DIVISOR: i64 = 4096;
+
+const MAX_UNSAFE: u32 = 2000000;
+
+const MAX_RECOVERY: u32 = 1000000;
+
+// The number at a slot, where one more and one less fit too.
+fn value(v: &[i32; SLOTS], slot: usize) -> i64
+    requires { ⌜ slot < slots ⌝ }
+    ensures { λ r. ⌜ (r ≡ now (v .entry) ! slot) × Bound r 2147483648 ⌝ }
+{
+    let x = v[slot];
+    x as i64
+}
+
+// A refusal, or where it is 0 the next.
+pub fn first(x: u8, y: u8) -> u8
+    ensures { λ r. ⌜ r ≡ orElse x y ⌝ }
+{
+    if x == 0 { y } else { x }
+}
+
+// A refusal, or where it is 0 the test of a field with this slot, range and cause.
+fn after(x: u8, v: &[i32; SLOTS], slot: usize, least: i64, greatest: i64, cause: u8) -> u8
+    requires { ⌜ slot < slots ⌝ }
+    ensures { λ r. ⌜ ((p : Field) → p .slot ≡ slot → p .least (now (v .entry)) ≡ least → p .greatest (now (v .entry)) ≡ greatest → number (p .cause) ≡ cause → r ≡ orElse x (test (now (v .entry)) p)) ⌝ }
+{
+    if x != 0 {
+        return x;
+    }
+    let z = value(v, slot);
+    if least <= z && z <= greatest {
+        return 0;
+    }
+    cause
+}
+
+// The head's numbers but for the caps.
+pub fn bad_head(v: &[i32; SLOTS]) -> u8
+    ensures { λ r. ⌜ r ≡ bad headFields (now (v .entry)) headSize ⌝ }
+{
+    let mut x = after(0, v, VARS, 1, MAX_VARS, SHAPE);
+    x = after(x, v, BANDS, 1, MAX_BANDS as i64, SHAPE);
+    x = after(x, v, BOXES, 1, MAX_BOXES as i64, SHAPE);
+    x = after(x, v, BAND_VAR, 0, value(v, VARS) - 1, SHAPE);
+    x = after(x, v, DELTA, 1, MAX_TICKS, TIMES);
+    x = after(x, v, ALPHA, 1, MAX_TICKS - value(v, DELTA), TIMES);
+    x = after(x, v, RHO, 1, MAX_TICKS, TIMES);
+    x = after(x, v, LEAST, MIN_COMMAND, MAX_COMMAND, COMMANDS);
+    after(x, v, GREATEST, value(v, LEAST), MAX_COMMAND, COMMANDS)
+}
+
+pub fn bad_caps(v: &[i32; SLOTS], n: usize) -> u8
+    requires { ⌜ n ≤ N ⌝ }
+    ensures { λ r. ⌜ r ≡ bad headFields (now (v .entry)) (headSize + n) ⌝ }
+{
+    let mut x = bad_head(v);
+    let mut i: usize = 0;
+    while i < n {
+        x = after(x, v, FIRST_CAP + i, 1, MAX_CAP, CAP);
+        i = i + 1;
+    }
+    x
+}
+
+fn bad_row(v: &[i32; SLOTS], n: usize, slot: usize) -> u8
+    requires { ⌜ (n ≤ N) × (slot + rowSize ≤ slots) ⌝ }
+    ensures { λ r. ⌜ r ≡ bad (rowFields n slot) (now (v .entry)) (rowCount n) ⌝ }
+{
+    let mut x: u8 = 0;
+    let mut j: usize = 0;
+    while j < n {
+        x = after(x, v, slot + j, MIN_COEFFICIENT, MAX_COEFFICIENT, ROW);
+        j = j + 1;
+    }
+    x = after(x, v, slot + ROW_B, MIN_COEFFICIENT, MAX_COEFFICIENT, ROW);
+    x = after(x, v, slot + ROW_C, MIN_OFFSET, MAX_OFFSET, ROW);
+    x = after(x, v, slot + ROW_D, 0, MAX_OFFSET, ROW);
+    after(x, v, slot + ROW_Q, 1, MAX_DIVISOR, ROW)
+}
+
+fn bad_edge(v: &[i32; SLOTS], k: usize) -> u8
+    requires { ⌜ k < maxBands ⌝ }
+    ensures { λ r. ⌜ r ≡ test (now (v .entry)) (edgeField k) ⌝ }
+{
+    let slot = FIRST_BAND + k * BAND_SIZE;
+    if k == 0 {
+        return after(0, v, slot, MIN_EDGE, MIN_EDGE, EDGE);
+    }
+    after(0, v, slot, value(v, slot - BAND_SIZE) + 1, MAX_EDGE, EDGE)
+}
+
+pub fn bad_band(v: &[i32; SLOTS], n: usize, k: usize) -> u8
+    requires { ⌜ (n ≤ N) × (k < maxBands) ⌝ }
+    ensures { λ r. ⌜ r ≡ bad (bandFields n k) (now (v .entry)) (bandCount n) ⌝ }
+{
+    let slot = FIRST_BAND + k * BAND_SIZE;
+    let greatest = value(v, GREATEST);
+    let mut x = bad_edge(v, k);
+    x = after(x, v, slot + SAFETY_LEAST, value(v, LEAST), greatest, SAFETY);
+    x = after(
+        x,
+        v,
+        slot + SAFETY_GREATEST,
+        value(v, slot + SAFETY_LEAST),
+        greatest,
+        SAFETY,
+    );
+    let mut i: usize = 0;
+    while i < n {
+        x = first(x, bad_row(v, n, slot + FIRST_ROW + i * ROW_SIZE));
+        i = i + 1;
+    }
+    x
+}
+
+pub fn bad_box(v: &[i32; SLOTS], n: usize, slot: usize, most: u32) -> u8
+    requires { ⌜ (n ≤ N) × (slot + boxSize ≤ slots) ⌝ }
+    ensures { λ r. ⌜ r ≡ bad (boxFields most slot) (now (v .entry)) (boxCount n) ⌝ }
+{
+    let side = most as i64;
+    let mut x: u8 = 0;
+    let mut i: usize = 0;
+    while i < n {
+        x = after(x, v, slot + i, -side, side, SIDE);
+        x = after(x, v, slot + i + N, value(v, slot + i), side, SIDE);
+        i = i + 1;
+    }
+    x
+}
+
+// The numbers of the r-th record.
+pub fn bad_record(v: &[i32; SLOTS], n: usize, bands: usize, boxes: usize, r: usize) -> u8
+    requires { ⌜ (n ≤ N) × ((bands ≤ maxBands) × ((boxes ≤ maxBoxes) × (r < records (sized n bands boxes)))) ⌝ }
+    ensures { λ x. ⌜ x ≡ bad (fieldsAt (sized n bands boxes) r) (now (v .entry)) (countAt (sized n bands boxes) r) ⌝ }
+{
+    if r == 0 {
+        return bad_caps(v, n);
+    }
+    if r <= bands {
+        return bad_band(v, n, r - 1);
+    }
+    if r <= bands + boxes {
+        return bad_box(v, n, FIRST_UNSAFE + (r - 1 - bands) * BOX_SIZE, MAX_UNSAFE);
+    }
+    bad_box(v, n, RECOVERY, MAX_RECOVERY)
+}
+
+// The numbers of every record.
+pub fn bad_values(v: &[i32; SLOTS], n: usize, bands: usize, boxes: usize) -> u8
+    requires { ⌜ (n ≤ N) × ((bands ≤ maxBands) × (boxes ≤ maxBoxes)) ⌝ }
+    ensures { λ x. ⌜ x ≡ badAll (λ r. true) (sized n bands boxes) (now (v .entry)) (records (sized n bands boxes)) ⌝ }
+{
+    let mut x: u8 = 0;
+    let mut r: usize = 0;
+    while r < bands + boxes + 2 {
+        x = first(x, bad_record(v, n, bands, boxes, r));
+        r = r + 1;
+    }
+    x
+}

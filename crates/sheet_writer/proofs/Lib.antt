@@ -1,0 +1,2 @@
+pub mod RecordTurn
+pub mod FileTurn

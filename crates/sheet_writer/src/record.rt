@@ -1,0 +1,124 @@
+// The records of a sheet's value, each written to a part of a buffer (document 01, "Sheet layout"): head, bands, boxes. A record's
+// writer gets the part that starts at the record, and leaves every byte behind the record as it was. The definitions are in
+// sheet_spec/specs/Fields and sheet_spec/specs/File.
+ghost use mathlib.Core.Path.{_≡_};
+ghost use Prim.Native.Nat.{ℕ, _+_, _≤_, _<_};
+ghost use lib.ListN.{length};
+ghost use lib.Seq.{sets};
+ghost use Rattle.sheet_spec.specs.Slots.{N, maxBands, maxBoxes, headSize, rowSize, boxSize, slots};
+ghost use Rattle.sheet_spec.specs.File.{sized, records, recordAt, fieldsAt, countAt, recordBytes};
+ghost use Rattle.sheet_spec.specs.Fields.{offset, coded};
+ghost use Rattle.sheet_spec.specs.Sizes.{letters, capsAt, capBytes, rowBytes, bandBytes, boxBytes};
+ghost use Rattle.sheet_spec.specs.Layout.{headFields, rowFields, rowCount, bandFields, bandCount, boxFields, boxCount};
+use sheet_encoding::bytes::put_i32;
+use sheet_encoding::bytes::put_u8;
+use sheet_encoding::bytes::put_u16;
+use sheet_encoding::marks::mark_of;
+use sheet_spec::sizes::*;
+use sheet_spec::slots::*;
+
+// The head's numbers but for the caps.
+fn write_head(s: &mut [u8], v: &[i32; SLOTS])
+    requires { ⌜ capsAt ≤ length (now s) ⌝ }
+    ensures { λ _. ⌜ now (s .exit) ≡ sets (now (s .entry)) letters (coded headFields (now (v .entry)) headSize) ⌝ }
+{
+    put_u8(s, VARS_AT, v, VARS);
+    put_u8(s, BANDS_AT, v, BANDS);
+    put_u8(s, BOXES_AT, v, BOXES);
+    put_u8(s, BAND_VAR_AT, v, BAND_VAR);
+    put_u16(s, DELTA_AT, v, DELTA);
+    put_u16(s, ALPHA_AT, v, ALPHA);
+    put_u16(s, RHO_AT, v, RHO);
+    put_i32(s, LEAST_AT, v, LEAST);
+    put_i32(s, GREATEST_AT, v, GREATEST);
+}
+
+fn write_caps(s: &mut [u8], n: usize, v: &[i32; SLOTS])
+    requires { ⌜ (n ≤ N) × (capsAt + capBytes n ≤ length (now s)) ⌝ }
+    ensures { λ _. ⌜ now (s .exit) ≡ sets (now (s .entry)) letters (coded headFields (now (v .entry)) (headSize + n)) ⌝ }
+{
+    write_head(s, v);
+    let mut i: usize = 0;
+    while i < n {
+        put_u16(s, CAPS_AT + U16 * i, v, FIRST_CAP + i);
+        i = i + 1;
+    }
+}
+
+fn write_row(s: &mut [u8], at: usize, n: usize, v: &[i32; SLOTS], slot: usize)
+    requires { ⌜ (n ≤ N) × ((slot + rowSize ≤ slots) × (at + rowBytes n ≤ length (now s))) ⌝ }
+    ensures { λ _. ⌜ now (s .exit) ≡ sets (now (s .entry)) at (coded (rowFields n slot) (now (v .entry)) (rowCount n)) ⌝ }
+{
+    let mut j: usize = 0;
+    while j < n {
+        put_u16(s, at + I16 * j, v, slot + j);
+        j = j + 1;
+    }
+    let rest = at + I16 * n;
+    put_u16(s, rest, v, slot + ROW_B);
+    put_i32(s, rest + C_AT, v, slot + ROW_C);
+    put_i32(s, rest + D_AT, v, slot + ROW_D);
+    put_u16(s, rest + Q_AT, v, slot + ROW_Q);
+}
+
+fn write_band(s: &mut [u8], n: usize, v: &[i32; SLOTS], k: usize)
+    requires { ⌜ (n ≤ N) × ((k < maxBands) × (letters + bandBytes n ≤ length (now s))) ⌝ }
+    ensures { λ _. ⌜ now (s .exit) ≡ sets (now (s .entry)) letters (coded (bandFields n k) (now (v .entry)) (bandCount n)) ⌝ }
+{
+    let slot = FIRST_BAND + k * BAND_SIZE;
+    put_i32(s, LETTERS, v, slot);
+    put_i32(s, LETTERS + SAFETY_LEAST_AT, v, slot + SAFETY_LEAST);
+    put_i32(s, LETTERS + SAFETY_GREATEST_AT, v, slot + SAFETY_GREATEST);
+    let mut i: usize = 0;
+    while i < n {
+        write_row(
+            s,
+            LETTERS + ROWS_AT + i * (I16 * n + REST_BYTES),
+            n,
+            v,
+            slot + FIRST_ROW + i * ROW_SIZE,
+        );
+        i = i + 1;
+    }
+}
+
+fn write_box(s: &mut [u8], n: usize, v: &[i32; SLOTS], slot: usize)
+    requires { ⌜ (n ≤ N) × ((slot + boxSize ≤ slots) × (letters + boxBytes n ≤ length (now s))) ⌝ }
+    ensures { λ _. ⌜ ((h : ℕ) → now (s .exit) ≡ sets (now (s .entry)) letters (coded (boxFields h slot) (now (v .entry)) (boxCount n))) ⌝ }
+{
+    let mut i: usize = 0;
+    while i < n {
+        put_i32(s, LETTERS + PAIR_BYTES * i, v, slot + i);
+        put_i32(s, LETTERS + PAIR_BYTES * i + UPPER_AT, v, slot + i + N);
+        i = i + 1;
+    }
+}
+
+// The numbers of the r-th record.
+fn write_numbers(s: &mut [u8], n: usize, bands: usize, boxes: usize, r: usize, v: &[i32; SLOTS])
+    requires { ⌜ (n ≤ N) × ((bands ≤ maxBands) × ((boxes ≤ maxBoxes) × (r < records (sized n bands boxes)))) ⌝ }
+    requires { ⌜ letters + offset (fieldsAt (sized n bands boxes) r) (countAt (sized n bands boxes) r) ≤ length (now s) ⌝ }
+    ensures { λ _. ⌜ now (s .exit) ≡ sets (now (s .entry)) letters (coded (fieldsAt (sized n bands boxes) r) (now (v .entry)) (countAt (sized n bands boxes) r)) ⌝ }
+{
+    if r == 0 {
+        write_caps(s, n, v);
+    } else if r <= bands {
+        write_band(s, n, v, r - 1);
+    } else if r <= bands + boxes {
+        write_box(s, n, v, FIRST_UNSAFE + (r - 1 - bands) * BOX_SIZE);
+    } else {
+        write_box(s, n, v, RECOVERY);
+    }
+}
+
+// The r-th record, at the start of the part that it gets.
+pub fn write_record(s: &mut [u8], n: usize, bands: usize, boxes: usize, r: usize, v: &[i32; SLOTS])
+    requires { ⌜ (n ≤ N) × ((bands ≤ maxBands) × ((boxes ≤ maxBoxes) × (r < records (sized n bands boxes)))) ⌝ }
+    requires { ⌜ letters + offset (fieldsAt (sized n bands boxes) r) (countAt (sized n bands boxes) r) ≤ length (now s) ⌝ }
+    ensures { λ _. ⌜ now (s .exit) ≡ sets (now (s .entry)) 0 (recordBytes n (recordAt (sized n bands boxes) r) (now (v .entry))) ⌝ }
+{
+    let m = mark_of(bands, boxes, r);
+    s[0] = m.first;
+    s[1] = m.second;
+    write_numbers(s, n, bands, boxes, r, v);
+}
