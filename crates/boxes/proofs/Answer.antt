@@ -1,4 +1,4 @@
--- What a reach answers, refused or walked. Assumes nothing.
+-- What a reach answers, refused or reachedOf. Assumes nothing.
 use mathlib.Core.Path.{_≡_, refl, sym, ap, _∙_, subst}
 use mathlib.Core.Bool.{false}
 use mathlib.Core.List.{List}
@@ -7,10 +7,10 @@ use lib.IntN.{ℤ}
 use Rattle.sheet_spec.specs.Slots.{vars}
 use Rattle.machine_spec.specs.Box.{trim}
 use Rattle.machine_spec.specs.Machine.{Law, Machine, machine}
-use Rattle.boxes_arithmetic.specs.Limits.{Sides}
-use Rattle.boxes.specs.declared.steps.Walked.{Walked}
-use Rattle.boxes.specs.declared.steps.Walked.the-variants.{Ended, Unsettled, Unsafe, Out}
-use Rattle.boxes.specs.Walked.{said, walked}
+use Rattle.boxes_arithmetic.specs.Limits.{SidesWithin}
+use Rattle.boxes.specs.declared.steps.ReachResult.{ReachResult}
+use Rattle.boxes.specs.declared.steps.ReachResult.the-variants.{Ended, Unsettled, Unsafe, Exhausted}
+use Rattle.boxes.specs.ReachResult.{resultOf, reachedOf}
 use Rattle.boxes_spec.specs.Reach.{reach, clear, lawRefusal, ticksRefusal, reachRefusal, refused, answer, reachOf}
 use Rattle.boxes_spec.proofs.Count.{ticks-width}
 use Rattle.boxes_spec.proofs.Refusals.{or-none, if-refused, if-accepted}
@@ -27,31 +27,31 @@ module _ {v : List ℤ} {ticks w : ℕ} {l : Law} {B : List ℤ} {a : ℕ} (r : 
 
   -- nothing is refused; the machine and the start box as the code has them
   module _ (e : a ≡ 0) {m : Machine} (q : m ≡ machine v l) {S : List ℤ} (s : S ≡ trim (m .n) B) where
-    pub walkable : ((0 < w) × (w ≤ 1000)) × ((ticks ≤ 1000) × Sides 1000000 S)
+    pub reachable : ((0 < w) × (w ≤ 1000)) × ((ticks ≤ 1000) × SidesWithin 1000000 S)
     unfolding reachRefusal
-    walkable =
+    reachable =
         let t = or-none (ticksRefusal ticks w) _ (sym (r .is) ∙ e) in
         let u = ticks-width ticks w (t .0) in
-        ((u .1, u .2), (u .0, subst (Sides 1000000) (sym (s ∙ ap (λ (x : Machine). trim (x .n) B) q)) (sides-near (vars v) B (or-none (lawRefusal v l) _ (t .1) .1))))
+        ((u .1, u .2), (u .0, subst (SidesWithin 1000000) (sym (s ∙ ap (λ (x : Machine). trim (x .n) B) q)) (sides-near (vars v) B (or-none (lawRefusal v l) _ (t .1) .1))))
 
-    -- a walk came to o
-    module _ (o : Walked) (E W : List ℤ) (h : walked E W o ≡ reach false 0 m (clear (m .n) v 0) w S ticks 0) where
-      answer-is : answer (walked E W o) ≡ reachOf v ticks w l B
+    -- a reach came to o
+    module _ (o : ReachResult) (E W : List ℤ) (h : reachedOf E W o ≡ reach false 0 m (clear (m .n) v 0) w S ticks 0) where
+      answer-is : answer (reachedOf E W o) ≡ reachOf v ticks w l B
       unfolding reachOf
       answer-is =
           ap answer (h ∙ ap (λ (X : List ℤ). reach false 0 m (clear (m .n) v 0) w X ticks 0) s ∙ ap (λ (x : Machine). reach false 0 x (clear (x .n) v 0) w (trim (x .n) B) ticks 0) q)
           ∙ if-accepted _ (r .is) e
 
       pub reach-ended : (t d : ℕ) → o ≡ Ended t d → record { refusal = 0; end = E; swept = W; rounds = d } ≡ reachOf v ticks w l B
-      unfolding answer said
-      reach-ended t d z = ap (λ (x : Walked). answer (walked E W x)) (sym z) ∙ answer-is
+      unfolding answer resultOf
+      reach-ended t d z = ap (λ (x : ReachResult). answer (reachedOf E W x)) (sym z) ∙ answer-is
 
       pub reach-failed : ((t d : ℕ) → o ≡ Ended t d → ⊥) → refused 0 ≡ reachOf v ticks w l B
-      unfolding answer said
+      unfolding answer resultOf
       reach-failed n = fails o n ∙ answer-is
         where
-          fails : (x : Walked) → ((t d : ℕ) → x ≡ Ended t d → ⊥) → refused 0 ≡ answer (walked E W x)
+          fails : (x : ReachResult) → ((t d : ℕ) → x ≡ Ended t d → ⊥) → refused 0 ≡ answer (reachedOf E W x)
           fails (Ended t d) n = absurd (n t d refl)
           fails (Unsettled d) n = refl
           fails (Unsafe t d) n = refl
-          fails (Out d) n = refl
+          fails (Exhausted d) n = refl

@@ -1,3 +1,3 @@
-pub mod Walked
+pub mod ReachResult
 pub mod Limits
 pub mod ReachAnswer

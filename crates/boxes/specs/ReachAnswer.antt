@@ -2,5 +2,5 @@
 use Rattle.boxes.specs.declared.ReachAnswer.{ReachAnswer}
 use Rattle.boxes_spec.specs.Reach.{Answer}
 
-abbrev pub answered : ReachAnswer → Answer
-answered r = record { refusal = r .refusal; end = r .end; swept = r .swept; rounds = r .rounds }
+abbrev pub answerOf : ReachAnswer → Answer
+answerOf r = record { refusal = r .refusal; end = r .end; swept = r .swept; rounds = r .rounds }

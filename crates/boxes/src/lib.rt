@@ -5,13 +5,12 @@ ghost use mathlib.Core.Path.{_≡_};
 ghost use Rattle.sheet_spec.specs.Valid.{Valid};
 ghost use Rattle.machine_spec.specs.Machine.{lawOf};
 ghost use Rattle.boxes_spec.specs.Reach as spec;
-ghost use Rattle.boxes.specs.ReachAnswer.{answered};
+ghost use Rattle.boxes.specs.ReachAnswer.{answerOf};
 
 pub mod steps;
 
-use crate::steps::Walked;
+use crate::steps::ReachResult;
 use crate::steps::plant;
-use crate::steps::walk;
 use boxes_refusals::reach_refusal;
 use boxes_shape::compare::trim;
 use boxes_step::Budget;
@@ -28,7 +27,7 @@ pub struct ReachAnswer {
 }
 
 fn refused(refusal: u8) -> ReachAnswer
-    ensures { λ r. ⌜ answered r ≡ spec.refused refusal ⌝ }
+    ensures { λ r. ⌜ answerOf r ≡ spec.refused refusal ⌝ }
 {
     ReachAnswer {
         refusal: refusal,
@@ -48,7 +47,7 @@ pub fn reach_of(
     start: &[i64; BOX_SIZE],
 ) -> ReachAnswer
     requires { ⌜ Valid (now sheet) ⌝ }
-    ensures { λ r. ⌜ answered r ≡ spec.reachOf (now (sheet .entry)) ticks width (lawOf baseline command) (now (start .entry)) ⌝ }
+    ensures { λ r. ⌜ answerOf r ≡ spec.reachOf (now (sheet .entry)) ticks width (lawOf baseline command) (now (start .entry)) ⌝ }
 {
     let p = plant(sheet, baseline, command);
     let refusal = reach_refusal(p.n, sheet, ticks, width, baseline, command, start);
@@ -61,7 +60,7 @@ pub fn reach_of(
         limited: false,
         allowance: 0,
     };
-    let r = walk(
+    let r = steps::reach(
         free,
         p,
         sheet,
@@ -72,7 +71,7 @@ pub fn reach_of(
         &mut end,
         &mut swept,
     );
-    let Walked::Ended { ticks: _, count } = r else {
+    let ReachResult::Ended { ticks: _, count } = r else {
         return refused(0);
     };
     ReachAnswer {
@@ -92,7 +91,7 @@ pub fn reach(
     command: i32,
     start: &[i64; BOX_SIZE],
 ) -> ReachAnswer
-    ensures { λ r. ⌜ answered r ≡ spec.reachFile (now (f .entry)) ticks width (lawOf baseline command) (now (start .entry)) ⌝ }
+    ensures { λ r. ⌜ answerOf r ≡ spec.reachFile (now (f .entry)) ticks width (lawOf baseline command) (now (start .entry)) ⌝ }
 {
     let mut value: [i32; SLOTS] = [0; SLOTS];
     let refusal = read_into(f, &mut value);

@@ -6,7 +6,7 @@ use Rattle.integers.specs.Bound.{Bound}
 use Rattle.sheet_spec.specs.Slots.{_!_}
 
 -- each number of the box is at most b, without its sign
-pub record Sides (b : ℕ) (B : List ℤ) : Type 0 where
+pub record SidesWithin (b : ℕ) (B : List ℤ) : Type 0 where
   pub at : (i : ℕ) → Bound (B ! i) b
 
 -- no side that the code takes is greater

@@ -9,18 +9,18 @@ use lib.ListN.{set, replicate}
 use Rattle.integers.specs.Bound.{Bound}
 use Rattle.integers.proofs.Z.{ints, min-is, max-is, sum, sub, neg, bound-sum, bound-mul, bound-lit, bound-less, bound-in}
 use Rattle.sheet_spec.specs.Slots.{_!_, N, boxSize}
-use Rattle.machine_spec.specs.Box.{lo, hi, sides, trim, hull, moved}
+use Rattle.machine_spec.specs.Box.{lo, hi, boxOf, trim, hull, moved}
 use Rattle.machine_spec.specs.Machine.{Machine, cap}
 use Rattle.machine_spec.specs.Rate.{outer, rate, neighborhood, faceRate, rates}
-use Rattle.boxes_arithmetic.specs.Limits.{Sides}
+use Rattle.boxes_arithmetic.specs.Limits.{SidesWithin}
 use Rattle.boxes_rates.specs.Plant.{Usable}
 use Rattle.machine_spec.proofs.Face.{outer-one}
 use Rattle.machine_spec.proofs.Sound.{rate-within}
 
-pub wider : {b c : ℕ} {B : List ℤ} → b ≤ c → Sides b B → Sides c B
+pub wider : {b c : ℕ} {B : List ℤ} → b ≤ c → SidesWithin b B → SidesWithin c B
 wider h k = record { at = λ i. bound-less (k .at i) h }
 
-pub set-bound : {b : ℕ} (l : List ℤ) (i : ℕ) {v : ℤ} → Sides b l → Bound v b → Sides b (set l i v)
+pub set-bound : {b : ℕ} (l : List ℤ) (i : ℕ) {v : ℤ} → SidesWithin b l → Bound v b → SidesWithin b (set l i v)
 set-bound {b} l i {v} h k = record { at = at l i (h .at) }
   where
     at : (l : List ℤ) (i : ℕ) → ((j : ℕ) → Bound (l ! j) b) → (j : ℕ) → Bound (set l i v ! j) b
@@ -30,8 +30,8 @@ set-bound {b} l i {v} h k = record { at = at l i (h .at) }
     at (x ∷ l) (suc i) h zero = h zero
     at (x ∷ l) (suc i) h (suc j) = at l i (λ t. h (suc t)) j
 
-pub sides-bound : (b n : ℕ) (f g : ℕ → ℤ) → ((i : ℕ) → i < n → Bound (f i) b) → ((i : ℕ) → i < n → Bound (g i) b) → Sides b (sides n f g)
-unfolding sides
+pub sides-bound : (b n : ℕ) (f g : ℕ → ℤ) → ((i : ℕ) → i < n → Bound (f i) b) → ((i : ℕ) → i < n → Bound (g i) b) → SidesWithin b (boxOf n f g)
+unfolding boxOf
 sides-bound b zero f g h k = record { at = zeros boxSize }
   where
     zeros : (n j : ℕ) → Bound (replicate n (pos 0) ! j) b
@@ -39,18 +39,18 @@ sides-bound b zero f g h k = record { at = zeros boxSize }
     zeros (suc n) zero = record { at-most = omega arith }
     zeros (suc n) (suc j) = zeros n j
 sides-bound b (suc n) f g h k =
-    set-bound (set (sides n f g) n (f n)) (n + N)
-    (set-bound (sides n f g) n (sides-bound b n f g (λ i l. h i (omega arith)) (λ i l. k i (omega arith))) (h n (omega arith))) (k n (omega arith))
+    set-bound (set (boxOf n f g) n (f n)) (n + N)
+    (set-bound (boxOf n f g) n (sides-bound b n f g (λ i l. h i (omega arith)) (λ i l. k i (omega arith))) (h n (omega arith))) (k n (omega arith))
 
-pub trim-bound : {b : ℕ} (n : ℕ) (B : List ℤ) → Sides b B → Sides b (trim n B)
+pub trim-bound : {b : ℕ} (n : ℕ) (B : List ℤ) → SidesWithin b B → SidesWithin b (trim n B)
 unfolding trim
 trim-bound {b} n B h = sides-bound b n _ _ (λ i l. h .at i) (λ i l. h .at (i + N))
 
-pub hull-bound : {b : ℕ} (n : ℕ) (A B : List ℤ) → Sides b A → Sides b B → Sides b (hull n A B)
+pub hull-bound : {b : ℕ} (n : ℕ) (A B : List ℤ) → SidesWithin b A → SidesWithin b B → SidesWithin b (hull n A B)
 unfolding hull outer
 hull-bound {b} n A B h k = sides-bound b n _ _ (λ i l. outer-one (λ z. Bound z b) false (h .at i) (k .at i)) (λ i l. outer-one (λ z. Bound z b) true (h .at (i + N)) (k .at (i + N)))
 
-pub moved-bound : {b c : ℕ} (n : ℕ) (A : List ℤ) (k : ℕ) (r : List ℤ) → Sides b A → Sides c r → Sides (b + k * c) (moved n A k r)
+pub moved-bound : {b c : ℕ} (n : ℕ) (A : List ℤ) (k : ℕ) (r : List ℤ) → SidesWithin b A → SidesWithin c r → SidesWithin (b + k * c) (moved n A k r)
 unfolding moved
 moved-bound {b} {c} n A k r h u = sides-bound (b + k * c) n _ _ (λ i l. along i) (λ i l. along (i + N))
   where
@@ -58,7 +58,7 @@ moved-bound {b} {c} n A k r h u = sides-bound (b + k * c) n _ _ (λ i l. along i
     along j = bound-sum (h .at j) (bound-mul {B = k} (bound-less (bound-lit (pos k)) (omega arith)) (u .at j))
 
 -- a neighborhood goes no further than its two boxes
-pub neighborhood-bound : {b : ℕ} (up : Bool) (S : List ℤ) (w : ℤ) (E : List ℤ) (i : ℕ) → pos 0 ≤ℤ w → Sides b S → Sides b E → Sides b (neighborhood up S w E i)
+pub neighborhood-bound : {b : ℕ} (up : Bool) (S : List ℤ) (w : ℤ) (E : List ℤ) (i : ℕ) → pos 0 ≤ℤ w → SidesWithin b S → SidesWithin b E → SidesWithin b (neighborhood up S w E i)
 unfolding neighborhood
 neighborhood-bound {b} false S w E i h s e =
     let least = min-is (hi E i) (lo S i +ℤ w) in
@@ -85,6 +85,6 @@ module _ {m : Machine} (g : Usable m) {i : ℕ} (h : i < m .n) where
       let w = rate-within up m B i (omega (ints, c .low)) in
       bound-in (omega (ints, w .low, c .high, neg (cap m i))) (omega (ints, w .high, c .high))
 
-pub rates-bound : {m : Machine} → Usable m → (S : List ℤ) (k : ℕ) (E : List ℤ) → Sides 1000 (rates m S k E)
+pub rates-bound : {m : Machine} → Usable m → (S : List ℤ) (k : ℕ) (E : List ℤ) → SidesWithin 1000 (rates m S k E)
 unfolding rates faceRate
 rates-bound {m} g S k E = sides-bound 1000 (m .n) _ _ (λ i l. rate-bound g l false _) (λ i l. rate-bound g l true _)

@@ -9,7 +9,7 @@ ghost use Rattle.sheet_spec.specs.Slots as slots;
 ghost use Rattle.machine_spec.specs.Box.{hi, lo};
 ghost use Rattle.machine_spec.specs.Machine.{bandMeets, cap, greatest, least};
 ghost use Rattle.machine_spec.specs.Rate.{bandRate, faceRate, neighborhood, neutral, outer, rate, rates};
-ghost use Rattle.boxes_arithmetic.specs.Limits.{Sides, limit, word};
+ghost use Rattle.boxes_arithmetic.specs.Limits.{SidesWithin, limit, word};
 ghost use Rattle.boxes_rates.specs.Plant.{Usable, cutAt, machineOf};
 use crate::Plant;
 use crate::row::bound;
@@ -82,7 +82,7 @@ fn row_rate(
     k: usize,
     z: i64,
 ) -> i64
-    requires { ⌜ Usable (machineOf p (now sheet)) × Sides limit (now b) ⌝ }
+    requires { ⌜ Usable (machineOf p (now sheet)) × SidesWithin limit (now b) ⌝ }
     requires { ⌜ (i < p .n) × (k < p .bands) ⌝ }
     requires { ⌜ bandMeets (now sheet) (p .bands) k (lo (now b) (p .var)) (hi (now b) (p .var)) ≡ true ⌝ }
     requires { ⌜ (negℤ (cap (machineOf p (now sheet)) i) ≤ℤ z) × (z ≤ℤ cap (machineOf p (now sheet)) i) ⌝ }
@@ -105,7 +105,7 @@ fn band_rate(
     k: usize,
     z: i64,
 ) -> i64
-    requires { ⌜ Usable (machineOf p (now sheet)) × Sides limit (now b) ⌝ }
+    requires { ⌜ Usable (machineOf p (now sheet)) × SidesWithin limit (now b) ⌝ }
     requires { ⌜ (i < p .n) × (k < p .bands) ⌝ }
     requires { ⌜ (negℤ (cap (machineOf p (now sheet)) i) ≤ℤ z) × (z ≤ℤ cap (machineOf p (now sheet)) i) ⌝ }
     ensures { λ r. ⌜ r ≡ outer up z (bandRate up (machineOf p (now (sheet .entry))) (now (b .entry)) i k) ⌝ }
@@ -121,7 +121,7 @@ fn band_rate(
 
 // The least or the greatest allowed change of variable i over the box.
 fn rate(up: bool, p: Plant, sheet: &[i32; SLOTS], b: &[i64; BOX_SIZE], i: usize) -> i64
-    requires { ⌜ Usable (machineOf p (now sheet)) × Sides limit (now b) ⌝ }
+    requires { ⌜ Usable (machineOf p (now sheet)) × SidesWithin limit (now b) ⌝ }
     requires { ⌜ i < p .n ⌝ }
     ensures { λ r. ⌜ r ≡ rate up (machineOf p (now (sheet .entry))) (now (b .entry)) i ⌝ }
 {
@@ -146,7 +146,7 @@ fn cut_at(up: bool, i: usize) -> usize
 // e becomes the part of it within `reach` of s's face.
 fn narrow(up: bool, s: &[i64; BOX_SIZE], reach: i64, e: &mut [i64; BOX_SIZE], i: usize)
     requires { ⌜ (i < slots.N) × Bound reach 1001000 ⌝ }
-    requires { ⌜ Sides limit (now s) ⌝ }
+    requires { ⌜ SidesWithin limit (now s) ⌝ }
     ensures { λ _. ⌜ now (e .exit) ≡ neighborhood up (now (s .entry)) reach (now (e .entry)) i ⌝ }
 {
     let h = i + N;
@@ -168,7 +168,7 @@ fn face_rate(
     e: &mut [i64; BOX_SIZE],
     i: usize,
 ) -> i64
-    requires { ⌜ Usable (machineOf p (now sheet)) × (Sides limit (now s) × Sides limit (now e)) ⌝ }
+    requires { ⌜ Usable (machineOf p (now sheet)) × (SidesWithin limit (now s) × SidesWithin limit (now e)) ⌝ }
     requires { ⌜ (i < p .n) × (k ≤ 1000) ⌝ }
     ensures { λ r. ⌜ r ≡ faceRate up (machineOf p (now (sheet .entry))) (now (s .entry)) k (now (e .entry)) i ⌝ }
     ensures { λ r. ⌜ now (e .exit) ≡ now (e .entry) ⌝ }
@@ -193,7 +193,7 @@ pub fn rates(
     e: &mut [i64; BOX_SIZE],
     r: &mut [i64; BOX_SIZE],
 )
-    requires { ⌜ Usable (machineOf p (now sheet)) × (Sides limit (now s) × Sides limit (now e)) ⌝ }
+    requires { ⌜ Usable (machineOf p (now sheet)) × (SidesWithin limit (now s) × SidesWithin limit (now e)) ⌝ }
     requires { ⌜ k ≤ 1000 ⌝ }
     ensures { λ _. ⌜ now (r .exit) ≡ rates (machineOf p (now (sheet .entry))) (now (s .entry)) k (now (e .entry)) ⌝ }
     ensures { λ _. ⌜ now (e .exit) ≡ now (e .entry) ⌝ }

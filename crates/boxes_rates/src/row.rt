@@ -9,7 +9,7 @@ ghost use Rattle.integers.specs.Bound.{Bound};
 ghost use Rattle.sheet_spec.specs.Slots as slots;
 ghost use Rattle.machine_spec.specs.Machine.{change};
 ghost use Rattle.machine_spec.specs.Rate.{bound, outer, weighted};
-ghost use Rattle.boxes_arithmetic.specs.Limits.{Sides, limit, word};
+ghost use Rattle.boxes_arithmetic.specs.Limits.{SidesWithin, limit, word};
 ghost use Rattle.boxes_rates.specs.Limits.{rowLimit};
 use boxes_arithmetic::highest;
 use boxes_arithmetic::lowest;
@@ -33,7 +33,7 @@ fn term(up: bool, a: i32, lo: i64, hi: i64) -> i64
 // Σ aj·xj over the box, by the coefficients of the row at a slot.
 fn weighted(up: bool, n: usize, sheet: &[i32; SLOTS], at: usize, b: &[i64; BOX_SIZE]) -> i64
     requires { ⌜ (n ≤ slots.N) × (at + slots.rowSize ≤ slots.slots) ⌝ }
-    requires { ⌜ Sides limit (now b) ⌝ }
+    requires { ⌜ SidesWithin limit (now b) ⌝ }
     ensures { λ r. ⌜ r ≡ weighted up n (slots.rowAt (now (sheet .entry)) at) (now (b .entry)) ⌝ }
     ensures { λ r. ⌜ Bound r (slots.N * (word * limit)) ⌝ }
 {
@@ -65,7 +65,7 @@ pub fn bound(
     t: i64,
 ) -> i64
     requires { ⌜ (n ≤ slots.N) × (at + slots.rowSize ≤ slots.slots) ⌝ }
-    requires { ⌜ Sides limit (now b) × Bound t (word * word) ⌝ }
+    requires { ⌜ SidesWithin limit (now b) × Bound t (word * word) ⌝ }
     ensures { λ r. ⌜ ((u v : ℤ) → t ≡ outer up (slots.rowAt (now (sheet .entry)) at .b *ℤ u) (slots.rowAt (now (sheet .entry)) at .b *ℤ v) → r ≡ bound up n (slots.rowAt (now (sheet .entry)) at) (now (b .entry)) u v) ⌝ }
     ensures { λ r. ⌜ Bound r rowLimit ⌝ }
 {

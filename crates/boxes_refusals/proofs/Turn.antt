@@ -8,7 +8,7 @@ use lib.Signed.{leZ}
 use Rattle.integers.specs.Bound.{Bound}
 use Rattle.integers.proofs.Z.{bound-in, ints, le-true}
 use Rattle.machine_spec.specs.Box.{lo, hi, all, trim}
-use Rattle.boxes_arithmetic.specs.Limits.{Sides}
+use Rattle.boxes_arithmetic.specs.Limits.{SidesWithin}
 use Rattle.machine_spec.proofs.Box.{and-both, all-at, all-more, all-stop}
 use Rattle.boxes_rates.proofs.Bounds.{sides-bound}
 use Rattle.boxes_spec.specs.Reach.{sidesRefusal}
@@ -41,7 +41,7 @@ module _ (n : ℕ) (B : List ℤ) where
   sides-stop i h e = rw (all-stop n (sideIn B) i h e) refl
 
   -- what no variable has is 0
-  pub sides-near : sidesRefusal n B ≡ 0 → Sides 1000000 (trim n B)
+  pub sides-near : sidesRefusal n B ≡ 0 → SidesWithin 1000000 (trim n B)
   unfolding trim
   sides-near e = sides-bound 1000000 n (lo B) (hi B) (λ i h. near i h .0) (λ i h. near i h .1)
     where

@@ -14,20 +14,21 @@ use Rattle.machine_spec.specs.Machine.{Law, Machine, machine}
 use Rattle.machine_spec.proofs.Box.{differ, and-both}
 use Rattle.machine_spec.proofs.Inside.{trim-holds}
 use Rattle.machine_spec.proofs.Sound.{proper}
-use Rattle.boxes_spec.specs.Step.{Failure, unsettled, Got, got, failed, out, step}
-use Rattle.boxes_spec.specs.Reach.{Reached, reach, clear, ticksRefusal, orNext, reachRefusal, answer, ifAccepted, reachOf}
+use Rattle.boxes_spec.specs.Step.{Failure, unsettled, Result, ok, failed, exhausted, step}
+use Rattle.sheet_spec.specs.Refusals.{orElse}
+use Rattle.boxes_spec.specs.Reach.{Reached, reach, clear, ticksRefusal, reachRefusal, answer, ifAccepted, reachOf}
 use Rattle.boxes_spec.proofs.Stages.{Counted, Takes, value, failure, spent, failure-of, has-value}
 use Rattle.boxes_spec.proofs.Sound.{Reaches, ends-reach, reaches-part}
 use Rattle.boxes_spec.proofs.Settled.{start, Stops, step-takes, reach-takes, below-power}
 
 -- ---- counts
 
-abbrev pub count : {A : Type 0} → Got A → ℕ
-count (got x c) = c
+abbrev pub count : {A : Type 0} → Result A → ℕ
+count (ok x c) = c
 count (failed why c) = c
-count (out c) = c
+count (exhausted c) = c
 
-pub takes-count : {l : Bool} {a c most : ℕ} {A : Type 0} {P : A → Type 0} {Q : Failure → Type 0} {g : Got A} → Takes l a c most P Q g → Counted l a c most (count g)
+pub takes-count : {l : Bool} {a c most : ℕ} {A : Type 0} {P : A → Type 0} {Q : Failure → Type 0} {g : Result A} → Takes l a c most P Q g → Counted l a c most (count g)
 takes-count (value p n) = n
 takes-count (failure q n) = n
 takes-count (spent i e n) = n
@@ -59,7 +60,7 @@ pub clear-none : (n : ℕ) (v B : List ℤ) → clear n v 0 B ≡ true
 unfolding clear any
 clear-none n v B = refl
 
-or-first : (r s : ℕ) → orNext r s ≡ 0 → r ≡ 0
+or-first : (r s : ℕ) → orElse r s ≡ 0 → r ≡ 0
 or-first zero s e = refl
 or-first (suc r) s e = e
 
@@ -75,7 +76,7 @@ ticks-width ticks w e =
     let b = and-both (leb ticks 1000) (leb 1 w) (a .0) in
     (leb-true ticks 1000 (b .0), leb-true 1 w (b .1), leb-true w 1000 (a .1))
 
-accepted : {k : ℕ} {g h : Got Reached} → k ≡ 0 → g ≡ h → ifAccepted k (answer g) ≡ answer h
+accepted : {k : ℕ} {g h : Result Reached} → k ≡ 0 → g ≡ h → ifAccepted k (answer g) ≡ answer h
 accepted {k} {g} e f = rw (e, f) refl
 
 pub record Answered (v : List ℤ) (ticks w : ℕ) (l : Law) (B : List ℤ) : Type 0 where
@@ -87,7 +88,7 @@ pub record Answered (v : List ℤ) (ticks w : ℕ) (l : Law) (B : List ℤ) : Ty
 
 pub reach-answers : {v : List ℤ} → Valid v → (ticks w : ℕ) (l : Law) (B : List ℤ) → reachRefusal v ticks w l B ≡ 0 → Answered v ticks w l B
 unfolding reachRefusal reachOf answer
-reach-answers {v} ok ticks w l B e =
+reach-answers {v} wf ticks w l B e =
     let t = ticks-width ticks w (or-first (ticksRefusal ticks w) _ e) in
-    let r = has-value (λ why s. differ (clear-none (vars v) v _) (s .hits .hits)) (reach-takes false 0 (machine v l) (clear (vars v) v 0) w 9 (proper l ok .room) (t .1) (omega (arith, t .2)) (trim (vars v) B) ticks 0) in
-    record { reached = r .value; rounds = r .count; says = accepted e (r .same); few = omega (arith, r .counted .few); sound = reaches-part (trim-holds (proper l ok .room) B) (ends-reach (proper l ok) (r .holds)) }
+    let r = has-value (λ why s. differ (clear-none (vars v) v _) (s .hits .hits)) (reach-takes false 0 (machine v l) (clear (vars v) v 0) w 9 (proper l wf .room) (t .1) (omega (arith, t .2)) (trim (vars v) B) ticks 0) in
+    record { reached = r .value; rounds = r .count; says = accepted e (r .same); few = omega (arith, r .counted .few); sound = reaches-part (trim-holds (proper l wf .room) B) (ends-reach (proper l wf) (r .holds)) }

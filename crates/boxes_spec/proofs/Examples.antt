@@ -9,8 +9,8 @@ use Rattle.sheet_spec.specs.Slots.{N}
 use Rattle.sheet_spec.specs.Sheet.{values}
 use Rattle.sheet_spec.specs.SheetA.{fileA}
 use Rattle.machine_spec.specs.Machine.{Law, baseline, command, machine}
-use Rattle.boxes_spec.specs.Step.{Got, Step, got, failed, unsafe}
-use Rattle.boxes_spec.specs.Reach.{Reached, leg, reach, clear, Answer, refused, reachFile}
+use Rattle.boxes_spec.specs.Step.{Result, Step, ok, failed, unsafe}
+use Rattle.boxes_spec.specs.Reach.{Reached, testedStep, reach, clear, Answer, refused, reachFile}
 use Rattle.boxes_spec.proofs.Everything.{everything}
 
 -- a box of one variable
@@ -18,22 +18,22 @@ box : ℤ → ℤ → List ℤ
 box l h = (l ∷ replicate (N - 1) (pos 0)) ++ (h ∷ replicate (N - 1) (pos 0))
 
 -- four ticks at width 4 after c rounds, and a step of width 1
-four : Law → List ℤ → ℕ → Got Reached
+four : Law → List ℤ → ℕ → Result Reached
 four l S c = reach false 0 (machine (values fileA) l) (clear 1 (values fileA) 1) 4 S 4 c
 
-one : Law → List ℤ → Got Step
-one l S = leg false 0 (machine (values fileA) l) (clear 1 (values fileA) 1) 1 S 4 0
+one : Law → List ℤ → Result Step
+one l S = testedStep false 0 (machine (values fileA) l) (clear 1 (values fileA) 1) 1 S 4 0
 
-after-δ : four (command (pos 25)) (box (pos 0) (pos 0)) 0 ≡ got (record { end = box (pos 16) (pos 20); swept = box (pos 0) (pos 20) }) 2
+after-δ : four (command (pos 25)) (box (pos 0) (pos 0)) 0 ≡ ok (record { end = box (pos 16) (pos 20); swept = box (pos 0) (pos 20) }) 2
 unfolding everything box four
 after-δ = refl
 
-after-α : four baseline (box (pos 16) (pos 20)) 2 ≡ got (record { end = box (pos 12) (pos 20); swept = box (pos 12) (pos 20) }) 4
+after-α : four baseline (box (pos 16) (pos 20)) 2 ≡ ok (record { end = box (pos 12) (pos 20); swept = box (pos 12) (pos 20) }) 4
 unfolding everything box four
 after-α = refl
 
 -- here the rates hang on where the box is at the last tick but one, and not at the last
-under-24 : four (command (pos 24)) (box (pos 0) (pos 0)) 0 ≡ got (record { end = box (pos 16) (pos 20); swept = box (pos 0) (pos 20) }) 2
+under-24 : four (command (pos 24)) (box (pos 0) (pos 0)) 0 ≡ ok (record { end = box (pos 16) (pos 20); swept = box (pos 0) (pos 20) }) 2
 unfolding everything box four
 under-24 = refl
 

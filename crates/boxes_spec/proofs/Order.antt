@@ -41,37 +41,37 @@ working-length {m} l (grows w) = sides-length (m .n) _ _
 reach-in : {c : ℤ} (k : ℕ) → pos 0 ≤ℤ c → pos 0 ≤ℤ (pos k *ℤ c)
 reach-in {c} k h = omega (ints, mul-mono (pos k) (pos 0) c (omega ints) h, prod (pos k) (pos 0))
 
-module _ {m : Machine} (ok : Proper m) (S : List ℤ) (k : ℕ) (o : Ordered (m .n) S) where
+module _ {m : Machine} (wf : Proper m) (S : List ℤ) (k : ℕ) (o : Ordered (m .n) S) where
   -- no neighborhood is empty
   pub face-ordered : {E : List ℤ} → Inside (m .n) S E → (up : Bool) (i : ℕ) → i < m .n → Ordered (m .n) (neighborhood up S (pos (k + 1) *ℤ cap m i) E i)
-  face-ordered s up i h = neighborhood-ordered (ok .room) S _ i h (reach-in (k + 1) (ok .caps i h)) up s (inside-ordered s o)
+  face-ordered s up i h = neighborhood-ordered (wf .room) S _ i h (reach-in (k + 1) (wf .caps i h)) up s (inside-ordered s o)
 
   module _ {E F : List ℤ} (l : length E ≡ length F) (s : Inside (m .n) S E) (t : Inside (m .n) E F) where
     -- the rates of the faces and M grow with the working box
     face-mono : (up : Bool) (i : ℕ) → i < m .n → Beyond up (faceRate up m S k F i) (faceRate up m S k E i)
     unfolding faceRate
-    face-mono up i h = rate-mono ok _ _ (face-ordered s up i h) (neighborhood-inside (ok .room) S _ i h up l t) up i h
+    face-mono up i h = rate-mono wf _ _ (face-ordered s up i h) (neighborhood-inside (wf .room) S _ i h up l t) up i h
 
     lifted-mono : Inside (m .n) (lifted m S k E) (lifted m S k F)
     unfolding lifted
     lifted-mono =
-        hull-least (ok .room) S _ (hull-left (ok .room) S (moved (m .n) S (k - 1) (rates m S k F)))
-        (inside-trans (record { at = λ up i h. rw (lift-side m i (ok .room) h up S k F (k - 1), lift-side m i (ok .room) h up S k E (k - 1)) (beyond-sum (beyond-refl up (side up S i)) (beyond-times (k - 1) (face-mono up i h))) })
-        (hull-right (ok .room) S (moved (m .n) S (k - 1) (rates m S k F))))
+        hull-least (wf .room) S _ (hull-left (wf .room) S (moved (m .n) S (k - 1) (rates m S k F)))
+        (inside-trans (record { at = λ up i h. rw (lift-side m i (wf .room) h up S k F (k - 1), lift-side m i (wf .room) h up S k E (k - 1)) (beyond-sum (beyond-refl up (side up S i)) (beyond-times (k - 1) (face-mono up i h))) })
+        (hull-right (wf .room) S (moved (m .n) S (k - 1) (rates m S k F))))
 
   module _ (l : length S ≡ boxSize) where
     -- every working box lies in its M
     pub working-lifted : {E : List ℤ} → Working m S k E → Inside (m .n) E (lifted m S k E)
     unfolding lifted grown
-    working-lifted starts = hull-left (ok .room) S _
+    working-lifted starts = hull-left (wf .room) S _
     working-lifted (grows {E = E} w) =
-        inside-trans (hull-least (ok .room) E (lifted m S k E) (working-lifted w) (inside-refl (lifted m S k E)))
-        (lifted-mono (working-length l w ∙ sym (working-length l (grows w))) (working-holds (ok .room) w) (hull-left (ok .room) E (lifted m S k E)))
+        inside-trans (hull-least (wf .room) E (lifted m S k E) (working-lifted w) (inside-refl (lifted m S k E)))
+        (lifted-mono (working-length l w ∙ sym (working-length l (grows w))) (working-holds (wf .room) w) (hull-left (wf .room) E (lifted m S k E)))
 
     -- HULL(E, M) IS M
     pub grown-is : {E : List ℤ} → Working m S k E → grown m S k E ≡ lifted m S k E
     unfolding grown lifted
-    grown-is w = hull-absorbs (ok .room) _ S _ (working-lifted w)
+    grown-is w = hull-absorbs (wf .room) _ S _ (working-lifted w)
 
 -- ---- NEVER REVERSED
 
@@ -84,17 +84,17 @@ faces-ordered k c s s′ r r′ z h l u near =
     (λ f. simp flat (omega (ints, simp flat at f, simp flat at (mul-mono (pos k) r c (omega ints) l), simp flat at (mul-mono (pos k) (negℤ c) r′ (omega ints) u))))
     (le-or-lt (s′ -ℤ pos (k + 1) *ℤ c) (s +ℤ pos (k + 1) *ℤ c))
 
-module _ {m : Machine} (ok : Proper m) (p : Permits m) (b : 0 < m .bands) (S : List ℤ) (k : ℕ) (o : Ordered (m .n) S) {E : List ℤ} (s : Inside (m .n) S E) (low : edge (m .sheet) 0 ≤ℤ lo E (m .var)) where
+module _ {m : Machine} (wf : Proper m) (p : Permits m) (b : 0 < m .bands) (S : List ℤ) (k : ℕ) (o : Ordered (m .n) S) {E : List ℤ} (s : Inside (m .n) S E) (low : edge (m .sheet) 0 ≤ℤ lo E (m .var)) where
   pub end-ordered : Ordered (m .n) (endBox m S k E)
   unfolding endBox faceRate neutral
   end-ordered = record {
     at = λ i h.
-        rw (lift-side m i (ok .room) h false S k E k, lift-side m i (ok .room) h true S k E k)
-        (faces-ordered k (cap m i) (lo S i) (hi S i) _ _ (ok .caps i h) (o .at i h) (rate-within false m _ i (ok .caps i h) .high) (rate-within true m _ i (ok .caps i h) .low)
+        rw (lift-side m i (wf .room) h false S k E k, lift-side m i (wf .room) h true S k E k)
+        (faces-ordered k (cap m i) (lo S i) (hi S i) _ _ (wf .caps i h) (o .at i h) (rate-within false m _ i (wf .caps i h) .high) (rate-within true m _ i (wf .caps i h) .low)
         (λ n.
         let U = neighborhood true S (pos (k + 1) *ℤ cap m i) E i in
-        let u = corner (face-ordered ok S k o s true i h) in
-        let e : In (m .n) E U = inside-in (neighborhood-part (ok .room) S _ i h true E) u in
-        rates-ordered _ U i ok p (has-band b (omega (ints, e .low (m .var) (ok .var))))
-        (near-in (ok .room) S _ i h false e (neighborhoods-touch (ok .room) S _ i h (reach-in (k + 1) (ok .caps i h)) true s (record { order = n }))) u h));
+        let u = corner (face-ordered wf S k o s true i h) in
+        let e : In (m .n) E U = inside-in (neighborhood-part (wf .room) S _ i h true E) u in
+        rates-ordered _ U i wf p (has-band b (omega (ints, e .low (m .var) (wf .var))))
+        (near-in (wf .room) S _ i h false e (neighborhoods-touch (wf .room) S _ i h (reach-in (k + 1) (wf .caps i h)) true s (record { order = n }))) u h));
   }

@@ -1,4 +1,4 @@
--- How far the numbers of a reach go: sides, neighborhoods and the rows' numbers, at every step of a walk; and no box on the way is
+-- How far the numbers of a reach go: sides, neighborhoods and the rows' numbers, at every step of a reach; and no box on the way is
 -- reversed. Assumes nothing.
 use mathlib.Core.Path.{_≡_, subst}
 use mathlib.Core.Bool.{Bool, true, false, _&&_}
@@ -22,27 +22,27 @@ use Rattle.machine_spec.proofs.Progress.{Permits, permits}
 use Rattle.machine_spec.proofs.Ranges.{Near, near-less, near-part, hull-near, moved-near, Ranged, Lawful, ranged, rates-near, limit-near, row-near}
 use Rattle.boxes_spec.specs.Step.{lifted, grown, endBox, Step}
 use Rattle.boxes_spec.specs.Reach.{lawRefusal, sidesRefusal}
-use Rattle.boxes_spec.proofs.Settled.{Working, starts, grows, Settled, Place, start, Walks, here, next, walks-less}
+use Rattle.boxes_spec.proofs.Settled.{Working, starts, grows, Settled, Place, start, StepsTo, here, next, steps-less}
 use Rattle.boxes_spec.proofs.Count.{cond-zero}
 use Rattle.boxes_spec.proofs.Order.{working-holds, face-ordered, end-ordered}
 
 -- ---- a step of length k from S, whose sides are at most b
 
-module _ {m : Machine} (ok : Proper m) (r : Ranged m) {S : List ℤ} (k : ℕ) {b : ℕ} (s : Near (m .n) b S) where
+module _ {m : Machine} (wf : Proper m) (r : Ranged m) {S : List ℤ} (k : ℕ) {b : ℕ} (s : Near (m .n) b S) where
   pub end-near : (E : List ℤ) → Near (m .n) (b + k * 1000) (endBox m S k E)
   unfolding endBox
-  end-near E = moved-near (ok .room) k s (rates-near ok r S k E)
+  end-near E = moved-near (wf .room) k s (rates-near wf r S k E)
 
   pub lifted-near : (E : List ℤ) → Near (m .n) (b + (k - 1) * 1000) (lifted m S k E)
   unfolding lifted
-  lifted-near E = hull-near (ok .room) (near-less (omega arith) s) (moved-near (ok .room) (k - 1) s (rates-near ok r S k E))
+  lifted-near E = hull-near (wf .room) (near-less (omega arith) s) (moved-near (wf .room) (k - 1) s (rates-near wf r S k E))
 
   pub working-near : {E : List ℤ} → Working m S k E → Near (m .n) (b + (k - 1) * 1000) E
   unfolding grown
   working-near starts = near-less (omega arith) s
-  working-near (grows {E = E} w) = hull-near (ok .room) (working-near w) (lifted-near E)
+  working-near (grows {E = E} w) = hull-near (wf .room) (working-near w) (lifted-near E)
 
--- ---- a walk
+-- ---- a reach
 
 -- a box that is not empty, and whose sides are at most b
 pub record Sized (n b : ℕ) (B : List ℤ) : Type 0 where
@@ -59,27 +59,27 @@ pub record Accepted (m : Machine) : Type 0 where
   pub first : edge (m .sheet) 0 ≡ negℤ (pos 2000000)
 
 pub accepted : {v : List ℤ} (l : Law) → Valid v → Lawful v l → Accepted (machine v l)
-accepted l ok t = record { vars = ok .vars-high; proper = proper l ok; permits = permits l ok; ranged = ranged ok l t; bands = ok .bands-low; first = ok .first-edge }
+accepted l wf t = record { vars = wf .vars-high; proper = proper l wf; permits = permits l wf; ranged = ranged wf l t; bands = wf .bands-low; first = wf .first-edge }
 
-module _ {m : Machine} (ok : Accepted m) where
+module _ {m : Machine} (wf : Accepted m) where
   above-first : {b : ℕ} (E : List ℤ) → Near (m .n) b E → b ≤ 2000000 → edge (m .sheet) 0 ≤ℤ lo E (m .var)
-  above-first E e h = omega (ints, ok .first, e .at false (m .var) (ok .proper .var) .at-most)
+  above-first E e h = omega (ints, wf .first, e .at false (m .var) (wf .proper .var) .at-most)
 
   -- behind a step
   settled-sized : {S : List ℤ} {k b : ℕ} {t : Step} → Sized (m .n) b S → b + k * 1000 ≤ 2000000 → Settled m S k t → Sized (m .n) (b + t .ticks * 1000) (t .end)
   settled-sized {S} {k} {b} {t} s h e = rw (e .end) (record {
-    near = end-near (ok .proper) (ok .ranged) (t .ticks) (s .near) (e .E);
-    ordered = end-ordered (ok .proper) (ok .permits) (ok .bands) S (t .ticks) (s .ordered) (working-holds (ok .proper .room) (e .working))
-        (above-first (e .E) (working-near (ok .proper) (ok .ranged) (t .ticks) (s .near) (e .working)) (omega (arith, e .most, e .some)));
+    near = end-near (wf .proper) (wf .ranged) (t .ticks) (s .near) (e .E);
+    ordered = end-ordered (wf .proper) (wf .permits) (wf .bands) S (t .ticks) (s .ordered) (working-holds (wf .proper .room) (e .working))
+        (above-first (e .E) (working-near (wf .proper) (wf .ranged) (t .ticks) (s .near) (e .working)) (omega (arith, e .most, e .some)));
   })
 
-  -- NEVER REVERSED, and b grows by 1,000 with each tick, wherever a walk stands
-  pub walks-sized : {clear : List ℤ → Bool} {w b : ℕ} {p q : Place} → Walks m clear w q p → Sized (m .n) b (p .box) → b + p .left * 1000 ≤ 2000000
+  -- NEVER REVERSED, and b grows by 1,000 with each tick, wherever a reach stands
+  pub steps-sized : {clear : List ℤ → Bool} {w b : ℕ} {p q : Place} → StepsTo m clear w q p → Sized (m .n) b (p .box) → b + p .left * 1000 ≤ 2000000
       → Sized (m .n) (b + (p .left - q .left) * 1000) (q .box)
-  walks-sized {b} {q} here s h = let e : b ≡ b + (q .left - q .left) * 1000 = omega arith in subst (λ (c : ℕ). Sized (m .n) c (q .box)) e s
-  walks-sized {b} {p} {q} (next {t = t} e k w) s h =
-      let n : b + t .ticks * 1000 + (p .left - t .ticks - q .left) * 1000 ≡ b + (p .left - q .left) * 1000 = omega (arith, walks-less w, e .most) in
-      subst (λ (c : ℕ). Sized (m .n) c (q .box)) n (walks-sized w (settled-sized s (omega (arith, e .most)) e) (omega (arith, e .most)))
+  steps-sized {b} {q} here s h = let e : b ≡ b + (q .left - q .left) * 1000 = omega arith in subst (λ (c : ℕ). Sized (m .n) c (q .box)) e s
+  steps-sized {b} {p} {q} (next {t = t} e k w) s h =
+      let n : b + t .ticks * 1000 + (p .left - t .ticks - q .left) * 1000 ≡ b + (p .left - q .left) * 1000 = omega (arith, steps-less w, e .most) in
+      subst (λ (c : ℕ). Sized (m .n) c (q .box)) n (steps-sized w (settled-sized s (omega (arith, e .most)) e) (omega (arith, e .most)))
 
 -- ---- the numbers of a round
 
@@ -101,26 +101,26 @@ pub record Ranges (m : Machine) (S : List ℤ) (k : ℕ) (E : List ℤ) : Type 0
   pub above : (up : Bool) (i j : ℕ) → i < m .n → j < m .bands → Bound (numerator m S k E up i j +ℤ rowOf m j i .d) 8206000000
 
 -- a round of a step of length k, at least 1, from a box that leaves room for k ticks
-module _ {m : Machine} (ok : Accepted m) {S : List ℤ} (k : ℕ) {b : ℕ} (s : Sized (m .n) b S) (z : 0 < k) (h : b + k * 1000 ≤ 2000000) {E : List ℤ} (w : Working m S k E) where
+module _ {m : Machine} (wf : Accepted m) {S : List ℤ} (k : ℕ) {b : ℕ} (s : Sized (m .n) b S) (z : 0 < k) (h : b + k * 1000 ≤ 2000000) {E : List ℤ} (w : Working m S k E) where
   around : (up : Bool) (i : ℕ) → i < m .n → Sized (m .n) 1999000 (neighborhood up S (pos (k + 1) *ℤ cap m i) E i)
   around up i g =
-      let o = face-ordered (ok .proper) S k (s .ordered) (working-holds (ok .proper .room) w) up i g in
-      record { near = near-part o (neighborhood-part (ok .proper .room) S _ i g up E) (near-less (omega arith) (working-near (ok .proper) (ok .ranged) k (s .near) w)); ordered = o }
+      let o = face-ordered (wf .proper) S k (s .ordered) (working-holds (wf .proper .room) w) up i g in
+      record { near = near-part o (neighborhood-part (wf .proper .room) S _ i g up E) (near-less (omega arith) (working-near (wf .proper) (wf .ranged) k (s .near) w)); ordered = o }
 
   number : (up : Bool) (i j : ℕ) → i < m .n → j < m .bands → Bound (numerator m S k E up i j) 8106000000
-  number up i j g l = bound-less (row-near (least m j) (greatest m j) (ok .ranged .rows j i l g) (around up i g .near) (ok .ranged .least j l) (ok .ranged .greatest j l) up) (omega (arith, ok .vars))
+  number up i j g l = bound-less (row-near (least m j) (greatest m j) (wf .ranged .rows j i l g) (around up i g .near) (wf .ranged .least j l) (wf .ranged .greatest j l) up) (omega (arith, wf .vars))
 
   spread : (i j : ℕ) → i < m .n → j < m .bands → Bound (rowOf m j i .d) 100000000
-  spread i j g l = let d = ok .ranged .rows j i l g .d in bound-in (omega (ints, d .low)) (d .high)
+  spread i j g l = let d = wf .ranged .rows j i l g .d in bound-in (omega (ints, d .low)) (d .high)
 
   pub round-ranges : Ranges m S k E
   round-ranges = record {
-    working = near-less (omega arith) (working-near (ok .proper) (ok .ranged) k (s .near) w);
-    front = near-less (omega arith) (lifted-near (ok .proper) (ok .ranged) k (s .near) E);
-    end = near-less (omega arith) (end-near (ok .proper) (ok .ranged) k (s .near) E);
-    swept = hull-near (ok .proper .room) (near-less (omega arith) (s .near)) (near-less (omega arith) (end-near (ok .proper) (ok .ranged) k (s .near) E));
+    working = near-less (omega arith) (working-near (wf .proper) (wf .ranged) k (s .near) w);
+    front = near-less (omega arith) (lifted-near (wf .proper) (wf .ranged) k (s .near) E);
+    end = near-less (omega arith) (end-near (wf .proper) (wf .ranged) k (s .near) E);
+    swept = hull-near (wf .proper .room) (near-less (omega arith) (s .near)) (near-less (omega arith) (end-near (wf .proper) (wf .ranged) k (s .near) E));
     neighborhoods = around;
-    limits = λ up i g. bound-less (limit-near (ok .proper) (ok .ranged) (s .near) up (k + 1) i g) (omega arith);
+    limits = λ up i g. bound-less (limit-near (wf .proper) (wf .ranged) (s .near) up (k + 1) i g) (omega arith);
     numbers = number;
     below = λ up i j g l. bound-sub (number up i j g l) (spread i j g l);
     above = λ up i j g l. bound-sum (number up i j g l) (spread i j g l);
@@ -128,8 +128,8 @@ module _ {m : Machine} (ok : Accepted m) {S : List ℤ} (k : ℕ) {b : ℕ} (s :
 
 -- RANGES: each round of each step of a reach, its start box S and its ticks leaving room
 pub reach-ranges : {m : Machine} {clear : List ℤ → Bool} {w b ticks : ℕ} {S : List ℤ} {q : Place} {E : List ℤ} (k : ℕ) → Accepted m → Sized (m .n) b S → b + ticks * 1000 ≤ 2000000
-    → Walks m clear w q (start S ticks) → 0 < k → k ≤ q .left → Working m (q .box) k E → Ranges m (q .box) k E
-reach-ranges k ok s h w z l e = round-ranges ok k (walks-sized ok w s h) z (omega (arith, walks-less w)) e
+    → StepsTo m clear w q (start S ticks) → 0 < k → k ≤ q .left → Working m (q .box) k E → Ranges m (q .box) k E
+reach-ranges k wf s h w z l e = round-ranges wf k (steps-sized wf w s h) z (omega (arith, steps-less w)) e
 
 -- ---- the start boxes and the laws that are not refused
 
@@ -158,9 +158,9 @@ start-sized n B e = sized-by (λ i h. le-true (negℤ (pos 1000000)) (lo B i) (b
     both i h = and-both (leZ (negℤ (pos 1000000)) (lo B i)) (leZ (lo B i) (hi B i)) (last i h .0)
 
 pub recovery-sized : {v : List ℤ} → Valid v → Sized (vars v) 1000000 (recoveryBox v)
-recovery-sized {v} ok =
-    sized-by (λ i h. rw (box-lo v recoverySlot i (room i h)) (ok .recovery .lower i h)) (record { at = λ i h. rw (box-lo v recoverySlot i (room i h), box-hi v recoverySlot i (room i h)) (ok .recovery .ordered i h) })
-    (λ i h. rw (box-hi v recoverySlot i (room i h)) (ok .recovery .upper i h))
+recovery-sized {v} wf =
+    sized-by (λ i h. rw (box-lo v recoverySlot i (room i h)) (wf .recovery .lower i h)) (record { at = λ i h. rw (box-lo v recoverySlot i (room i h), box-hi v recoverySlot i (room i h)) (wf .recovery .ordered i h) })
+    (λ i h. rw (box-hi v recoverySlot i (room i h)) (wf .recovery .upper i h))
   where
     room : (i : ℕ) → i < vars v → i < N
-    room i h = omega (arith, ok .vars-high)
+    room i h = omega (arith, wf .vars-high)

@@ -18,8 +18,8 @@ use Rattle.machine_spec.proofs.Box.{differ}
 use Rattle.machine_spec.proofs.Face.{beyond-refl}
 use Rattle.machine_spec.proofs.Inside.{side, moved-side, inside-refl, hull-least, inside-within}
 use Rattle.boxes_spec.specs.Step.{lifted, settles, endBox, grown, Failure, unsafe, andThen, Step, rounds, halving, step, swept}
-use Rattle.boxes_spec.specs.Reach.{Reached, leg, walk, reach}
-use Rattle.boxes_spec.proofs.Stages.{Takes, value, failure, counted-none, counted-less, takes-map, takes-then, takes-else, takes-if, takes-round}
+use Rattle.boxes_spec.specs.Reach.{Reached, testedStep, steps, reach}
+use Rattle.boxes_spec.proofs.Stages.{Takes, value, failure, counted-none, counted-less, takes-map, takes-then, takes-retry, takes-if, takes-round}
 
 -- ---- steps
 
@@ -80,10 +80,10 @@ module _ (l : Bool) (a : ℕ) (m : Machine) (S : List ℤ) where
   unfolding halving
   halving-takes room zero k c e z f h = absurd (omega arith)
   halving-takes room (suc fuel) zero c e z f h = absurd (omega arith)
-  halving-takes room (suc fuel) (suc zero) c e z f h = takes-else {d = 0} _ (omega arith) (rounds-one room 7 c) (λ why c′ b. absurd b)
+  halving-takes room (suc fuel) (suc zero) c e z f h = takes-retry {d = 0} _ (omega arith) (rounds-one room 7 c) (λ why c′ b. absurd b)
   halving-takes room (suc fuel) (suc (suc k)) c zero z f h = absurd (omega arith)
   halving-takes room (suc fuel) (suc (suc k)) c (suc e) z f h =
-      takes-else _ (omega arith) (rounds-take (suc (suc k)) 8 S c z starts)
+      takes-retry _ (omega arith) (rounds-take (suc (suc k)) 8 S c z starts)
       (λ why c′ _. takes-if (leb (suc (suc k)) 1) _ _ (λ l. absurd (omega (arith, leb-true (suc (suc k)) 1 l)))
       (λ l. takes-map (le-refl (8 * e + 1)) (λ t s. settled-less (omega arith) s) (λ why b. b) (halving-takes room fuel (suc (suc k) / 2) c′ e (omega arith) (omega arith) (omega arith))))
 
@@ -91,9 +91,9 @@ module _ (l : Bool) (a : ℕ) (m : Machine) (S : List ℤ) where
   unfolding step
   step-takes room k c e z h = halving-takes room k k c e z (le-refl k) h
 
--- ---- the walk
+-- ---- the reach
 
--- where a walk stands: the box of its next step, the hull of the swept boxes so far, the ticks left
+-- where a reach stands: the box of its next step, the hull of the swept boxes so far, the ticks left
 pub record Place : Type 0 where
   pub box : List ℤ
   pub swept : List ℤ
@@ -111,17 +111,17 @@ abbrev pub behind : Machine → Place → Step → Place
 behind m p t = record { box = t .end; swept = hull (m .n) (p .swept) (swept m (p .box) t); left = p .left - t .ticks }
 
 -- from p, steps that are clear lead to q
-pub data Walks (m : Machine) (clear : List ℤ → Bool) (w : ℕ) (q : Place) : Place → Type 0 where
-  here : Walks m clear w q q
-  next : {p : Place} {t : Step} → Settled m (p .box) (min w (p .left)) t → clear (swept m (p .box) t) ≡ true → Walks m clear w q (behind m p t) → Walks m clear w q p
+pub data StepsTo (m : Machine) (clear : List ℤ → Bool) (w : ℕ) (q : Place) : Place → Type 0 where
+  here : StepsTo m clear w q q
+  next : {p : Place} {t : Step} → Settled m (p .box) (min w (p .left)) t → clear (swept m (p .box) t) ≡ true → StepsTo m clear w q (behind m p t) → StepsTo m clear w q p
 
-pub walks-less : {m : Machine} {clear : List ℤ → Bool} {w : ℕ} {p q : Place} → Walks m clear w q p → q .left ≤ p .left
-walks-less {q} here = le-refl (q .left)
-walks-less (next s k r) = omega (arith, walks-less r)
+pub steps-less : {m : Machine} {clear : List ℤ → Bool} {w : ℕ} {p q : Place} → StepsTo m clear w q p → q .left ≤ p .left
+steps-less {q} here = le-refl (q .left)
+steps-less (next s k r) = omega (arith, steps-less r)
 
--- from p a walk ends with r
+-- from p a reach ends with r
 pub record Ends (m : Machine) (clear : List ℤ → Bool) (w : ℕ) (p : Place) (r : Reached) : Type 0 where
-  pub walks : Walks m clear w (finish r) p
+  pub path : StepsTo m clear w (finish r) p
 
 -- at p a step is not clear, and `why` says so
 pub record Hits (m : Machine) (clear : List ℤ → Bool) (w : ℕ) (p : Place) (why : Failure) : Type 0 where
@@ -130,37 +130,37 @@ pub record Hits (m : Machine) (clear : List ℤ → Bool) (w : ℕ) (p : Place) 
   pub hits : clear (swept m (p .box) step) ≡ false
   pub reason : why ≡ unsafe (p .left) (swept m (p .box) step)
 
--- from p a walk leads to a step that is not clear
+-- from p a reach leads to a step that is not clear
 pub record Stops (m : Machine) (clear : List ℤ → Bool) (w : ℕ) (p : Place) (why : Failure) : Type 0 where
   pub at : Place
-  pub walks : Walks m clear w at p
+  pub path : StepsTo m clear w at p
   pub hits : Hits m clear w at why
 
 ends-here : {m : Machine} {clear : List ℤ → Bool} {w : ℕ} (p : Place) → p .left ≤ 0 → Ends m clear w p (record { end = p .box; swept = p .swept })
 ends-here {m} {clear} {w} p h =
     let r : Reached = record { end = p .box; swept = p .swept } in
     let q : 0 ≡ p .left = omega arith in
-    record { walks = subst (λ (j : ℕ). Walks m clear w (finish r) (record { box = p .box; swept = p .swept; left = j })) q here }
+    record { path = subst (λ (j : ℕ). StepsTo m clear w (finish r) (record { box = p .box; swept = p .swept; left = j })) q here }
 
 module _ (l : Bool) (a : ℕ) (m : Machine) (clear : List ℤ → Bool) (w e : ℕ) (room : m .n ≤ N) (z : 0 < w) (h : w < 2 ^ suc e) where
-  pub leg-takes : (p : Place) (c : ℕ) → 0 < p .left
-      → Takes l a c (8 * e + 1) (λ t. Settled m (p .box) (min w (p .left)) t × (clear (swept m (p .box) t) ≡ true)) (Hits m clear w p) (leg l a m clear w (p .box) (p .left) c)
-  unfolding leg
-  leg-takes p c k =
+  pub tested-takes : (p : Place) (c : ℕ) → 0 < p .left
+      → Takes l a c (8 * e + 1) (λ t. Settled m (p .box) (min w (p .left)) t × (clear (swept m (p .box) t) ≡ true)) (Hits m clear w p) (testedStep l a m clear w (p .box) (p .left) c)
+  unfolding testedStep
+  tested-takes p c k =
       takes-then {d = 0} _ (omega arith) (takes-map (le-refl (8 * e + 1)) (λ t s. s) (λ why b. absurd b) (step-takes l a m (p .box) room (min w (p .left)) c e (omega arith) (omega arith)))
       (λ t c′ s. takes-if (clear (swept m (p .box) t)) _ _ (λ k. value (s, k) (counted-none c′)) (λ k. failure (record { step = t; settled = s; hits = k; reason = refl }) (counted-none c′)))
 
-  pub walk-takes : (fuel : ℕ) (p : Place) (c : ℕ) → p .left < fuel → Takes l a c ((8 * e + 1) * p .left) (Ends m clear w p) (Stops m clear w p) (walk l a m clear w fuel (p .box) (p .swept) (p .left) c)
-  unfolding walk
-  walk-takes zero p c f = absurd (omega arith)
-  walk-takes (suc fuel) p c f =
+  pub steps-take : (fuel : ℕ) (p : Place) (c : ℕ) → p .left < fuel → Takes l a c ((8 * e + 1) * p .left) (Ends m clear w p) (Stops m clear w p) (steps l a m clear w fuel (p .box) (p .swept) (p .left) c)
+  unfolding steps
+  steps-take zero p c f = absurd (omega arith)
+  steps-take (suc fuel) p c f =
       takes-if (leb (p .left) 0) _ _
       (λ n. value (ends-here p (leb-true (p .left) 0 n)) (counted-less (omega arith) (counted-none c)))
       (λ n. let k : 0 < p .left = leb-false (p .left) 0 n in
       takes-then {d = (8 * e + 1) * (p .left - 1)} _ (some k)
-      (takes-map (le-refl (8 * e + 1)) (λ t s. s) (λ why i. record { at = p; walks = here; hits = i }) (leg-takes p c k))
-      (λ t c′ s. takes-map (mul-le-mul-left (8 * e + 1) (rest (s .0 .some))) (λ r i. record { walks = next (s .0) (s .1) (i .walks) })
-      (λ why i. record { at = i .at; walks = next (s .0) (s .1) (i .walks); hits = i .hits }) (walk-takes fuel (behind m p t) c′ (less (s .0 .some) (s .0 .most)))))
+      (takes-map (le-refl (8 * e + 1)) (λ t s. s) (λ why i. record { at = p; path = here; hits = i }) (tested-takes p c k))
+      (λ t c′ s. takes-map (mul-le-mul-left (8 * e + 1) (rest (s .0 .some))) (λ r i. record { path = next (s .0) (s .1) (i .path) })
+      (λ why i. record { at = i .at; path = next (s .0) (s .1) (i .path); hits = i .hits }) (steps-take fuel (behind m p t) c′ (less (s .0 .some) (s .0 .most)))))
     where
       some : 0 < p .left → (8 * e + 1) + (8 * e + 1) * (p .left - 1) ≤ (8 * e + 1) * p .left
       some k = let q : 1 + (p .left - 1) ≤ p .left = omega arith in omega (arith, mul-le-mul-left (8 * e + 1) q)
@@ -174,12 +174,12 @@ module _ (l : Bool) (a : ℕ) (m : Machine) (clear : List ℤ → Bool) (w e : �
   pub reach-takes : (S : List ℤ) (ticks c : ℕ)
       → Takes l a c ((8 * e + 1) * ticks) (Ends m clear w (start S ticks)) (Stops m clear w (start S ticks)) (reach l a m clear w S ticks c)
   unfolding reach
-  reach-takes S ticks c = walk-takes (suc ticks) (start S ticks) c (le-refl (suc ticks))
+  reach-takes S ticks c = steps-take (suc ticks) (start S ticks) c (le-refl (suc ticks))
 
 -- at width 0 no step settles
 pub reach-zero : {m : Machine} (l : Bool) (a : ℕ) (clear : List ℤ → Bool) (S : List ℤ) (ticks c : ℕ)
     → Takes l a c 0 (Ends m clear 0 (start S ticks)) (λ why. Unit) (reach l a m clear 0 S ticks c)
-unfolding reach walk leg step halving andThen
+unfolding reach steps testedStep step halving andThen
 reach-zero l a clear S ticks c =
     takes-if (leb ticks 0) _ _ (λ n. value (ends-here (start S ticks) (leb-true ticks 0 n)) (counted-none c))
     (λ n. let q : min 0 ticks ≡ 0 = omega arith in rw q (failure tt (counted-none c)))

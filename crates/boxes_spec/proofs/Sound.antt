@@ -1,4 +1,4 @@
--- Every trajectory of a step, of a walk and of a reach stays where their boxes say. Assumes nothing.
+-- Every trajectory of a step, of a reach and of a reach stays where their boxes say. Assumes nothing.
 use mathlib.Core.Path.{_≡_, subst}
 use mathlib.Core.Logic.{⊎-elim}
 use mathlib.Core.Bool.{Bool, true, false, not}
@@ -20,10 +20,10 @@ use Rattle.machine_spec.proofs.Face.{Beyond, beyond-refl, beyond-trans, beyond-
 use Rattle.machine_spec.proofs.Inside.{side, hull-side, lift-side, in-side, in-by, meets-by, Inside, inside-in, within-inside, hull-left, hull-right}
 use Rattle.machine_spec.proofs.Neighborhood.{inward, near-in}
 use Rattle.machine_spec.proofs.Sound.{Proper, rate-bounds, cap-bounds, beyond-neutral, rate-within}
-use Rattle.boxes_spec.specs.Step.{lifted, settles, endBox, got, Step, step, swept}
+use Rattle.boxes_spec.specs.Step.{lifted, settles, endBox, ok, Step, step, swept}
 use Rattle.boxes_spec.specs.Reach.{Reached, reach, clear}
 use Rattle.boxes_spec.proofs.Stages.{value-of}
-use Rattle.boxes_spec.proofs.Settled.{Settled, still, below-power, step-takes, Place, start, finish, behind, Walks, here, next, walks-less, Ends, reach-takes, reach-zero}
+use Rattle.boxes_spec.proofs.Settled.{Settled, still, below-power, step-takes, Place, start, finish, behind, StepsTo, here, next, steps-less, Ends, reach-takes, reach-zero}
 
 -- ---- one face of a step: s is its start, r its rate, c the cap; x is the variable at tick j, z at the next
 
@@ -65,7 +65,7 @@ face-next up k j c s x z r l p at inner capped near =
 abbrev pub Ticks : Machine → (ℕ → List ℤ) → ℕ → Type 0
 Ticks m x k = (j : ℕ) → j < k → Tick m (x j) (x (suc j))
 
-module _ {m : Machine} (ok : Proper m) (S : List ℤ) (k : ℕ) (E : List ℤ) where
+module _ {m : Machine} (wf : Proper m) (S : List ℤ) (k : ℕ) (E : List ℤ) where
   -- the state lies in S with each face moved by j of its rates
   record Lies (j : ℕ) (x : List ℤ) : Type 0 where
     at : (up : Bool) (i : ℕ) → i < m .n → Beyond up (side up S i +ℤ pos j *ℤ faceRate up m S k E i) (x ! i)
@@ -74,18 +74,18 @@ module _ {m : Machine} (ok : Proper m) (S : List ℤ) (k : ℕ) (E : List ℤ) w
   lies-start b = record { at = λ up i h. rw (still (side up S i) _) (in-side b up i h) }
 
   lies-moved : {j : ℕ} {x : List ℤ} → Lies j x → In (m .n) (moved (m .n) S j (rates m S k E)) x
-  lies-moved {j} a = in-by (λ up i h. rw (lift-side m i (ok .room) h up S k E j) (a .at up i h))
+  lies-moved {j} a = in-by (λ up i h. rw (lift-side m i (wf .room) h up S k E j) (a .at up i h))
 
   lies-hull : {j d : ℕ} {x : List ℤ} → j ≤ d → Lies j x → In (m .n) (hull (m .n) S (moved (m .n) S d (rates m S k E))) x
-  lies-hull {j} {d} l a = in-by (λ up i h. rw (hull-side (m .n) i (ok .room) h up S _, lift-side m i (ok .room) h up S k E d) (beyond-trans (between up d j (side up S i) (faceRate up m S k E i) l) (a .at up i h)))
+  lies-hull {j} {d} l a = in-by (λ up i h. rw (hull-side (m .n) i (wf .room) h up S _, lift-side m i (wf .room) h up S k E d) (beyond-trans (between up d j (side up S i) (faceRate up m S k E i) l) (a .at up i h)))
 
   lies-next : {x y : List ℤ} (j : ℕ) → settles m S k E ≡ true → j < k → Tick m x y → Lies j x → Lies (suc j) y
   unfolding settles lifted faceRate
   lies-next {x} {y} j s l t a = record {
     at = λ up i h.
         let e : In (m .n) E x = inside-in (within-inside _ E s) (lies-hull {j = j} {d = k - 1} (omega arith) a) in
-        face-next up k j (cap m i) (side up S i) (x ! i) (y ! i) _ l (ok .caps i h) (a .at up i h) (beyond-neutral (rate-within up m _ i (ok .caps i h)) up) (cap-bounds ok t i h up)
-        (λ near. rate-bounds ok t i h up _ (near-in (ok .room) S _ i h up e near));
+        face-next up k j (cap m i) (side up S i) (x ! i) (y ! i) _ l (wf .caps i h) (a .at up i h) (beyond-neutral (rate-within up m _ i (wf .caps i h)) up) (cap-bounds wf t i h up)
+        (λ near. rate-bounds wf t i h up _ (near-in (wf .room) S _ i h up e near));
   }
 
   lies-at : {x : ℕ → List ℤ} → settles m S k E ≡ true → In (m .n) S (x 0) → (j : ℕ) → j ≤ k → Ticks m x j → Lies j (x j)
@@ -99,18 +99,18 @@ pub record Sound (m : Machine) (S : List ℤ) (t : Step) : Type 0 where
 
 pub settled-sound : {m : Machine} {S : List ℤ} {k : ℕ} {t : Step} → Proper m → Settled m S k t → Sound m S t
 unfolding swept endBox
-settled-sound {m} {S} {t} ok s =
+settled-sound {m} {S} {t} wf s =
     let k = t .ticks in
     let E = s .E in
     record {
-      sweeps = λ x b j l f. rw (s .end) (lies-hull ok S k E l (lies-at ok S k E (s .settled) b j l f));
-      ends = λ x b f. rw (s .end) (lies-moved ok S k E (lies-at ok S k E (s .settled) b k (le-refl k) f));
+      sweeps = λ x b j l f. rw (s .end) (lies-hull wf S k E l (lies-at wf S k E (s .settled) b j l f));
+      ends = λ x b f. rw (s .end) (lies-moved wf S k E (lies-at wf S k E (s .settled) b k (le-refl k) f));
     }
 
-pub step-sound : {m : Machine} (l : Bool) (a : ℕ) (S : List ℤ) (k c : ℕ) {t : Step} {c′ : ℕ} → Proper m → 0 < k → step l a m S k c ≡ got t c′ → Sound m S t
-step-sound l a S k c ok z e = settled-sound ok (value-of (step-takes l a _ S (ok .room) k c k z (below-power k)) e .0)
+pub step-sound : {m : Machine} (l : Bool) (a : ℕ) (S : List ℤ) (k c : ℕ) {t : Step} {c′ : ℕ} → Proper m → 0 < k → step l a m S k c ≡ ok t c′ → Sound m S t
+step-sound l a S k c wf z e = settled-sound wf (value-of (step-takes l a _ S (wf .room) k c k z (below-power k)) e .0)
 
--- ---- a walk: steps in a row
+-- ---- a reach: steps in a row
 
 -- a trajectory from tick d on
 later : (ℕ → List ℤ) → ℕ → ℕ → List ℤ
@@ -140,14 +140,14 @@ pub record Cleared (n : ℕ) (clear : List ℤ → Bool) (x : List ℤ) : Type 0
   pub holds : In n box x
 
 -- d ticks from a state of p's box end in q's box; up to there each state is in q's swept box, and in one that is clear
-pub record Covers (m : Machine) (clear : List ℤ → Bool) (p q : Place) (d : ℕ) : Type 0 where
+pub record Contains (m : Machine) (clear : List ℤ → Bool) (p q : Place) (d : ℕ) : Type 0 where
   pub keeps : (y : List ℤ) → In (m .n) (p .swept) y → In (m .n) (q .swept) y
   pub sweeps : (x : ℕ → List ℤ) → In (m .n) (p .box) (x 0) → In (m .n) (p .swept) (x 0) → (j : ℕ) → j ≤ d → Ticks m x j → In (m .n) (q .swept) (x j)
   pub clears : (x : ℕ → List ℤ) → In (m .n) (p .box) (x 0) → (j : ℕ) → 0 < d → j ≤ d → Ticks m x j → Cleared (m .n) clear (x j)
   pub ends : (x : ℕ → List ℤ) → In (m .n) (p .box) (x 0) → Ticks m x d → In (m .n) (q .box) (x d)
 
-covers-none : {m : Machine} {clear : List ℤ → Bool} (p : Place) → Covers m clear p p 0
-covers-none {m} p = record {
+contains-none : {m : Machine} {clear : List ℤ → Bool} (p : Place) → Contains m clear p p 0
+contains-none {m} p = record {
   keeps = λ y h. h;
   sweeps = λ x b w j l f. let e : 0 ≡ j = omega arith in subst (λ (i : ℕ). In (m .n) (p .swept) (x i)) e w;
   clears = λ x b j z l f. absurd (omega arith);
@@ -155,16 +155,16 @@ covers-none {m} p = record {
 }
 
 -- a step, and what covers the rest
-module _ {m : Machine} (room : m .n ≤ N) {clear : List ℤ → Bool} (p q : Place) {t : Step} {d : ℕ} (s : Sound m (p .box) t) (k : clear (swept m (p .box) t) ≡ true) (r : Covers m clear (behind m p t) q d) where
+module _ {m : Machine} (room : m .n ≤ N) {clear : List ℤ → Bool} (p q : Place) {t : Step} {d : ℕ} (s : Sound m (p .box) t) (k : clear (swept m (p .box) t) ≡ true) (r : Contains m clear (behind m p t) q d) where
   onward : (x : ℕ → List ℤ) → In (m .n) (p .box) (x 0) → (j : ℕ) → Ticks m x (t .ticks + j) → In (m .n) (t .end) (later x (t .ticks) 0)
   onward x b j f = later-start x (t .ticks) (In (m .n) (t .end)) (s .ends x b (λ i g. f i (omega arith)))
 
   sweep : (x : ℕ → List ℤ) → In (m .n) (p .box) (x 0) → (j : ℕ) → j ≤ t .ticks → Ticks m x j → In (m .n) (behind m p t .swept) (x j)
   sweep x b j g f = inside-in (hull-right room (p .swept) (swept m (p .box) t)) (s .sweeps x b j g f)
 
-  covers-next : Covers m clear p q (t .ticks + d)
+  contains-next : Contains m clear p q (t .ticks + d)
   unfolding later
-  covers-next = record {
+  contains-next = record {
     keeps = λ y h. r .keeps y (inside-in (hull-left room (p .swept) (swept m (p .box) t)) h);
     sweeps = λ x b w j. by-tick (λ j. j ≤ t .ticks + d → Ticks m x j → In (m .n) (q .swept) (x j)) (t .ticks) j
         (λ g l f. r .keeps (x j) (sweep x b j g f))
@@ -176,11 +176,11 @@ module _ {m : Machine} (room : m .n ≤ N) {clear : List ℤ → Bool} (p q : Pl
     ends = λ x b f. r .ends (later x (t .ticks)) (onward x b d f) (later-ticks x (t .ticks) d f);
   }
 
-pub walks-cover : {m : Machine} {clear : List ℤ → Bool} {w : ℕ} {p q : Place} → Proper m → Walks m clear w q p → Covers m clear p q (p .left - q .left)
-walks-cover {m} {clear} {q} ok here = let e : 0 ≡ q .left - q .left = omega arith in subst (Covers m clear q q) e (covers-none q)
-walks-cover {m} {clear} {p} {q} ok (next {t = t} s k r) =
-    let e : t .ticks + (p .left - t .ticks - q .left) ≡ p .left - q .left = omega (arith, walks-less r, s .some, s .most) in
-    subst (Covers m clear p q) e (covers-next (ok .room) p q (settled-sound ok s) k (walks-cover ok r))
+pub steps-contain : {m : Machine} {clear : List ℤ → Bool} {w : ℕ} {p q : Place} → Proper m → StepsTo m clear w q p → Contains m clear p q (p .left - q .left)
+steps-contain {m} {clear} {q} wf here = let e : 0 ≡ q .left - q .left = omega arith in subst (Contains m clear q q) e (contains-none q)
+steps-contain {m} {clear} {p} {q} wf (next {t = t} s k r) =
+    let e : t .ticks + (p .left - t .ticks - q .left) ≡ p .left - q .left = omega (arith, steps-less r, s .some, s .most) in
+    subst (Contains m clear p q) e (contains-next (wf .room) p q (settled-sound wf s) k (steps-contain wf r))
 
 -- ---- a reach
 
@@ -192,15 +192,15 @@ pub record Reaches (m : Machine) (clear : List ℤ → Bool) (S : List ℤ) (tic
   pub ends : (x : ℕ → List ℤ) → In (m .n) S (x 0) → Ticks m x ticks → In (m .n) (r .end) (x ticks)
 
 pub ends-reach : {m : Machine} {clear : List ℤ → Bool} {w : ℕ} {S : List ℤ} {ticks : ℕ} {r : Reached} → Proper m → Ends m clear w (start S ticks) r → Reaches m clear S ticks r
-ends-reach {m} {clear} {S} {ticks} {r} ok e =
+ends-reach {m} {clear} {S} {ticks} {r} wf e =
     let q : ticks - 0 ≡ ticks = omega arith in
-    let k = subst (Covers m clear (start S ticks) (finish r)) q (walks-cover ok (e .walks)) in
+    let k = subst (Contains m clear (start S ticks) (finish r)) q (steps-contain wf (e .path)) in
     record { sweeps = λ x b. k .sweeps x b b; clears = k .clears; ends = k .ends }
 
 pub reach-sound : {m : Machine} (l : Bool) (a : ℕ) (clear : List ℤ → Bool) (w : ℕ) (S : List ℤ) (ticks c : ℕ) {r : Reached} {c′ : ℕ} → Proper m
-    → reach l a m clear w S ticks c ≡ got r c′ → Reaches m clear S ticks r
-reach-sound l a clear zero S ticks c ok e = ends-reach ok (value-of (reach-zero l a clear S ticks c) e .0)
-reach-sound {m} l a clear (suc w) S ticks c ok e = ends-reach ok (value-of (reach-takes l a m clear (suc w) (suc w) (ok .room) (omega arith) (below-power (suc w)) S ticks c) e .0)
+    → reach l a m clear w S ticks c ≡ ok r c′ → Reaches m clear S ticks r
+reach-sound l a clear zero S ticks c wf e = ends-reach wf (value-of (reach-zero l a clear S ticks c) e .0)
+reach-sound {m} l a clear (suc w) S ticks c wf e = ends-reach wf (value-of (reach-takes l a m clear (suc w) (suc w) (wf .room) (omega arith) (below-power (suc w)) S ticks c) e .0)
 
 -- it covers every box inside S too
 pub reaches-part : {m : Machine} {clear : List ℤ → Bool} {B S : List ℤ} {ticks : ℕ} {r : Reached} → Inside (m .n) B S → Reaches m clear S ticks r → Reaches m clear B ticks r

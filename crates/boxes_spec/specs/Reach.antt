@@ -7,10 +7,11 @@ use lib.IntN.{ℤ, pos, negℤ}
 use lib.Signed.{leZ}
 use lib.ListN.{replicate}
 use Rattle.sheet_spec.specs.Slots.{boxSize, vars, leastCommand, greatestCommand, unsafeBox}
+use Rattle.sheet_spec.specs.Refusals.{orElse}
 use Rattle.sheet_spec.specs.Sheet.{refusal, values}
 use Rattle.machine_spec.specs.Box.{lo, hi, all, any, hull, meets, trim}
 use Rattle.machine_spec.specs.Machine.{Law, baseline, command, Machine, machine}
-use Rattle.boxes_spec.specs.Step.{Got, got, failed, out, unsafe, unsettled, andThen, Step, step, swept}
+use Rattle.boxes_spec.specs.Step.{Result, ok, failed, exhausted, unsafe, unsettled, andThen, Step, step, swept}
 
 pub record Reached : Type 0 where
   pub end : List ℤ
@@ -19,24 +20,24 @@ pub record Reached : Type 0 where
 -- an allowance (if `limited`), a machine, the test that a swept box is clear of the no-go boxes, the width
 module _ (limited : Bool) (allowance : ℕ) (m : Machine) (clear : List ℤ → Bool) (w : ℕ) where
   -- one step from S with `left` ticks left, which fails where its swept box is not clear
-  unfoldable pub leg : List ℤ → ℕ → ℕ → Got Step
-  leg S left c =
+  unfoldable pub testedStep : List ℤ → ℕ → ℕ → Result Step
+  testedStep S left c =
       andThen (step limited allowance m S (min w left) c) (λ t c′.
-      elim (clear (swept m S t)) [ true ↦ got t c′ | false ↦ failed (unsafe left (swept m S t)) c′ ])
+      elim (clear (swept m S t)) [ true ↦ ok t c′ | false ↦ failed (unsafe left (swept m S t)) c′ ])
 
   -- steps from S until no ticks are left; W is the hull of the swept boxes so far. Each step covers a tick, so that the fuel
   -- is not used up where it is more than the ticks left
-  unfoldable pub walk : ℕ → List ℤ → List ℤ → ℕ → ℕ → Got Reached
-  walk zero S W left c = failed unsettled c
-  walk (suc fuel) S W left c =
+  unfoldable pub steps : ℕ → List ℤ → List ℤ → ℕ → ℕ → Result Reached
+  steps zero S W left c = failed unsettled c
+  steps (suc fuel) S W left c =
       elim (leb left 0) [
-        | true ↦ got (record { end = S; swept = W }) c
-        | false ↦ andThen (leg S left c) (λ t c′. walk fuel (t .end) (hull (m .n) W (swept m S t)) (left - t .ticks) c′)
+        | true ↦ ok (record { end = S; swept = W }) c
+        | false ↦ andThen (testedStep S left c) (λ t c′. steps fuel (t .end) (hull (m .n) W (swept m S t)) (left - t .ticks) c′)
       ]
 
   -- a reach of `ticks` ticks from S, after c rounds
-  unfoldable pub reach : List ℤ → ℕ → ℕ → Got Reached
-  reach S ticks c = walk (suc ticks) S S ticks c
+  unfoldable pub reach : List ℤ → ℕ → ℕ → Result Reached
+  reach S ticks c = steps (suc ticks) S S ticks c
 
 -- the box shares no state with the first `count` no-go boxes of the sheet v
 unfoldable pub clear : ℕ → List ℤ → ℕ → List ℤ → Bool
@@ -57,14 +58,9 @@ sidesRefusal n B = cond (all n (λ i. leZ (negℤ (pos 1000000)) (lo B i) && leZ
 unfoldable pub ticksRefusal : ℕ → ℕ → ℕ
 ticksRefusal ticks w = cond (leb ticks 1000 && leb 1 w && leb w 1000) 0 16
 
--- a refusal, or where there is none the next
-abbrev pub orNext : ℕ → ℕ → ℕ
-orNext zero s = s
-orNext (suc r) s = suc r
-
 -- the refusals of a reach behind the sheet's own
 unfoldable pub reachRefusal : List ℤ → ℕ → ℕ → Law → List ℤ → ℕ
-reachRefusal v ticks w l B = orNext (ticksRefusal ticks w) (orNext (lawRefusal v l) (sidesRefusal (vars v) B))
+reachRefusal v ticks w l B = orElse (ticksRefusal ticks w) (orElse (lawRefusal v l) (sidesRefusal (vars v) B))
 
 -- what a reach answers: a refusal number, or 0 and the two boxes with the rounds
 pub record Answer : Type 0 where
@@ -79,10 +75,10 @@ noBox = replicate boxSize (pos 0)
 abbrev pub refused : ℕ → Answer
 refused r = record { refusal = r; end = noBox; swept = noBox; rounds = 0 }
 
-unfoldable pub answer : Got Reached → Answer
-answer (got r c) = record { refusal = 0; end = r .end; swept = r .swept; rounds = c }
+unfoldable pub answer : Result Reached → Answer
+answer (ok r c) = record { refusal = 0; end = r .end; swept = r .swept; rounds = c }
 answer (failed why c) = refused 0
-answer (out c) = refused 0
+answer (exhausted c) = refused 0
 
 abbrev pub ifAccepted : ℕ → Answer → Answer
 ifAccepted zero a = a

@@ -37,26 +37,26 @@ pub data Failure : Type 0 where
   unrecovered : Failure
 
 -- a value, a failure, or no round left
-pub data Got (A : Type 0) : Type 0 where
-  got : A → ℕ → Got A
-  failed : Failure → ℕ → Got A
-  out : ℕ → Got A
+pub data Result (A : Type 0) : Type 0 where
+  ok : A → ℕ → Result A
+  failed : Failure → ℕ → Result A
+  exhausted : ℕ → Result A
 
 -- go on where there is a value
-unfoldable pub andThen : {A B : Type 0} → Got A → (A → ℕ → Got B) → Got B
-andThen (got a c) k = k a c
+unfoldable pub andThen : {A B : Type 0} → Result A → (A → ℕ → Result B) → Result B
+andThen (ok a c) k = k a c
 andThen (failed w c) k = failed w c
-andThen (out c) k = out c
+andThen (exhausted c) k = exhausted c
 
 -- try another way where it failed
-unfoldable pub orElse : {A : Type 0} → Got A → (ℕ → Got A) → Got A
-orElse (got a c) k = got a c
-orElse (failed w c) k = k c
-orElse (out c) k = out c
+unfoldable pub retry : {A : Type 0} → Result A → (ℕ → Result A) → Result A
+retry (ok a c) k = ok a c
+retry (failed w c) k = k c
+retry (exhausted c) k = exhausted c
 
 -- a round is due and none is left: there is an allowance, and the count equals it
-unfoldable pub isOut : Bool → ℕ → ℕ → Bool
-isOut limited allowance c = limited && eqb c allowance
+unfoldable pub isExhausted : Bool → ℕ → ℕ → Bool
+isExhausted limited allowance c = limited && eqb c allowance
 
 -- ---- the step
 
@@ -67,24 +67,24 @@ pub record Step : Type 0 where
 -- an allowance (if `limited`), a machine, the start box
 module _ (limited : Bool) (allowance : ℕ) (m : Machine) (S : List ℤ) where
   -- up to `left` rounds of length k with the working box E
-  unfoldable pub rounds : ℕ → ℕ → List ℤ → ℕ → Got Step
+  unfoldable pub rounds : ℕ → ℕ → List ℤ → ℕ → Result Step
   rounds k zero E c = failed unsettled c
   rounds k (suc left) E c =
-      elim (isOut limited allowance c) [
-        | true ↦ out c
+      elim (isExhausted limited allowance c) [
+        | true ↦ exhausted c
         | false ↦
             elim (settles m S k E) [
-              | true ↦ got (record { ticks = k; end = endBox m S k E }) (c + 1)
+              | true ↦ ok (record { ticks = k; end = endBox m S k E }) (c + 1)
               | false ↦ rounds k left (grown m S k E) (c + 1)
             ]
       ]
 
   -- eight rounds of length k, then of half of it rounded down, and so on to 1. The fuel is not used up where it is at least k
-  unfoldable pub halving : ℕ → ℕ → ℕ → Got Step
+  unfoldable pub halving : ℕ → ℕ → ℕ → Result Step
   halving zero k c = failed unsettled c
-  halving (suc fuel) k c = orElse (rounds k 8 S c) (λ c′. elim (leb k 1) [ true ↦ failed unsettled c′ | false ↦ halving fuel (k / 2) c′ ])
+  halving (suc fuel) k c = retry (rounds k 8 S c) (λ c′. elim (leb k 1) [ true ↦ failed unsettled c′ | false ↦ halving fuel (k / 2) c′ ])
 
-  unfoldable pub step : ℕ → ℕ → Got Step
+  unfoldable pub step : ℕ → ℕ → Result Step
   step k c = halving k k c
 
 -- the swept box of a settled step from S

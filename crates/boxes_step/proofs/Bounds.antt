@@ -8,27 +8,27 @@ use lib.IntN.{ℤ}
 use Rattle.machine_spec.specs.Box.{moved}
 use Rattle.machine_spec.specs.Machine.{Machine}
 use Rattle.machine_spec.specs.Rate.{rates}
-use Rattle.boxes_arithmetic.specs.Limits.{Sides}
+use Rattle.boxes_arithmetic.specs.Limits.{SidesWithin}
 use Rattle.boxes_rates.specs.Plant.{Usable}
 use Rattle.boxes_rates.proofs.Bounds.{wider, hull-bound, moved-bound, rates-bound}
-use Rattle.boxes_step.specs.declared.Stepped.{Stepped}
-use Rattle.boxes_step.specs.declared.Stepped.the-variants.{Unsettled}
+use Rattle.boxes_step.specs.declared.StepResult.{StepResult}
+use Rattle.boxes_step.specs.declared.StepResult.the-variants.{Unsettled}
 use Rattle.boxes_spec.specs.Step.{lifted, grown, rounds}
-use Rattle.boxes_step.specs.Stepped.{stepped}
+use Rattle.boxes_step.specs.StepResult.{stepOf}
 use Rattle.boxes_step.proofs.Turn.{Halving}
 use Rattle.boxes_spec.proofs.Stages.{failure-of}
 use Rattle.boxes_spec.proofs.Settled.{starts, rounds-take}
 
 -- eight rounds add at most eight
 pub halving-count : {l : Bool} {a : ℕ} {m : Machine} {S : List ℤ} {w c k d : ℕ} → Halving l a m S w c k d
-    → (r : Stepped) (R : List ℤ) → stepped (m .n) S R r ≡ rounds l a m S k 8 S d → (i : ℕ) → r ≡ Unsettled i → i ≤ d + 8
-unfolding stepped
-halving-count {l} {a} {m} {S} {k = k} {d = d} h r R e i q = failure-of (rounds-take l a m S k 8 S d (h .some) starts) (sym e ∙ ap (stepped (m .n) S R) q) .1 .few
+    → (r : StepResult) (R : List ℤ) → stepOf (m .n) S R r ≡ rounds l a m S k 8 S d → (i : ℕ) → r ≡ Unsettled i → i ≤ d + 8
+unfolding stepOf
+halving-count {l} {a} {m} {S} {k = k} {d = d} h r R e i q = failure-of (rounds-take l a m S k 8 S d (h .some) starts) (sym e ∙ ap (stepOf (m .n) S R) q) .1 .few
 
-module _ {m : Machine} (ok : Usable m) (S : List ℤ) (k b : ℕ) (h : Sides b S) where
-  pub rates-near : (j : ℕ) (E : List ℤ) → Sides (b + j * 1000) (moved (m .n) S j (rates m S k E))
-  rates-near j E = moved-bound (m .n) S j (rates m S k E) h (rates-bound ok S k E)
+module _ {m : Machine} (wf : Usable m) (S : List ℤ) (k b : ℕ) (h : SidesWithin b S) where
+  pub rates-near : (j : ℕ) (E : List ℤ) → SidesWithin (b + j * 1000) (moved (m .n) S j (rates m S k E))
+  rates-near j E = moved-bound (m .n) S j (rates m S k E) h (rates-bound wf S k E)
 
-  pub grown-bound : (E : List ℤ) → Sides (b + k * 1000) E → Sides (b + k * 1000) (grown m S k E)
+  pub grown-bound : (E : List ℤ) → SidesWithin (b + k * 1000) E → SidesWithin (b + k * 1000) (grown m S k E)
   unfolding grown lifted
   grown-bound E u = hull-bound (m .n) E _ u (hull-bound (m .n) S _ (wider (omega arith) h) (wider (omega arith) (rates-near (k - 1) E)))

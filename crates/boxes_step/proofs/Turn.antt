@@ -13,11 +13,11 @@ use Rattle.sheet_spec.specs.Slots.{N}
 use Rattle.machine_spec.specs.Box.{hull, within, moved}
 use Rattle.machine_spec.specs.Machine.{Machine}
 use Rattle.machine_spec.specs.Rate.{rates}
-use Rattle.boxes_step.specs.declared.Stepped.{Stepped}
-use Rattle.boxes_step.specs.declared.Stepped.the-variants.{Settled, Unsettled, Out}
-use Rattle.boxes_spec.specs.Step.{lifted, settles, endBox, grown, Got, got, failed, unsettled, orElse, isOut, Step, rounds, halving, step}
+use Rattle.boxes_step.specs.declared.StepResult.{StepResult}
+use Rattle.boxes_step.specs.declared.StepResult.the-variants.{Settled, Unsettled, Exhausted}
+use Rattle.boxes_spec.specs.Step.{lifted, settles, endBox, grown, Result, ok, failed, unsettled, retry, isExhausted, Step, rounds, halving, step}
 use Rattle.boxes_spec.proofs.Settled.{settles-one}
-use Rattle.boxes_step.specs.Stepped.{stepped}
+use Rattle.boxes_step.specs.StepResult.{stepOf}
 
 -- ---- a round, as the code works it out: r are the rates, and F is the working box E
 
@@ -52,34 +52,34 @@ pub rounding-starts : (l : Bool) (a : ℕ) (m : Machine) {S : List ℤ} (k c : �
 rounding-starts l a m {S} k c e = record { few = omega arith; same = ap (λ (F : List ℤ). rounds l a m S k 8 F c) (sym e) }
 
 module _ {l : Bool} {a : ℕ} {m : Machine} {S : List ℤ} {k c left : ℕ} {E : List ℤ} {d : ℕ} (h : Rounding l a m S k c left E d) where
-  pub rounding-ends : (R : List ℤ) → left ≡ 0 → stepped (m .n) S R (Unsettled d) ≡ rounds l a m S k 8 S c
-  unfolding rounds stepped
+  pub rounding-ends : (R : List ℤ) → left ≡ 0 → stepOf (m .n) S R (Unsettled d) ≡ rounds l a m S k 8 S c
+  unfolding rounds stepOf
   rounding-ends R z = sym (h .same ∙ ap (λ (j : ℕ). rounds l a m S k j E d) z)
 
   -- a round is due where t is not true
-  module _ (some : 0 < left) (t : Bool) (o : t ≡ isOut l a d) where
+  module _ (some : 0 < left) (t : Bool) (o : t ≡ isExhausted l a d) where
     turn : rounds l a m S k 8 S c ≡ rounds l a m S k (suc (left - 1)) E d
     turn = h .same ∙ ap (λ (j : ℕ). rounds l a m S k j E d) (suc-of left some)
 
-    pub rounding-out : (R : List ℤ) → t ≡ true → stepped (m .n) S R (Out d) ≡ rounds l a m S k 8 S c
-    unfolding rounds stepped
-    rounding-out R e = sym (turn ∙ pick-yes (isOut l a d) _ _ (sym o ∙ e))
+    pub rounding-out : (R : List ℤ) → t ≡ true → stepOf (m .n) S R (Exhausted d) ≡ rounds l a m S k 8 S c
+    unfolding rounds stepOf
+    rounding-out R e = sym (turn ∙ pick-yes (isExhausted l a d) _ _ (sym o ∙ e))
 
     -- the round has settled where u is true
     module _ (due : t ≡ false) (u : Bool) (q : u ≡ settles m S k E) where
       -- with the rates R
-      pub rounding-settles : (R : List ℤ) → R ≡ rates m S k E → u ≡ true → stepped (m .n) S R (Settled k (d + 1)) ≡ rounds l a m S k 8 S c
-      unfolding rounds stepped endBox
+      pub rounding-settles : (R : List ℤ) → R ≡ rates m S k E → u ≡ true → stepOf (m .n) S R (Settled k (d + 1)) ≡ rounds l a m S k 8 S c
+      unfolding rounds stepOf endBox
       rounding-settles R r e =
-          ap (λ (Q : List ℤ). got (record { ticks = k; end = moved (m .n) S k Q }) (d + 1)) r
-          ∙ sym (turn ∙ pick-no (isOut l a d) _ _ (sym o ∙ due) ∙ pick-yes (settles m S k E) _ _ (sym q ∙ e))
+          ap (λ (Q : List ℤ). ok (record { ticks = k; end = moved (m .n) S k Q }) (d + 1)) r
+          ∙ sym (turn ∙ pick-no (isExhausted l a d) _ _ (sym o ∙ due) ∙ pick-yes (settles m S k E) _ _ (sym q ∙ e))
 
       -- with the next working box B
       pub rounding-on : (B : List ℤ) → B ≡ grown m S k E → u ≡ false → Rounding l a m S k c (left - 1) B (d + 1)
       unfolding rounds
       rounding-on B b e = record {
         few = omega (arith, h .few);
-        same = turn ∙ pick-no (isOut l a d) _ _ (sym o ∙ due) ∙ pick-no (settles m S k E) _ _ (sym q ∙ e)
+        same = turn ∙ pick-no (isExhausted l a d) _ _ (sym o ∙ due) ∙ pick-no (settles m S k E) _ _ (sym q ∙ e)
             ∙ ap (λ (F : List ℤ). rounds l a m S k (left - 1) F (d + 1)) (sym b);
       }
 
@@ -97,30 +97,30 @@ unfolding step
 halving-starts l a m S w c z = record { some = z; fuel = w; enough = le-refl w; same = refl }
 
 -- eight rounds came to r, with the rates R
-module _ {l : Bool} {a : ℕ} {m : Machine} {S : List ℤ} {w c k d : ℕ} (h : Halving l a m S w c k d) (r : Stepped) (R : List ℤ) (e : stepped (m .n) S R r ≡ rounds l a m S k 8 S d) where
-  abbrev half : ℕ → Got Step
+module _ {l : Bool} {a : ℕ} {m : Machine} {S : List ℤ} {w c k d : ℕ} (h : Halving l a m S w c k d) (r : StepResult) (R : List ℤ) (e : stepOf (m .n) S R r ≡ rounds l a m S k 8 S d) where
+  abbrev half : ℕ → Result Step
   half i = elim (leb k 1) [ true ↦ failed unsettled i | false ↦ halving l a m S (h .fuel - 1) (k / 2) i ]
 
-  half-turn : step l a m S w c ≡ orElse (stepped (m .n) S R r) half
+  half-turn : step l a m S w c ≡ retry (stepOf (m .n) S R r) half
   unfolding halving
-  half-turn = h .same ∙ ap (λ (j : ℕ). halving l a m S j k d) (suc-of (h .fuel) (omega (arith, h .some, h .enough))) ∙ ap (λ (g : Got Step). orElse g half) (sym e)
+  half-turn = h .same ∙ ap (λ (j : ℕ). halving l a m S j k d) (suc-of (h .fuel) (omega (arith, h .some, h .enough))) ∙ ap (λ (g : Result Step). retry g half) (sym e)
 
-  pub halving-ends : ((i : ℕ) → r ≡ Unsettled i → ⊥) → stepped (m .n) S R r ≡ step l a m S w c
-  unfolding stepped orElse
+  pub halving-ends : ((i : ℕ) → r ≡ Unsettled i → ⊥) → stepOf (m .n) S R r ≡ step l a m S w c
+  unfolding stepOf retry
   halving-ends n = sym (half-turn ∙ ends r n)
     where
-      ends : (o : Stepped) → ((i : ℕ) → o ≡ Unsettled i → ⊥) → orElse (stepped (m .n) S R o) half ≡ stepped (m .n) S R o
+      ends : (o : StepResult) → ((i : ℕ) → o ≡ Unsettled i → ⊥) → retry (stepOf (m .n) S R o) half ≡ stepOf (m .n) S R o
       ends (Settled t i) n = refl
       ends (Unsettled i) n = absurd (n i refl)
-      ends (Out i) n = refl
+      ends (Exhausted i) n = refl
 
   module _ (i : ℕ) (q : r ≡ Unsettled i) where
     halved : step l a m S w c ≡ half i
-    unfolding stepped orElse
-    halved = half-turn ∙ ap (λ (o : Stepped). orElse (stepped (m .n) S R o) half) q
+    unfolding stepOf retry
+    halved = half-turn ∙ ap (λ (o : StepResult). retry (stepOf (m .n) S R o) half) q
 
-    pub halving-finest : k ≤ 1 → stepped (m .n) S R (Unsettled i) ≡ step l a m S w c
-    unfolding stepped
+    pub halving-finest : k ≤ 1 → stepOf (m .n) S R (Unsettled i) ≡ step l a m S w c
+    unfolding stepOf
     halving-finest z = sym (halved ∙ pick-yes (leb k 1) _ _ (le-leb k 1 z))
 
     pub halving-on : 1 < k → Halving l a m S w c (k / 2) i

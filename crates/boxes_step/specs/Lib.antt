@@ -1,2 +1,2 @@
-pub mod Stepped
+pub mod StepResult
 pub mod Limits

@@ -5,6 +5,6 @@ use Prim.Native.Nat.{ℕ}
 abbrev pub stepLimit : ℕ
 stepLimit = 4000000
 
--- a count fits 32 bits: a walk adds at most 73 rounds a tick, and a step at most 8 times its width
+-- a count fits 32 bits: a reach adds at most 73 rounds a tick, and a step at most 8 times its width
 abbrev pub countLimit : ℕ
 countLimit = 4294967295

@@ -1,3 +1,3 @@
-pub mod Trial
-pub mod Attempted
+pub mod AttemptPlan
+pub mod AttemptResult
 pub mod Limits

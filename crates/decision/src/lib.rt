@@ -8,13 +8,13 @@ ghost use Rattle.sheet_spec.specs.Valid.{Valid};
 ghost use Rattle.machine_spec.specs.Box.{trim};
 ghost use Rattle.decision_spec.specs.Question.{allowanceOf};
 ghost use Rattle.decision_spec.specs.Decision.{checkRecovery, decide, recoveryOf, roundsOf, decisionOn};
-ghost use Rattle.decision_answers.specs.Recovery.{checked};
-ghost use Rattle.decision_answers.specs.Decision.{decided};
+ghost use Rattle.decision_answers.specs.Recovery.{checkReplyOf};
+ghost use Rattle.decision_answers.specs.Decision.{replyOf};
 
-pub mod attempts;
+pub mod attempt;
 
-use crate::attempts::Trial;
-use crate::attempts::tries;
+use crate::attempt::AttemptPlan;
+use crate::attempt::attempts;
 use boxes_shape::compare::box_at;
 use boxes_step::Budget;
 use decision_answers::Decision;
@@ -38,7 +38,7 @@ fn larger(a: usize, b: usize) -> usize
 // The decision on an accepted sheet's value and a question's bytes.
 fn decide_on(sheet: &[i32; SLOTS], g: &[u8]) -> Decision
     requires { ⌜ Valid (now sheet) ⌝ }
-    ensures { λ r. ⌜ decided r ≡ decisionOn (now (sheet .entry)) (now (g .entry)) ⌝ }
+    ensures { λ r. ⌜ replyOf r ≡ decisionOn (now (sheet .entry)) (now (g .entry)) ⌝ }
 {
     let n = count(sheet, VARS);
     let refusal = decision_question::refusal(n, sheet, g);
@@ -52,19 +52,19 @@ fn decide_on(sheet: &[i32; SLOTS], g: &[u8]) -> Decision
         limited: true,
         allowance: decision_question::allowance(g),
     };
-    let t = Trial {
+    let t = AttemptPlan {
         budget: budget,
         command: decision_question::command(g),
         first: first,
         then: then,
     };
-    tries(t, sheet, &start, larger(first, then))
+    attempts(t, sheet, &start, larger(first, then))
 }
 
 // The decision on a sheet's and a question's bytes.
 pub fn decide(sheet: &[u8], question: &[u8]) -> Decision
-    ensures { λ r. ⌜ decided r ≡ decide (now (sheet .entry)) (now (question .entry)) ⌝ }
-    ensures allowed { λ r. ⌜ roundsOf (decided r) ≤ allowanceOf (now (question .entry)) ⌝ }
+    ensures { λ r. ⌜ replyOf r ≡ decide (now (sheet .entry)) (now (question .entry)) ⌝ }
+    ensures allowed { λ r. ⌜ roundsOf (replyOf r) ≤ allowanceOf (now (question .entry)) ⌝ }
 {
     let mut v = [0i32; SLOTS];
     let refusal = read_into(sheet, &mut v);
@@ -77,26 +77,26 @@ pub fn decide(sheet: &[u8], question: &[u8]) -> Decision
 // The recovery check of an accepted sheet's value.
 fn check_on(sheet: &[i32; SLOTS]) -> Recovery
     requires { ⌜ Valid (now sheet) × (trim (vars (now sheet)) (recoveryBox (now sheet)) ≡ recoveryBox (now sheet)) ⌝ }
-    ensures { λ r. ⌜ checked r ≡ recoveryOf (now (sheet .entry)) ⌝ }
+    ensures { λ r. ⌜ checkReplyOf r ≡ recoveryOf (now (sheet .entry)) ⌝ }
 {
-    let home = box_at(count(sheet, VARS), sheet, RECOVERY);
+    let recovery = box_at(count(sheet, VARS), sheet, RECOVERY);
     let ticks = count(sheet, RHO);
     let budget = Budget {
         limited: false,
         allowance: 0,
     };
-    let t = Trial {
+    let t = AttemptPlan {
         budget: budget,
         command: 0,
         first: 0,
         then: ticks,
     };
-    recovery_of(tries(t, sheet, &home, ticks))
+    recovery_of(attempts(t, sheet, &recovery, ticks))
 }
 
 // The recovery check of a sheet's bytes.
 pub fn check_recovery(sheet: &[u8]) -> Recovery
-    ensures { λ r. ⌜ checked r ≡ checkRecovery (now (sheet .entry)) ⌝ }
+    ensures { λ r. ⌜ checkReplyOf r ≡ checkRecovery (now (sheet .entry)) ⌝ }
 {
     let mut v = [0i32; SLOTS];
     let refusal = read_into(sheet, &mut v);

@@ -3,7 +3,7 @@ use Rattle.decision_answers.specs.declared.Recovery.{Recovery}
 use Rattle.decision_answers.specs.declared.Recovery.the-variants.{Pass, Fail, Refused}
 use Rattle.decision_spec.specs.Decision.{keep, finest, Reply, refused, answered}
 
-unfoldable pub checked : Recovery → Reply
-checked (Pass w c) = answered keep w c
-checked (Fail w c) = answered finest w c
-checked (Refused r) = refused r
+unfoldable pub checkReplyOf : Recovery → Reply
+checkReplyOf (Pass w c) = answered keep w c
+checkReplyOf (Fail w c) = answered finest w c
+checkReplyOf (Refused r) = refused r

@@ -4,8 +4,8 @@
 ghost use mathlib.Core.Path.{_≡_};
 ghost use Prim.Native.Nat.{ℕ, _+_, _*_, _^_, _≤_};
 ghost use Rattle.decision_spec.specs.Decision.{answered, packed, refused, spent, widthOf, isKeep};
-ghost use Rattle.decision_answers.specs.Recovery.{checked};
-ghost use Rattle.decision_answers.specs.Decision.{decided};
+ghost use Rattle.decision_answers.specs.Recovery.{checkReplyOf};
+ghost use Rattle.decision_answers.specs.Decision.{replyOf};
 
 // A decision: a verdict with the width and the rounds over all widths, or the number of a refusal.
 pub enum Decision {
@@ -33,8 +33,8 @@ const REFUSED: u64 = 3;
 
 // A verdict that is not spent, as a recovery check's answer.
 pub fn recovery_of(d: Decision) -> Recovery
-    requires { ⌜ ((w c : ℕ) → decided d ≡ answered spent w c → ⊥) ⌝ }
-    ensures { λ r. ⌜ checked r ≡ decided d ⌝ }
+    requires { ⌜ ((w c : ℕ) → replyOf d ≡ answered spent w c → ⊥) ⌝ }
+    ensures { λ r. ⌜ checkReplyOf r ≡ replyOf d ⌝ }
 {
     match d {
         Decision::Keep { width, rounds } => Recovery::Pass {
@@ -55,7 +55,7 @@ pub fn recovery_of(d: Decision) -> Recovery
 
 // A recovery check's answer with the codes of a decision.
 pub fn as_decision(r: Recovery) -> Decision
-    ensures { λ d. ⌜ decided d ≡ checked r ⌝ }
+    ensures { λ d. ⌜ replyOf d ≡ checkReplyOf r ⌝ }
 {
     match r {
         Recovery::Pass { width, rounds } => Decision::Keep {
@@ -72,7 +72,7 @@ pub fn as_decision(r: Recovery) -> Decision
 
 // Whether a recovery check passed.
 pub fn has_passed(a: Recovery) -> bool
-    ensures { λ r. ⌜ r ≡ isKeep (checked a) ⌝ }
+    ensures { λ r. ⌜ r ≡ isKeep (checkReplyOf a) ⌝ }
 {
     match a {
         Recovery::Pass { .. } => true,
@@ -95,8 +95,8 @@ pub fn pack_refusal(number: u8) -> u64
 }
 
 pub fn pack_decision(d: Decision) -> u64
-    requires { ⌜ widthOf (decided d) ≤ 1000 ⌝ }
-    ensures { λ r. ⌜ r ≡ packed (decided d) ⌝ }
+    requires { ⌜ widthOf (replyOf d) ≤ 1000 ⌝ }
+    ensures { λ r. ⌜ r ≡ packed (replyOf d) ⌝ }
 {
     match d {
         Decision::Keep { width, rounds } => pack(KEEP, width, rounds),

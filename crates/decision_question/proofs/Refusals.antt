@@ -11,10 +11,11 @@ use lib.ListN.{length, getD}
 use Rattle.sheet_spec.specs.Slots.{N, vars}
 use Rattle.machine_spec.specs.Box.{trim}
 use Rattle.machine_spec.specs.Machine.{command}
-use Rattle.boxes_arithmetic.specs.Limits.{Sides}
+use Rattle.boxes_arithmetic.specs.Limits.{SidesWithin}
 use Rattle.machine_spec.proofs.Box.{and-both}
 use Rattle.machine_spec.proofs.InPlace.{trim-sides}
-use Rattle.boxes_spec.specs.Reach.{lawRefusal, sidesRefusal, orNext}
+use Rattle.sheet_spec.specs.Refusals.{orElse}
+use Rattle.boxes_spec.specs.Reach.{lawRefusal, sidesRefusal}
 use Rattle.boxes_spec.proofs.Count.{cond-zero}
 use Rattle.boxes_spec.proofs.Refusals.{or-stop, or-go, or-none}
 use Rattle.boxes_refusals.proofs.Turn.{sides-near}
@@ -40,7 +41,7 @@ module _ (v : List ℤ) (g : List ℕ) {a : ℕ} (p : a ≡ formRefusal (vars v)
 
     module _ (few : allowanceOf g ≤ 1000000) {b : ℕ} (q : b ≡ lawRefusal v (command (commandOf g))) where
       abbrev behind : ℕ
-      behind = orNext (lawRefusal v (command (commandOf g))) (sidesRefusal (vars v) (measured (vars v) g))
+      behind = orElse (lawRefusal v (command (commandOf g))) (sidesRefusal (vars v) (measured (vars v) g))
 
       go-law : behind ≡ questionRefusal v g
       unfolding questionRefusal allowanceRefusal
@@ -64,10 +65,10 @@ module _ (v : List ℤ) (g : List ℕ) (e : questionRefusal v g ≡ 0) where
   unfolding questionRefusal
   asked-length = form-length (vars v) g (or-none (formRefusal (vars v) g) _ e .0)
 
-  pub measured-near : vars v ≤ N → Sides 1000000 (measured (vars v) g)
+  pub measured-near : vars v ≤ N → SidesWithin 1000000 (measured (vars v) g)
   unfolding questionRefusal
   measured-near k =
       let a = or-none (formRefusal (vars v) g) _ e in
       let b = or-none (allowanceRefusal g) _ (a .1) in
       let c = or-none (lawRefusal v (command (commandOf g))) _ (b .1) in
-      subst (Sides 1000000) (measured-trimmed (vars v) g k) (sides-near (vars v) (measured (vars v) g) (c .1))
+      subst (SidesWithin 1000000) (measured-trimmed (vars v) g k) (sides-near (vars v) (measured (vars v) g) (c .1))

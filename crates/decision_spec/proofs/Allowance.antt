@@ -20,12 +20,13 @@ use Rattle.machine_spec.specs.Box.{lo, hi, all, within}
 use Rattle.machine_spec.specs.Machine.{machine}
 use Rattle.machine_spec.proofs.Box.{differ}
 use Rattle.machine_spec.proofs.Sound.{proper}
-use Rattle.boxes_spec.specs.Step.{Got, got, failed, out}
-use Rattle.boxes_spec.specs.Reach.{clear, lawRefusal, sidesRefusal, orNext}
+use Rattle.boxes_spec.specs.Step.{Result, ok, failed, exhausted}
+use Rattle.sheet_spec.specs.Refusals.{orElse}
+use Rattle.boxes_spec.specs.Reach.{clear, lawRefusal, sidesRefusal}
 use Rattle.boxes_spec.proofs.Stages.{Counted, Takes, value, failure, spent, counted-none, counted-less, counted-on, takes-map, takes-then, takes-if}
 use Rattle.boxes_spec.proofs.Settled.{reach-takes}
 use Rattle.decision_spec.specs.Question.{questionLength, formRefusal, allowanceRefusal, questionRefusal, allowanceOf, commandOf, measured}
-use Rattle.decision_spec.specs.Decision.{Phase, follow, attempt, keep, finest, spent, Reply, refused, answered, outcome, tries, decisionPhases, decisionOf, recoveryPhases, recoveryOf, unless, checkRecovery, decide, codeOf, widthOf, roundsOf, packed}
+use Rattle.decision_spec.specs.Decision.{Phase, follow, attempt, keep, finest, spent, Reply, refused, answered, outcome, attempts, decisionPhases, decisionOf, recoveryPhases, recoveryOf, unlessRefused, checkRecovery, decide, codeOf, widthOf, roundsOf, packed}
 
 -- ---- an attempt
 
@@ -34,17 +35,17 @@ ticksOf [] = 0
 ticksOf (p ∷ ps) = p .ticks + ticksOf ps
 
 -- from the count c the stage takes at most `most` rounds
-abbrev pub Spends : Bool → ℕ → ℕ → ℕ → Got (List ℤ) → Type 0
+abbrev pub Spends : Bool → ℕ → ℕ → ℕ → Result (List ℤ) → Type 0
 Spends l a c most g = Takes l a c most (λ E. Unit {0}) (λ why. Unit {0}) g
 
 -- an attempt at a width below 2^(e + 1) takes at most 8·e + 1 rounds a tick
-module _ (l : Bool) (a : ℕ) {v : List ℤ} (ok : Valid v) (w e : ℕ) (z : 0 < w) (h : w < 2 ^ suc e) where
+module _ (l : Bool) (a : ℕ) {v : List ℤ} (wf : Valid v) (w e : ℕ) (z : 0 < w) (h : w < 2 ^ suc e) where
   follow-takes : (ps : List Phase) (S : List ℤ) (c : ℕ) → Spends l a c ((8 * e + 1) * ticksOf ps) (follow l a v w ps S c)
   unfolding follow ticksOf
   follow-takes [] S c = value tt (counted-less (omega arith) (counted-none c))
   follow-takes (p ∷ ps) S c =
       takes-then _ (omega arith)
-      (takes-map (le-refl ((8 * e + 1) * p .ticks)) (λ r i. tt {0}) (λ why i. tt) (reach-takes l a (machine v (p .law)) (clear (vars v) v (boxes v)) w e (proper (p .law) ok .room) z h S (p .ticks) c))
+      (takes-map (le-refl ((8 * e + 1) * p .ticks)) (λ r i. tt {0}) (λ why i. tt) (reach-takes l a (machine v (p .law)) (clear (vars v) v (boxes v)) w e (proper (p .law) wf .room) z h S (p .ticks) c))
       (λ r c′ _. follow-takes ps _ c′)
 
   pub attempt-takes : (ps : List Phase) (S : List ℤ) (c : ℕ) → Spends l a c ((8 * e + 1) * ticksOf ps) (attempt l a v w ps S c)
@@ -78,7 +79,7 @@ module _ {l : Bool} {a c most w : ℕ} where
   concluded-on : {c′ b d j : ℕ} {r : Reply} → b + d ≤ most → j ≤ w → Counted l a c b c′ → Concluded l a c′ d j r → Concluded l a c most w r
   concluded-on h k n o = record { some = o .some; wide = omega (arith, o .wide); counted = counted-on h n (o .counted); reason = o .reason }
 
-  outcome-concluded : {b : ℕ} (g : Got (List ℤ)) (next : ℕ → Reply) → 0 < w → b ≤ most → Spends l a c b g
+  outcome-concluded : {b : ℕ} (g : Result (List ℤ)) (next : ℕ → Reply) → 0 < w → b ≤ most → Spends l a c b g
       → ((c′ : ℕ) → 1 < w → Counted l a c b c′ → Concluded l a c most w (next c′)) → Concluded l a c most w (outcome g w next)
   unfolding outcome widthOf roundsOf
   outcome-concluded g next z h (value p n) k = record { some = z; wide = le-refl w; counted = counted-less h n; reason = tt }
@@ -89,31 +90,31 @@ module _ {l : Bool} {a c most w : ℕ} where
       by false e = k c′ (leb-false w 1 e) n
   outcome-concluded g next z h (spent i e n) k = record { some = z; wide = le-refl w; counted = counted-less h n; reason = (i, e) }
 
-module _ (attemptAt : ℕ → ℕ → Got (List ℤ)) (l : Bool) (a ticks : ℕ)
+module _ (attemptAt : ℕ → ℕ → Result (List ℤ)) (l : Bool) (a ticks : ℕ)
     (takes : (w e c : ℕ) → 0 < w → w < 2 ^ suc e → Spends l a c ((8 * e + 1) * ticks) (attemptAt w c)) where
-  pub tries-concluded : (fuel w c e : ℕ) → 0 < w → w ≤ fuel → w < 2 ^ suc e → Concluded l a c (mostATick e * ticks) w (tries attemptAt fuel w c)
-  unfolding tries mostATick
-  tries-concluded zero w c e z f h = absurd (omega arith)
-  tries-concluded (suc fuel) w c zero z f h = outcome-concluded _ _ z (omega arith) (takes w 0 c z h) (λ c′ i n. absurd (omega arith))
-  tries-concluded (suc fuel) w c (suc e) z f h =
+  pub attempts-concluded : (fuel w c e : ℕ) → 0 < w → w ≤ fuel → w < 2 ^ suc e → Concluded l a c (mostATick e * ticks) w (attempts attemptAt fuel w c)
+  unfolding attempts mostATick
+  attempts-concluded zero w c e z f h = absurd (omega arith)
+  attempts-concluded (suc fuel) w c zero z f h = outcome-concluded _ _ z (omega arith) (takes w 0 c z h) (λ c′ i n. absurd (omega arith))
+  attempts-concluded (suc fuel) w c (suc e) z f h =
       outcome-concluded _ _ z (omega arith) (takes w (suc e) c z h)
-      (λ c′ i n. concluded-on (omega arith) (omega arith) n (tries-concluded fuel (w / 2) c′ e (omega arith) (omega arith) (omega arith)))
+      (λ c′ i n. concluded-on (omega arith) (omega arith) n (attempts-concluded fuel (w / 2) c′ e (omega arith) (omega arith) (omega arith)))
 
-outcome-same : (g : Got (List ℤ)) (w : ℕ) (next other : ℕ → Reply) → (1 < w → (c : ℕ) → next c ≡ other c) → outcome g w next ≡ outcome g w other
+outcome-same : (g : Result (List ℤ)) (w : ℕ) (next other : ℕ → Reply) → (1 < w → (c : ℕ) → next c ≡ other c) → outcome g w next ≡ outcome g w other
 unfolding outcome
-outcome-same (got E c) w next other k = refl
+outcome-same (ok E c) w next other k = refl
 outcome-same (failed why c) w next other k = by (leb w 1) refl
   where
     by : (t : Bool) → leb w 1 ≡ t → _≡_ {A = Reply} (elim t [ true ↦ answered finest w c | false ↦ next c ]) (elim t [ true ↦ answered finest w c | false ↦ other c ])
     by true e = refl
     by false e = k (leb-false w 1 e) c
-outcome-same (out c) w next other k = refl
+outcome-same (exhausted c) w next other k = refl
 
 -- the fuel is not used up: more of it changes nothing
-pub tries-fuel : (attemptAt : ℕ → ℕ → Got (List ℤ)) (fuel w c : ℕ) → 0 < w → w ≤ fuel → tries attemptAt (suc fuel) w c ≡ tries attemptAt fuel w c
-unfolding tries
-tries-fuel attemptAt zero w c z f = absurd (omega arith)
-tries-fuel attemptAt (suc fuel) w c z f = outcome-same (attemptAt w c) w _ _ (λ i c′. tries-fuel attemptAt fuel (w / 2) c′ (omega arith) (omega arith))
+pub attempts-fuel : (attemptAt : ℕ → ℕ → Result (List ℤ)) (fuel w c : ℕ) → 0 < w → w ≤ fuel → attempts attemptAt (suc fuel) w c ≡ attempts attemptAt fuel w c
+unfolding attempts
+attempts-fuel attemptAt zero w c z f = absurd (omega arith)
+attempts-fuel attemptAt (suc fuel) w c z f = outcome-same (attemptAt w c) w _ _ (λ i c′. attempts-fuel attemptAt fuel (w / 2) c′ (omega arith) (omega arith))
 
 -- ---- on values: at most 1,000 ticks and ten widths
 
@@ -121,20 +122,20 @@ tries-fuel attemptAt (suc fuel) w c z f = outcome-same (attemptAt w c) w _ _ (λ
 abbrev pub Answer : Bool → ℕ → Reply → Type 0
 Answer l a r = Concluded l a 0 370000 1000 r
 
-module _ {v : List ℤ} (ok : Valid v) where
-  phases-answer : (l : Bool) (a : ℕ) (ps : List Phase) (S : List ℤ) (w : ℕ) → 0 < w → w ≤ 1000 → ticksOf ps ≤ 1000 → Answer l a (tries (λ w c. attempt l a v w ps S c) w w 0)
+module _ {v : List ℤ} (wf : Valid v) where
+  phases-answer : (l : Bool) (a : ℕ) (ps : List Phase) (S : List ℤ) (w : ℕ) → 0 < w → w ≤ 1000 → ticksOf ps ≤ 1000 → Answer l a (attempts (λ w c. attempt l a v w ps S c) w w 0)
   unfolding mostATick
   phases-answer l a ps S w z h t =
       concluded-on (omega arith) h (counted-none 0)
-      (tries-concluded (λ w c. attempt l a v w ps S c) l a (ticksOf ps) (λ w e c z h. attempt-takes l a ok w e z h ps S c) w w 0 9 z (le-refl w) (omega arith))
+      (attempts-concluded (λ w c. attempt l a v w ps S c) l a (ticksOf ps) (λ w e c z h. attempt-takes l a wf w e z h ps S c) w w 0 9 z (le-refl w) (omega arith))
 
   pub decision-answer : (B : List ℤ) (u : ℤ) (a : ℕ) → Answer true a (decisionOf v B u a)
   unfolding decisionOf decisionPhases ticksOf
-  decision-answer B u a = phases-answer true a (decisionPhases v u) B (max (δ v) (α v)) (omega (arith, ok .δ-low)) (omega (arith, ok .sum-high)) (omega (arith, ok .sum-high))
+  decision-answer B u a = phases-answer true a (decisionPhases v u) B (max (δ v) (α v)) (omega (arith, wf .δ-low)) (omega (arith, wf .sum-high)) (omega (arith, wf .sum-high))
 
   pub recovery-answer : Answer false 0 (recoveryOf v)
   unfolding recoveryOf recoveryPhases ticksOf
-  recovery-answer = phases-answer false 0 (recoveryPhases v) (recoveryBox v) (ρ v) (ok .ρ-low) (ok .ρ-high) (omega (arith, ok .ρ-high))
+  recovery-answer = phases-answer false 0 (recoveryPhases v) (recoveryBox v) (ρ v) (wf .ρ-low) (wf .ρ-high) (omega (arith, wf .ρ-high))
 
 -- ---- refusals
 
@@ -142,7 +143,7 @@ cond-most : (t : Bool) (n : ℕ) → n ≤ 17 → cond t 0 n ≤ 17
 cond-most true n l = omega arith
 cond-most false n l = l
 
-or-most : {r s : ℕ} → r ≤ 17 → s ≤ 17 → orNext r s ≤ 17
+or-most : {r s : ℕ} → r ≤ 17 → s ≤ 17 → orElse r s ≤ 17
 or-most {r = zero} h k = k
 or-most {r = suc r} h k = h
 
@@ -156,8 +157,8 @@ question-most v g =
     (or-most (cond-most (leZ (leastCommand v) u && leZ u (greatestCommand v)) 14 (omega arith))
     (cond-most (all (vars v) (λ i. leZ (negℤ (pos 1000000)) (lo B i) && leZ (lo B i) (hi B i) && leZ (hi B i) (pos 1000000))) 15 (omega arith))))
 
-unless-answer : {l : Bool} {a : ℕ} (k : ℕ) {r : Reply} → k ≤ 17 → (k ≡ 0 → Answer l a r) → Answer l a (unless k r)
-unfolding unless widthOf roundsOf
+unless-answer : {l : Bool} {a : ℕ} (k : ℕ) {r : Reply} → k ≤ 17 → (k ≡ 0 → Answer l a r) → Answer l a (unlessRefused k r)
+unfolding unlessRefused widthOf roundsOf
 unless-answer zero h o = o refl
 unless-answer (suc k) h o = record { some = omega arith; wide = omega arith; counted = counted-less (omega arith) (counted-none 0); reason = tt }
 
@@ -175,7 +176,7 @@ check-answer f = unless-answer (refusal f) (refusal-most f) (λ e. recovery-answ
 
 -- on values, a recovery check is never spent
 pub recoveryOf-unspent : {v : List ℤ} → Valid v → {w c : ℕ} → recoveryOf v ≡ answered spent w c → ⊥
-recoveryOf-unspent ok e = differ (subst (Answer false 0) e (recovery-answer ok) .reason .0) refl
+recoveryOf-unspent wf e = differ (subst (Answer false 0) e (recovery-answer wf) .reason .0) refl
 
 module _ (f g : List ℕ) where
   -- the rounds of a decision never pass its allowance, nor 370,000

@@ -15,34 +15,34 @@ use Rattle.machine_spec.specs.Box.{In}
 use Rattle.machine_spec.specs.Machine.{Law, baseline, command}
 use Rattle.machine_spec.proofs.Inside.{inside-in, within-inside}
 use Rattle.machine_spec.proofs.Sound.{proper}
-use Rattle.boxes_spec.specs.Step.{Got, got, failed, out, andThen}
+use Rattle.boxes_spec.specs.Step.{Result, ok, failed, exhausted, andThen}
 use Rattle.boxes_spec.specs.Reach.{clear}
 use Rattle.boxes_spec.proofs.Sound.{reach-sound, cleared-avoids}
 use Rattle.decision_spec.specs.Question.{questionRefusal, allowanceOf, commandOf, measured}
-use Rattle.decision_spec.specs.Decision.{Phase, follow, attempt, finest, Reply, answered, outcome, tries, decisionPhases, decisionOf, recoveryPhases, recoveryOf, unless, checkRecovery, decide, isKeep}
+use Rattle.decision_spec.specs.Decision.{Phase, follow, attempt, finest, Reply, answered, outcome, attempts, decisionPhases, decisionOf, recoveryPhases, recoveryOf, unlessRefused, checkRecovery, decide, isKeep}
 use Rattle.decision_spec.proofs.Cover.{Covered, covered-by}
 
 -- ---- stages that give a value
 
-abbrev Gave : {A : Type 0} → Got A → Type 0
-Gave (got a c) = Unit {0}
+abbrev Gave : {A : Type 0} → Result A → Type 0
+Gave (ok a c) = Unit {0}
 Gave (failed why c) = ⊥
-Gave (out c) = ⊥
+Gave (exhausted c) = ⊥
 
-record Both {A B : Type 0} (g : Got A) (k : A → ℕ → Got B) (b : B) (c : ℕ) : Type 0 where
+record Both {A B : Type 0} (g : Result A) (k : A → ℕ → Result B) (b : B) (c : ℕ) : Type 0 where
   value : A
   count : ℕ
-  first : g ≡ got value count
-  second : k value count ≡ got b c
+  first : g ≡ ok value count
+  second : k value count ≡ ok b c
 
-both : {A B : Type 0} (g : Got A) (k : A → ℕ → Got B) {b : B} {c : ℕ} → andThen g k ≡ got b c → Both g k b c
+both : {A B : Type 0} (g : Result A) (k : A → ℕ → Result B) {b : B} {c : ℕ} → andThen g k ≡ ok b c → Both g k b c
 unfolding andThen
-both (got a c) k e = record { value = a; count = c; first = refl; second = e }
+both (ok a c) k e = record { value = a; count = c; first = refl; second = e }
 both (failed why c) k e = absurd (subst Gave (sym e) tt)
-both (out c) k e = absurd (subst Gave (sym e) tt)
+both (exhausted c) k e = absurd (subst Gave (sym e) tt)
 
 -- a test without which there would be no value
-passed : {A : Type 0} (t : Bool) (x y : Got A) {a : A} {c : ℕ} → (Gave y → ⊥) → _≡_ {A = Got A} (elim t [ true ↦ x | false ↦ y ]) (got a c) → t ≡ true
+passed : {A : Type 0} (t : Bool) (x y : Result A) {a : A} {c : ℕ} → (Gave y → ⊥) → _≡_ {A = Result A} (elim t [ true ↦ x | false ↦ y ]) (ok a c) → t ≡ true
 passed true x y none e = refl
 passed false x y none e = absurd (none (subst Gave (sym e) tt))
 
@@ -53,19 +53,19 @@ unfoldable pub laws : List Phase → List Law
 laws [] = []
 laws (p ∷ ps) = replicate (p .ticks) (p .law) ++ laws ps
 
-module _ (limited : Bool) (allowance : ℕ) {v : List ℤ} (ok : Valid v) (w : ℕ) where
-  follow-sound : (ps : List Phase) (S : List ℤ) (c : ℕ) {E : List ℤ} {c′ : ℕ} → follow limited allowance v w ps S c ≡ got E c′
+module _ (limited : Bool) (allowance : ℕ) {v : List ℤ} (wf : Valid v) (w : ℕ) where
+  follow-sound : (ps : List Phase) (S : List ℤ) (c : ℕ) {E : List ℤ} {c′ : ℕ} → follow limited allowance v w ps S c ≡ ok E c′
       → ((y : List ℤ) → In (vars v) E y → In (vars v) (recoveryBox v) y) → (x : List ℤ) → In (vars v) S x → Covered v (laws ps) x
   unfolding follow laws Covered
   follow-sound [] S c {E} e ends x b = ends x (let q : S ≡ E = cc in subst (λ (B : List ℤ). In (vars v) B x) q b)
   follow-sound (p ∷ ps) S c e ends x b =
       let s = both _ _ e in
-      let r = reach-sound limited allowance (clear (vars v) v (boxes v)) w S (p .ticks) c (proper (p .law) ok) (s .first) in
+      let r = reach-sound limited allowance (clear (vars v) v (boxes v)) w S (p .ticks) c (proper (p .law) wf) (s .first) in
       covered-by v (p .law) (laws ps) (p .ticks) x
       (λ y q j h f. record { outside = cleared-avoids v (boxes v) (r .clears y (rw q b) j (omega arith) (omega arith) f) })
       (λ y q f. follow-sound ps (s .value .end) (s .count) (s .second) ends (y (p .ticks)) (r .ends y (rw q b) f))
 
-  pub attempt-sound : (ps : List Phase) (S : List ℤ) (c : ℕ) {E : List ℤ} {c′ : ℕ} → attempt limited allowance v w ps S c ≡ got E c′
+  pub attempt-sound : (ps : List Phase) (S : List ℤ) (c : ℕ) {E : List ℤ} {c′ : ℕ} → attempt limited allowance v w ps S c ≡ ok E c′
       → (x : List ℤ) → In (vars v) S x → Covered v (laws ps) x
   unfolding attempt
   attempt-sound ps S c e =
@@ -74,50 +74,50 @@ module _ (limited : Bool) (allowance : ℕ) {v : List ℤ} (ok : Valid v) (w : �
 
 -- ---- keep is answered only where an attempt succeeded
 
-outcome-keep : {G : Type 0} (g : Got (List ℤ)) (w : ℕ) (next : ℕ → Reply)
-    → ((E : List ℤ) (c : ℕ) → g ≡ got E c → G) → ((c : ℕ) → T (isKeep (next c)) → G) → T (isKeep (outcome g w next)) → G
+outcome-keep : {G : Type 0} (g : Result (List ℤ)) (w : ℕ) (next : ℕ → Reply)
+    → ((E : List ℤ) (c : ℕ) → g ≡ ok E c → G) → ((c : ℕ) → T (isKeep (next c)) → G) → T (isKeep (outcome g w next)) → G
 unfolding outcome isKeep
-outcome-keep (got E c) w next now later t = now E c refl
+outcome-keep (ok E c) w next now later t = now E c refl
 outcome-keep {G} (failed why c) w next now later t = by (leb w 1) t
   where
     by : (b : Bool) → T (isKeep (elim b [ true ↦ answered finest w c | false ↦ next c ])) → G
     by true t = absurd t
     by false t = later c t
-outcome-keep (out c) w next now later t = absurd t
+outcome-keep (exhausted c) w next now later t = absurd t
 
 -- at some width, after some rounds, the attempt succeeded
-pub record Succeeded (attemptAt : ℕ → ℕ → Got (List ℤ)) : Type 0 where
+pub record Succeeded (attemptAt : ℕ → ℕ → Result (List ℤ)) : Type 0 where
   pub width : ℕ
   pub before : ℕ
   pub end : List ℤ
   pub after : ℕ
-  pub gives : attemptAt width before ≡ got end after
+  pub gives : attemptAt width before ≡ ok end after
 
-pub tries-keep : (attemptAt : ℕ → ℕ → Got (List ℤ)) (fuel w c : ℕ) → T (isKeep (tries attemptAt fuel w c)) → Succeeded attemptAt
-unfolding tries isKeep
-tries-keep attemptAt zero w c t = absurd t
-tries-keep attemptAt (suc fuel) w c t =
-    outcome-keep (attemptAt w c) w (λ c′. tries attemptAt fuel (w / 2) c′)
-    (λ E c′ e. record { width = w; before = c; end = E; after = c′; gives = e }) (λ c′. tries-keep attemptAt fuel (w / 2) c′) t
+pub attempts-keep : (attemptAt : ℕ → ℕ → Result (List ℤ)) (fuel w c : ℕ) → T (isKeep (attempts attemptAt fuel w c)) → Succeeded attemptAt
+unfolding attempts isKeep
+attempts-keep attemptAt zero w c t = absurd t
+attempts-keep attemptAt (suc fuel) w c t =
+    outcome-keep (attemptAt w c) w (λ c′. attempts attemptAt fuel (w / 2) c′)
+    (λ E c′ e. record { width = w; before = c; end = E; after = c′; gives = e }) (λ c′. attempts-keep attemptAt fuel (w / 2) c′) t
 
-module _ {v : List ℤ} (ok : Valid v) where
+module _ {v : List ℤ} (wf : Valid v) where
   pub recovery-sound : {x : List ℤ} → T (isKeep (recoveryOf v)) → In (vars v) (recoveryBox v) x → Covered v (replicate (ρ v) baseline) x
   unfolding recoveryOf recoveryPhases laws
   recovery-sound {x} t b =
-      let s = tries-keep (λ w c. attempt false 0 v w (recoveryPhases v) (recoveryBox v) c) (ρ v) (ρ v) 0 t in
-      rw append-nil at (attempt-sound false 0 ok (s .width) (recoveryPhases v) (recoveryBox v) (s .before) (s .gives) x b)
+      let s = attempts-keep (λ w c. attempt false 0 v w (recoveryPhases v) (recoveryBox v) c) (ρ v) (ρ v) 0 t in
+      rw append-nil at (attempt-sound false 0 wf (s .width) (recoveryPhases v) (recoveryBox v) (s .before) (s .gives) x b)
 
   pub decision-sound : (u : ℤ) (a : ℕ) {B x : List ℤ} → T (isKeep (decisionOf v B u a)) → In (vars v) B x
       → Covered v (replicate (δ v) (command u) ++ replicate (α v) baseline) x
   unfolding decisionOf decisionPhases laws
   decision-sound u a {B} {x} t b =
-      let s = tries-keep (λ w c. attempt true a v w (decisionPhases v u) B c) _ _ 0 t in
-      rw append-nil at (attempt-sound true a ok (s .width) (decisionPhases v u) B (s .before) (s .gives) x b)
+      let s = attempts-keep (λ w c. attempt true a v w (decisionPhases v u) B c) _ _ 0 t in
+      rw append-nil at (attempt-sound true a wf (s .width) (decisionPhases v u) B (s .before) (s .gives) x b)
 
 -- ---- from bytes
 
-unless-keep : (r : ℕ) (a : Reply) → T (isKeep (unless r a)) → (r ≡ 0) × T (isKeep a)
-unfolding unless isKeep
+unless-keep : (r : ℕ) (a : Reply) → T (isKeep (unlessRefused r a)) → (r ≡ 0) × T (isKeep a)
+unfolding unlessRefused isKeep
 unless-keep zero a t = (refl, t)
 unless-keep (suc r) a t = absurd t
 

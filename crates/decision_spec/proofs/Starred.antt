@@ -7,12 +7,12 @@ use Rattle.decision_spec.proofs.Everything.{everything}
 
 abbrev Rows : List Check → Type 0
 Rows [] = Unit {0}
-Rows (c ∷ cs) = (c .given ≡ c .said) × Rows cs
+Rows (c ∷ cs) = (c .computed ≡ c .expected) × Rows cs
 
-columns : (cs : List Check) → Rows cs → map (λ (c : Check). c .given) cs ≡ map (λ (c : Check). c .said) cs
+columns : (cs : List Check) → Rows cs → map (λ (c : Check). c .computed) cs ≡ map (λ (c : Check). c .expected) cs
 columns [] r = refl
 columns (c ∷ cs) r = λ i. r .0 i ∷ columns cs (r .1) i
 
-pub starred : map (λ (c : Check). c .given) table ≡ map (λ (c : Check). c .said) table
+pub starred : map (λ (c : Check). c .computed) table ≡ map (λ (c : Check). c .expected) table
 unfolding table lines others asksA fileA everything
 starred = columns table (refl, (refl, (refl, (refl, (refl, (refl, (refl, (refl, (refl, (refl, (refl, (refl, (refl, (refl, (refl, tt)))))))))))))))

@@ -3,8 +3,7 @@ use mathlib.Core.List.{List}
 use Prim.Native.Nat.{ℕ, zero, suc}
 use lib.Dec.{leb}
 use lib.ListN.{length}
-use Rattle.sheet_spec.specs.Refusals.{Cause, unless}
-use Rattle.boxes_spec.specs.Reach.{orNext}
+use Rattle.sheet_spec.specs.Refusals.{Cause, refuseUnless, orElse}
 use Rattle.decision_spec.specs.Decision.{refused, packed}
 
 -- the number of the refusal r, or where there is none the answer a
@@ -19,4 +18,4 @@ orUnchanged (suc r) new buffer = buffer
 
 -- the refusal r, or where there is none 17 if the buffer has fewer bytes than `size`
 abbrev pub orRoom : ℕ → ℕ → List ℕ → ℕ
-orRoom r size buffer = orNext r (unless (leb size (length buffer)) Cause.room)
+orRoom r size buffer = orElse r (refuseUnless (leb size (length buffer)) Cause.room)

@@ -8,7 +8,7 @@ use Rattle.sheet_spec.specs.Slots.{vars, boxes, δ, α, ρ, recoveryBox}
 use Rattle.sheet_spec.specs.Sheet.{refusal, values}
 use Rattle.machine_spec.specs.Box.{within}
 use Rattle.machine_spec.specs.Machine.{Law, baseline, command, machine}
-use Rattle.boxes_spec.specs.Step.{Got, got, failed, out, unrecovered, andThen}
+use Rattle.boxes_spec.specs.Step.{Result, ok, failed, exhausted, unrecovered, andThen}
 use Rattle.boxes_spec.specs.Reach.{reach, clear}
 use Rattle.decision_spec.specs.Question.{questionRefusal, allowanceOf, commandOf, measured}
 
@@ -25,15 +25,15 @@ phase l t = record { law = l; ticks = t }
 -- an allowance (if `limited`), a sheet's value, the width
 module _ (limited : Bool) (allowance : ℕ) (v : List ℤ) (w : ℕ) where
   -- the reaches of the phases, each from the end box of the one before, clear of every no-go box
-  unfoldable pub follow : List Phase → List ℤ → ℕ → Got (List ℤ)
-  follow [] S c = got S c
+  unfoldable pub follow : List Phase → List ℤ → ℕ → Result (List ℤ)
+  follow [] S c = ok S c
   follow (p ∷ ps) S c =
       andThen (reach limited allowance (machine v (p .law)) (clear (vars v) v (boxes v)) w S (p .ticks) c) (λ r c′. follow ps (r .end) c′)
 
   -- and the last end box within the recovery box
-  unfoldable pub attempt : List Phase → List ℤ → ℕ → Got (List ℤ)
+  unfoldable pub attempt : List Phase → List ℤ → ℕ → Result (List ℤ)
   attempt ps S c =
-      andThen (follow ps S c) (λ E c′. elim (within (vars v) E (recoveryBox v)) [ true ↦ got E c′ | false ↦ failed unrecovered c′ ])
+      andThen (follow ps S c) (λ E c′. elim (within (vars v) E (recoveryBox v)) [ true ↦ ok E c′ | false ↦ failed unrecovered c′ ])
 
 -- ---- answers
 
@@ -55,16 +55,16 @@ isKeep (answered spent w c) = false
 isKeep (refused r) = false
 
 -- what an attempt at width w comes to, where `next` answers at the next width
-unfoldable pub outcome : Got (List ℤ) → ℕ → (ℕ → Reply) → Reply
-outcome (got E c) w next = answered keep w c
+unfoldable pub outcome : Result (List ℤ) → ℕ → (ℕ → Reply) → Reply
+outcome (ok E c) w next = answered keep w c
 outcome (failed why c) w next = elim (leb w 1) [ true ↦ answered finest w c | false ↦ next c ]
-outcome (out c) w next = answered spent w c
+outcome (exhausted c) w next = answered spent w c
 
 -- attempts at width w, then at half of it rounded down, and so on to 1, after c rounds. The fuel is not used up where it is
 -- at least w
-unfoldable pub tries : (ℕ → ℕ → Got (List ℤ)) → ℕ → ℕ → ℕ → Reply
-tries attemptAt zero w c = answered finest w c
-tries attemptAt (suc fuel) w c = outcome (attemptAt w c) w (λ c′. tries attemptAt fuel (w / 2) c′)
+unfoldable pub attempts : (ℕ → ℕ → Result (List ℤ)) → ℕ → ℕ → ℕ → Reply
+attempts attemptAt zero w c = answered finest w c
+attempts attemptAt (suc fuel) w c = outcome (attemptAt w c) w (λ c′. attempts attemptAt fuel (w / 2) c′)
 
 -- ---- the decision on values
 
@@ -74,35 +74,35 @@ decisionPhases v u = phase (command u) (δ v) ∷ phase baseline (α v) ∷ []
 
 unfoldable pub decisionOf : List ℤ → List ℤ → ℤ → ℕ → Reply
 decisionOf v B u allowance =
-    tries (λ w c. attempt true allowance v w (decisionPhases v u) B c) (max (δ v) (α v)) (max (δ v) (α v)) 0
+    attempts (λ w c. attempt true allowance v w (decisionPhases v u) B c) (max (δ v) (α v)) (max (δ v) (α v)) 0
 
 -- ρ ticks under the plain law from the recovery box, with no allowance
 unfoldable pub recoveryPhases : List ℤ → List Phase
 recoveryPhases v = phase baseline (ρ v) ∷ []
 
 unfoldable pub recoveryOf : List ℤ → Reply
-recoveryOf v = tries (λ w c. attempt false 0 v w (recoveryPhases v) (recoveryBox v) c) (ρ v) (ρ v) 0
+recoveryOf v = attempts (λ w c. attempt false 0 v w (recoveryPhases v) (recoveryBox v) c) (ρ v) (ρ v) 0
 
 -- ---- the operations on bytes
 
 -- the reply, or the refusal before it
-unfoldable pub unless : ℕ → Reply → Reply
-unless zero a = a
-unless (suc r) a = refused (suc r)
+unfoldable pub unlessRefused : ℕ → Reply → Reply
+unlessRefused zero a = a
+unlessRefused (suc r) a = refused (suc r)
 
 -- the decision on a sheet's value v and a question's bytes g
 abbrev pub decisionOn : List ℤ → List ℕ → Reply
-decisionOn v g = unless (questionRefusal v g) (decisionOf v (measured (vars v) g) (commandOf g) (allowanceOf g))
+decisionOn v g = unlessRefused (questionRefusal v g) (decisionOf v (measured (vars v) g) (commandOf g) (allowanceOf g))
 
 -- the recovery check of a sheet's bytes
 unfoldable pub checkRecovery : List ℕ → Reply
-checkRecovery f = unless (refusal f) (recoveryOf (values f))
+checkRecovery f = unlessRefused (refusal f) (recoveryOf (values f))
 
 -- the decision on a sheet's and a question's bytes
 unfoldable pub decide : List ℕ → List ℕ → Reply
 decide f g =
-    unless (refusal f)
-    (unless (questionRefusal (values f) g)
+    unlessRefused (refusal f)
+    (unlessRefused (questionRefusal (values f) g)
     (decisionOf (values f) (measured (vars (values f)) g) (commandOf g) (allowanceOf g)))
 
 -- ---- the answer as one 64-bit number: code, width and rounds

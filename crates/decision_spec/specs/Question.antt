@@ -8,9 +8,10 @@ use lib.ListN.{getD, length, take, drop}
 use mir.Syntax.{w32}
 use Rattle.integers.specs.Bytes.{be, decode}
 use Rattle.sheet_spec.specs.Slots.{vars}
-use Rattle.machine_spec.specs.Box.{sides}
+use Rattle.machine_spec.specs.Box.{boxOf}
 use Rattle.machine_spec.specs.Machine.{command}
-use Rattle.boxes_spec.specs.Reach.{orNext, lawRefusal, sidesRefusal}
+use Rattle.sheet_spec.specs.Refusals.{orElse}
+use Rattle.boxes_spec.specs.Reach.{lawRefusal, sidesRefusal}
 
 -- the number in the four bytes from a place on, unsigned and in two's complement
 abbrev pub u32 : List ℕ → ℕ → ℕ
@@ -34,7 +35,7 @@ commandOf g = i32 g 6
 
 -- n pairs of lower and upper side, from a place on
 unfoldable pub pairs : ℕ → List ℕ → ℕ → List ℤ
-pairs n g at = sides n (λ i. i32 g (at + 8 * i)) (λ i. i32 g (at + 8 * i + 4))
+pairs n g at = boxOf n (λ i. i32 g (at + 8 * i)) (λ i. i32 g (at + 8 * i + 4))
 
 -- the measured box
 unfoldable pub measured : ℕ → List ℕ → List ℤ
@@ -51,5 +52,5 @@ allowanceRefusal g = cond (leb (allowanceOf g) 1000000) 0 13
 -- the first refusal of a question on the sheet v, 12 to 15, or 0
 unfoldable pub questionRefusal : List ℤ → List ℕ → ℕ
 questionRefusal v g =
-    orNext (formRefusal (vars v) g)
-    (orNext (allowanceRefusal g) (orNext (lawRefusal v (command (commandOf g))) (sidesRefusal (vars v) (measured (vars v) g))))
+    orElse (formRefusal (vars v) g)
+    (orElse (allowanceRefusal g) (orElse (lawRefusal v (command (commandOf g))) (sidesRefusal (vars v) (measured (vars v) g))))

@@ -11,7 +11,7 @@ use Rattle.sheet_spec.specs.Sheet.{values}
 use Rattle.sheet_spec.specs.SheetA.{fileA}
 use Rattle.machine_spec.specs.Box.{lo, hi, meets}
 use Rattle.machine_spec.specs.Machine.{Law, baseline, command, machine, bandMeets, clamp}
-use Rattle.boxes_spec.specs.Step.{Got, got, failed, out}
+use Rattle.boxes_spec.specs.Step.{Result, ok, failed, exhausted}
 use Rattle.boxes_spec.specs.Reach.{Reached, reach, clear}
 use Rattle.decision_spec.specs.Decision.{packed, decide, checkRecovery}
 use Rattle.decision_spec.specs.Listing.{listing}
@@ -28,11 +28,11 @@ asksA = question 0 0 25 100 ++ (question 95 100 25 100 ++ (question 95 100 25 4 
 -- ---- the table
 
 pub record Check : Type 0 where
-  pub given : List ℤ
-  pub said : List ℤ
+  pub computed : List ℤ
+  pub expected : List ℤ
 
 abbrev pub check : List ℤ → List ℤ → Check
-check g s = record { given = g; said = s }
+check g s = record { computed = g; expected = s }
 
 abbrev pub number : ℕ → List ℤ
 number n = pos n ∷ []
@@ -52,14 +52,14 @@ abbrev pub interval : ℤ → ℤ → List ℤ
 interval l h = l ∷ (replicate (N - 1) (pos 0) ++ (h ∷ replicate (N - 1) (pos 0)))
 
 -- the sides of a reach's end box, and the rounds
-abbrev pub ended : Got Reached → List ℤ
-ended (got r c) = lo (r .end) 0 ∷ hi (r .end) 0 ∷ number c
-ended (failed why c) = []
-ended (out c) = []
+abbrev pub endSides : Result Reached → List ℤ
+endSides (ok r c) = lo (r .end) 0 ∷ hi (r .end) 0 ∷ number c
+endSides (failed why c) = []
+endSides (exhausted c) = []
 
 -- four ticks on sheet A at width 4, after c rounds
 abbrev pub reachA : Law → List ℤ → ℕ → List ℤ
-reachA l S c = ended (reach false 0 (machine (values fileA) l) (clear 1 (values fileA) 1) 4 S 4 c)
+reachA l S c = endSides (reach false 0 (machine (values fileA) l) (clear 1 (values fileA) 1) 4 S 4 c)
 
 -- a sheet's value with the edges −2,000,000 and 0, and whether its band k holds the value x
 abbrev pub edges : List ℤ

@@ -12,16 +12,16 @@ use Rattle.integers.proofs.Lists.{sets-append}
 use Rattle.sheet_spec.specs.Slots.{_!_, vars}
 use Rattle.sheet_spec.specs.Sheet.{refusal, values}
 use Rattle.sheet_spec.specs.Valid.{Valid}
-use Rattle.machine_spec.specs.Box.{sides, trim}
+use Rattle.machine_spec.specs.Box.{boxOf, trim}
 use Rattle.machine_spec.specs.Machine.{Law, Machine, machine, lawOf}
-use Rattle.boxes_arithmetic.specs.Limits.{Sides}
+use Rattle.boxes_arithmetic.specs.Limits.{SidesWithin}
 use Rattle.boxes_rates.specs.Plant.{Usable}
 use Rattle.boxes_rates.proofs.Rates.{usable}
 use Rattle.boxes_rates.proofs.Bounds.{wider, sides-bound, hull-bound, moved-bound, rates-bound}
-use Rattle.boxes_spec.specs.Step.{Failure, Got, Step, endBox, swept}
+use Rattle.boxes_spec.specs.Step.{Failure, Result, Step, endBox, swept}
 use Rattle.boxes_spec.specs.Reach.{Reached, reach, clear, ticksRefusal, lawRefusal, reachRefusal, noBox, Answer, answer, ifAccepted, reachOf, reachFile}
 use Rattle.boxes_spec.proofs.Stages.{Takes, value, failure, spent}
-use Rattle.boxes_spec.proofs.Settled.{Settled, Place, start, Walks, here, next, Ends, reach-takes}
+use Rattle.boxes_spec.proofs.Settled.{Settled, Place, start, StepsTo, here, next, Ends, reach-takes}
 use Rattle.boxes_spec.proofs.Count.{ticks-width}
 use Rattle.boxes_spec.proofs.Refusals.{or-none, if-refused, if-accepted}
 use Rattle.boxes_refusals.proofs.Turn.{sides-near}
@@ -33,14 +33,14 @@ use Rattle.guard.proofs.Turn.{sides-length}
 
 -- both boxes of a reach
 abbrev Far : ℕ → List ℤ → List ℤ → Type 0
-Far b E W = Sides b E × Sides b W
+Far b E W = SidesWithin b E × SidesWithin b W
 
-module _ {m : Machine} (ok : Usable m) where
-  step-far : {S : List ℤ} {k b : ℕ} {t : Step} → Sides b S → Settled m S k t → Sides (b + t .ticks * 1000) (t .end)
+module _ {m : Machine} (wf : Usable m) where
+  step-far : {S : List ℤ} {k b : ℕ} {t : Step} → SidesWithin b S → Settled m S k t → SidesWithin (b + t .ticks * 1000) (t .end)
   unfolding endBox
-  step-far {S} {t = t} h s = rw (s .end) (moved-bound (m .n) S (t .ticks) _ h (rates-bound ok S (t .ticks) (s .E)))
+  step-far {S} {t = t} h s = rw (s .end) (moved-bound (m .n) S (t .ticks) _ h (rates-bound wf S (t .ticks) (s .E)))
 
-  walks-far : {clear : List ℤ → Bool} {w b : ℕ} {p q : Place} → Walks m clear w q p → Far b (p .box) (p .swept) → Far (b + p .left * 1000) (q .box) (q .swept)
+  walks-far : {clear : List ℤ → Bool} {w b : ℕ} {p q : Place} → StepsTo m clear w q p → Far b (p .box) (p .swept) → Far (b + p .left * 1000) (q .box) (q .swept)
   unfolding swept
   walks-far here h = (wider (omega arith) (h .0), wider (omega arith) (h .1))
   walks-far {b = b} {p = p} (next {t = t} s k r) h =
@@ -51,17 +51,17 @@ module _ {m : Machine} (ok : Usable m) where
       (wider g (f .0), wider g (f .1))
 
 none-far : {b : ℕ} → Far b noBox noBox
-unfolding sides
-none-far {b} = let h : Sides b noBox = sides-bound b 0 (λ i. pos 0) (λ i. pos 0) (λ i l. absurd (omega arith)) (λ i l. absurd (omega arith)) in (h, h)
+unfolding boxOf
+none-far {b} = let h : SidesWithin b noBox = sides-bound b 0 (λ i. pos 0) (λ i. pos 0) (λ i l. absurd (omega arith)) (λ i l. absurd (omega arith)) in (h, h)
 
 -- the boxes of an answer lie within ±2,000,000
 pub reach-far : {v : List ℤ} → Valid v → (ticks w : ℕ) (l : Law) (B : List ℤ) → Far 2000000 (reachOf v ticks w l B .end) (reachOf v ticks w l B .swept)
 unfolding reachOf reachRefusal answer
-reach-far {v} ok ticks w l B = by (reachRefusal v ticks w l B) refl
+reach-far {v} wf ticks w l B = by (reachRefusal v ticks w l B) refl
   where
-    far : {g : Got Reached} {Q : Failure → Type 0} → Sides 1000000 (trim (vars v) B) → ticks ≤ 1000
+    far : {g : Result Reached} {Q : Failure → Type 0} → SidesWithin 1000000 (trim (vars v) B) → ticks ≤ 1000
         → Takes false 0 0 (73 * ticks) (Ends (machine v l) (clear (vars v) v 0) w (start (trim (vars v) B) ticks)) Q g → Far 2000000 (answer g .end) (answer g .swept)
-    far h k (value p n) = let f = walks-far (usable l ok) (p .walks) (h, h) in (wider (omega arith) (f .0), wider (omega arith) (f .1))
+    far h k (value p n) = let f = walks-far (usable l wf) (p .path) (h, h) in (wider (omega arith) (f .0), wider (omega arith) (f .1))
     far h k (failure q n) = none-far
     far h k (spent i e n) = none-far
 
@@ -70,7 +70,7 @@ reach-far {v} ok ticks w l B = by (reachRefusal v ticks w l B) refl
     by zero e =
         let t = or-none (ticksRefusal ticks w) _ e in
         let k = ticks-width ticks w (t .0) in
-        far (sides-near (vars v) B (or-none (lawRefusal v l) _ (t .1) .1)) (k .0) (reach-takes false 0 (machine v l) (clear (vars v) v 0) w 9 (omega (arith, ok .vars-high)) (k .1) (omega (arith, k .2)) (trim (vars v) B) ticks 0)
+        far (sides-near (vars v) B (or-none (lawRefusal v l) _ (t .1) .1)) (k .0) (reach-takes false 0 (machine v l) (clear (vars v) v 0) w 9 (omega (arith, wf .vars-high)) (k .1) (omega (arith, k .2)) (trim (vars v) B) ticks 0)
 
 -- ---- bytes
 

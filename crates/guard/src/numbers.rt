@@ -7,7 +7,7 @@ ghost use lib.ListN.{getD, length};
 ghost use lib.Seq.{sets};
 ghost use Rattle.sheet_spec.specs.Slots as slots;
 ghost use Rattle.sheet_spec.specs.Sheet.{zeros};
-ghost use Rattle.boxes_arithmetic.specs.Limits.{Sides};
+ghost use Rattle.boxes_arithmetic.specs.Limits.{SidesWithin};
 ghost use Rattle.decision_spec.specs.Numbers.{numberAt, numberBytes, sheetIn, sidesOf};
 use sheet_encoding::bytes::get_i32;
 use sheet_encoding::bytes::put_i32;
@@ -63,7 +63,7 @@ pub fn put_numbers(out: &mut [u8], v: &[i32; SLOTS], count: usize)
 
 // Puts the sides of a box's variables into v, from a slot on.
 pub fn put_sides(v: &mut [i32; SLOTS], at: usize, n: usize, b: &[i64; BOX_SIZE])
-    requires { ⌜ (n ≤ slots.N) × ((at + 2 * n ≤ slots.slots) × Sides 2000000 (now b)) ⌝ }
+    requires { ⌜ (n ≤ slots.N) × ((at + 2 * n ≤ slots.slots) × SidesWithin 2000000 (now b)) ⌝ }
     ensures { λ _. ⌜ now (v .exit) ≡ sets (now (v .entry)) at (sidesOf n (now (b .entry))) ⌝ }
 {
     let mut i: usize = 0;

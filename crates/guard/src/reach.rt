@@ -4,8 +4,8 @@
 ghost use mathlib.Core.Path.{_≡_};
 ghost use Prim.Native.Nat.{_≤_};
 ghost use Rattle.sheet_spec.specs.Slots as slots;
-ghost use Rattle.boxes_arithmetic.specs.Limits.{Sides};
-ghost use Rattle.boxes.specs.ReachAnswer.{answered};
+ghost use Rattle.boxes_arithmetic.specs.Limits.{SidesWithin};
+ghost use Rattle.boxes.specs.ReachAnswer.{answerOf};
 ghost use Rattle.decision_spec.specs.ReachCall.{reachCall, reachOut, reachedCall, reachedOut, startBox};
 use crate::numbers::put_numbers;
 use crate::numbers::put_sides;
@@ -36,9 +36,9 @@ fn start_box(n: usize, start: &[u8]) -> [i64; BOX_SIZE]
 
 // The answer of a reach of n variables.
 fn give_reached(n: usize, a: ReachAnswer, out: &mut [u8]) -> u64
-    requires { ⌜ (n ≤ slots.N) × (Sides 2000000 (a .end) × Sides 2000000 (a .swept)) ⌝ }
-    ensures { λ r. ⌜ r ≡ reachedCall n (answered a) (now (out .entry)) ⌝ }
-    ensures { λ _. ⌜ now (out .exit) ≡ reachedOut n (answered a) (now (out .entry)) ⌝ }
+    requires { ⌜ (n ≤ slots.N) × (SidesWithin 2000000 (a .end) × SidesWithin 2000000 (a .swept)) ⌝ }
+    ensures { λ r. ⌜ r ≡ reachedCall n (answerOf a) (now (out .entry)) ⌝ }
+    ensures { λ _. ⌜ now (out .exit) ≡ reachedOut n (answerOf a) (now (out .entry)) ⌝ }
 {
     let refusal = a.refusal;
     if refusal != 0 {

@@ -23,7 +23,7 @@ use Rattle.sheet_spec.proofs.Ranges.{small}
 use Rattle.sheet_spec.proofs.Length.{cap-offset, file-length}
 use Rattle.sheet_spec.proofs.Answers.{refused-beginning, refused-head, refused-size}
 use Rattle.decision_spec.specs.Question.{questionLength}
-use Rattle.decision_spec.specs.Decision.{Reply, recoveryOf, unless, checkRecovery, isKeep}
+use Rattle.decision_spec.specs.Decision.{Reply, recoveryOf, unlessRefused, checkRecovery, isKeep}
 use Rattle.decision_spec.specs.Listing.{_␣_, newline, sheetWord, checkWord, replyText, sheetLine, questionLines, listing}
 use Rattle.listing.specs.Limits.{longest}
 
@@ -103,9 +103,9 @@ module _ (f : List ℕ) (k : ℕ) (l : longest < k) where
 -- ---- the listing
 
 refused-listing : (f g : List ℕ) (c : ℕ) → refusal f ≡ suc c → listing f g ≡ (sheetWord ␣ replyText checkWord (Reply.refused (suc c))) ++ (newline ∷ []) ++ []
-unfolding listing sheetLine checkRecovery unless isKeep
+unfolding listing sheetLine checkRecovery unlessRefused isKeep
 refused-listing f g c e =
-    ap (λ (r : ℕ). let a = unless r (recoveryOf (values f)) in
+    ap (λ (r : ℕ). let a = unlessRefused r (recoveryOf (values f)) in
     ((sheetWord ␣ replyText checkWord a) ++ (newline ∷ [])) ++ (elim (isKeep a) [ true ↦ questionLines f (questionLength (vars (values f))) (length g) 1 g | false ↦ [] ])) e
 
 pub listing-cut : (f g : List ℕ) (k : ℕ) → longest < k → listing (take k f) g ≡ listing f g

@@ -4,8 +4,8 @@
 ghost use mathlib.Core.List.{[], _∷_, _++_};
 ghost use Prim.Native.Nat.{_+_, _≤_};
 ghost use lib.ListN.{length};
-ghost use Rattle.decision_answers.specs.Recovery.{checked};
-ghost use Rattle.decision_answers.specs.Decision.{decided};
+ghost use Rattle.decision_answers.specs.Recovery.{checkReplyOf};
+ghost use Rattle.decision_answers.specs.Decision.{replyOf};
 ghost use Rattle.decision_spec.specs.Listing.{_␣_, checkWord, decisionWord, digits, newline, refusedWord, replyText, sheetWord};
 ghost use Rattle.listing_text.specs.Text.{Put, lineRoom, replyRoom, wordRoom};
 use decision_answers::Decision;
@@ -36,7 +36,7 @@ fn put_refused(number: u8, out: &mut [u8; LINE], at: usize) -> usize
 
 fn put_decision(d: Decision, out: &mut [u8; LINE], at: usize) -> usize
     requires { ⌜ at + replyRoom ≤ lineRoom ⌝ }
-    ensures { λ r. ⌜ Put (replyText decisionWord (decided d)) (now (out .entry)) at (now (out .exit)) r × (r ≤ at + replyRoom) ⌝ }
+    ensures { λ r. ⌜ Put (replyText decisionWord (replyOf d)) (now (out .entry)) at (now (out .exit)) r × (r ≤ at + replyRoom) ⌝ }
 {
     match d {
         Decision::Keep { width, rounds } => put_verdict(b"keep", width, rounds, out, at),
@@ -48,7 +48,7 @@ fn put_decision(d: Decision, out: &mut [u8; LINE], at: usize) -> usize
 
 fn put_recovery(a: Recovery, out: &mut [u8; LINE], at: usize) -> usize
     requires { ⌜ at + replyRoom ≤ lineRoom ⌝ }
-    ensures { λ r. ⌜ Put (replyText checkWord (checked a)) (now (out .entry)) at (now (out .exit)) r × (r ≤ at + replyRoom) ⌝ }
+    ensures { λ r. ⌜ Put (replyText checkWord (checkReplyOf a)) (now (out .entry)) at (now (out .exit)) r × (r ≤ at + replyRoom) ⌝ }
 {
     match a {
         Recovery::Pass { width, rounds } => put_verdict(b"pass", width, rounds, out, at),
@@ -59,7 +59,7 @@ fn put_recovery(a: Recovery, out: &mut [u8; LINE], at: usize) -> usize
 
 // The sheet's line over its recovery check's answer.
 pub fn put_sheet_line(a: Recovery, out: &mut [u8; LINE]) -> usize
-    ensures { λ r. ⌜ Put ((sheetWord ␣ replyText checkWord (checked a)) ++ (newline ∷ [])) (now (out .entry)) 0 (now (out .exit)) r × (r ≤ lineRoom) ⌝ }
+    ensures { λ r. ⌜ Put ((sheetWord ␣ replyText checkWord (checkReplyOf a)) ++ (newline ∷ [])) (now (out .entry)) 0 (now (out .exit)) r × (r ≤ lineRoom) ⌝ }
 {
     let first = put(b"sheet ", out, 0);
     let second = put_recovery(a, out, first);
@@ -68,7 +68,7 @@ pub fn put_sheet_line(a: Recovery, out: &mut [u8; LINE]) -> usize
 
 // A question's line over its number and its decision.
 pub fn put_question_line(ordinal: u64, d: Decision, out: &mut [u8; LINE]) -> usize
-    ensures { λ r. ⌜ Put ((digits ordinal ␣ replyText decisionWord (decided d)) ++ (newline ∷ [])) (now (out .entry)) 0 (now (out .exit)) r × (r ≤ lineRoom) ⌝ }
+    ensures { λ r. ⌜ Put ((digits ordinal ␣ replyText decisionWord (replyOf d)) ++ (newline ∷ [])) (now (out .entry)) 0 (now (out .exit)) r × (r ≤ lineRoom) ⌝ }
 {
     let first = put_decimal(ordinal, out, 0);
     let second = put(b" ", out, first);

@@ -15,7 +15,7 @@ use lib.Seq.{getD-set-same, getD-set-other, getD-take, getD-drop}
 use Rattle.integers.specs.Order.{minZ, maxZ}
 use Rattle.integers.proofs.Z.{ints, flat, le-true}
 use Rattle.sheet_spec.specs.Slots.{_!_, N, boxSize, boxAt}
-use Rattle.machine_spec.specs.Box.{lo, hi, sum, all, any, sides, trim, hull, within, meets, moved}
+use Rattle.machine_spec.specs.Box.{lo, hi, sum, all, any, boxOf, trim, hull, within, meets, moved}
 
 -- ---- tests
 
@@ -63,8 +63,8 @@ module _ (n : ℕ) where
   any-more f e g = rw add-one (rw (e, g) refl)
 
   -- a loop's turn: the sides of one variable more are set
-  pub sides-more : (f g : ℕ → ℤ) {r : List ℤ} {x y : ℤ} → r ≡ sides n f g → x ≡ f n → y ≡ g n → set (set r n x) (n + N) y ≡ sides (n + 1) f g
-  unfolding sides
+  pub sides-more : (f g : ℕ → ℤ) {r : List ℤ} {x y : ℤ} → r ≡ boxOf n f g → x ≡ f n → y ≡ g n → set (set r n x) (n + N) y ≡ boxOf (n + 1) f g
+  unfolding boxOf
   sides-more f g e p q = rw (e, p, q) (rw add-one refl)
 
 -- ---- at each i below n
@@ -106,32 +106,32 @@ sum-mono (suc n) f g h =
 
 -- ---- what stands at a place
 
-pub sides-length : (n : ℕ) (f g : ℕ → ℤ) → length (sides n f g) ≡ boxSize
-unfolding sides
+pub sides-length : (n : ℕ) (f g : ℕ → ℤ) → length (boxOf n f g) ≡ boxSize
+unfolding boxOf
 sides-length zero f g = length-replicate boxSize (pos 0)
 sides-length (suc n) f g = simp length-set (sides-length n f g)
 
 module _ (f g : ℕ → ℤ) where
-  pub sides-lo : (n i : ℕ) → n ≤ N → i < n → lo (sides n f g) i ≡ f i
-  unfolding sides
+  pub sides-lo : (n i : ℕ) → n ≤ N → i < n → lo (boxOf n f g) i ≡ f i
+  unfolding boxOf
   sides-lo zero i k h = absurd (omega arith)
   sides-lo (suc n) i k h =
-      let s = set (sides n f g) n (f n) in
+      let s = set (boxOf n f g) n (f n) in
       getD-set-other s (n + N) i (g n) (pos 0) (λ q. omega arith)
       ∙ ⊎-elim
-      (λ q. rw q (getD-set-same (sides n f g) n (f n) (pos 0) (omega (arith, sides-length n f g))))
-      (λ l. getD-set-other (sides n f g) n i (f n) (pos 0) (λ q. omega arith) ∙ sides-lo n i (omega arith) l)
+      (λ q. rw q (getD-set-same (boxOf n f g) n (f n) (pos 0) (omega (arith, sides-length n f g))))
+      (λ l. getD-set-other (boxOf n f g) n i (f n) (pos 0) (λ q. omega arith) ∙ sides-lo n i (omega arith) l)
       (eq-or-lt-of-le (omega arith))
 
-  pub sides-hi : (n i : ℕ) → n ≤ N → i < n → hi (sides n f g) i ≡ g i
-  unfolding sides
+  pub sides-hi : (n i : ℕ) → n ≤ N → i < n → hi (boxOf n f g) i ≡ g i
+  unfolding boxOf
   sides-hi zero i k h = absurd (omega arith)
   sides-hi (suc n) i k h =
-      let s = set (sides n f g) n (f n) in
+      let s = set (boxOf n f g) n (f n) in
       ⊎-elim
-      (λ q. rw q (getD-set-same s (n + N) (g n) (pos 0) (omega (arith, sides-length n f g, length-set (sides n f g) n (f n)))))
+      (λ q. rw q (getD-set-same s (n + N) (g n) (pos 0) (omega (arith, sides-length n f g, length-set (boxOf n f g) n (f n)))))
       (λ l. getD-set-other s (n + N) (i + N) (g n) (pos 0) (λ q. omega arith)
-      ∙ (getD-set-other (sides n f g) n (i + N) (f n) (pos 0) (λ q. omega arith) ∙ sides-hi n i (omega arith) l))
+      ∙ (getD-set-other (boxOf n f g) n (i + N) (f n) (pos 0) (λ q. omega arith) ∙ sides-hi n i (omega arith) l))
       (eq-or-lt-of-le (omega arith))
 
 module _ (n i : ℕ) (k : n ≤ N) (h : i < n) where

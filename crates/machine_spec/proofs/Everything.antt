@@ -2,10 +2,10 @@
 use Prim.Native.Nat.{ℕ}
 use Rattle.integers.specs.Order.{minZ, maxZ}
 use Rattle.integers.specs.Division.{floorDiv, ceilDiv}
-use Rattle.machine_spec.specs.Box.{sum, all, any, sides, trim, hull, within, meets, moved}
+use Rattle.machine_spec.specs.Box.{sum, all, any, boxOf, trim, hull, within, meets, moved}
 use Rattle.machine_spec.specs.Machine.{leastOf, greatestOf, bandMeets, clamp, numerator, change}
 use Rattle.machine_spec.specs.Rate.{outer, outermost, weighted, bound, neutral, bandRate, rate, neighborhood, faceRate, rates}
 
 unfoldable pub everything : ℕ
-unfolding minZ maxZ floorDiv ceilDiv sum all any sides trim hull within meets moved leastOf greatestOf bandMeets clamp numerator change outer outermost weighted bound neutral bandRate rate neighborhood faceRate rates
+unfolding minZ maxZ floorDiv ceilDiv sum all any boxOf trim hull within meets moved leastOf greatestOf bandMeets clamp numerator change outer outermost weighted bound neutral bandRate rate neighborhood faceRate rates
 everything = 0

@@ -8,21 +8,21 @@ use lib.IntN.{ℤ, pos}
 use lib.ListN.{set}
 use lib.Seq.{getD-set-other, set-set, set-comm}
 use Rattle.sheet_spec.specs.Slots.{N}
-use Rattle.machine_spec.specs.Box.{lo, hi, sides, trim, hull, moved}
+use Rattle.machine_spec.specs.Box.{lo, hi, boxOf, trim, hull, moved}
 use Rattle.machine_spec.proofs.Box.{sides-lo, sides-hi}
 
 -- ---- boxes that trimming leaves as they are
 
 -- only the sides of variables below n count
-pub sides-same : (n : ℕ) (f g f′ g′ : ℕ → ℤ) → ((i : ℕ) → i < n → (f i ≡ f′ i) × (g i ≡ g′ i)) → sides n f g ≡ sides n f′ g′
-unfolding sides
+pub sides-same : (n : ℕ) (f g f′ g′ : ℕ → ℤ) → ((i : ℕ) → i < n → (f i ≡ f′ i) × (g i ≡ g′ i)) → boxOf n f g ≡ boxOf n f′ g′
+unfolding boxOf
 sides-same zero f g f′ g′ h = refl
 sides-same (suc n) f g f′ g′ h =
     let e = h n (omega arith) in
     rw (sides-same n f g f′ g′ (λ i l. h i (omega arith)), e .0, e .1) refl
 
 module _ (n : ℕ) (k : n ≤ N) where
-  pub trim-sides : (f g : ℕ → ℤ) → trim n (sides n f g) ≡ sides n f g
+  pub trim-sides : (f g : ℕ → ℤ) → trim n (boxOf n f g) ≡ boxOf n f g
   unfolding trim
   trim-sides f g = sides-same n _ _ f g (λ i l. (sides-lo f g n i k l, sides-hi f g n i k l))
 
@@ -104,12 +104,12 @@ module _ (f g : ℕ → ℤ) where
       ) refl)
 
   -- over a box of other sides: all of them are replaced
-  over-sides : (f′ g′ : ℕ → ℤ) (n : ℕ) → n ≤ N → filled n f g (sides n f′ g′) ≡ sides n f g
-  unfolding filled sides
+  over-sides : (f′ g′ : ℕ → ℤ) (n : ℕ) → n ≤ N → filled n f g (boxOf n f′ g′) ≡ boxOf n f g
+  unfolding filled boxOf
   over-sides f′ g′ zero k = refl
   over-sides f′ g′ (suc n) k =
-      let s = sides n f g in
-      rw (filled-set n n (sides n f′ g′) (f′ n) (g′ n) (omega arith) (omega arith))
+      let s = boxOf n f g in
+      rw (filled-set n n (boxOf n f′ g′) (f′ n) (g′ n) (omega arith) (omega arith))
       (rw (over-sides f′ g′ n (omega arith))
       (rw (
         set-comm (set s n (f′ n)) (n + N) n (g′ n) (f n) (λ q. omega arith),
@@ -118,6 +118,6 @@ module _ (f g : ℕ → ℤ) where
       ) refl))
 
   -- all variables set: nothing of a trimmed box is left
-  pub filled-sides : (n : ℕ) (B : List ℤ) → n ≤ N → trim n B ≡ B → filled n f g B ≡ sides n f g
+  pub filled-sides : (n : ℕ) (B : List ℤ) → n ≤ N → trim n B ≡ B → filled n f g B ≡ boxOf n f g
   unfolding trim
   filled-sides n B k e = ap (filled n f g) (sym e) ∙ over-sides (lo B) (hi B) n k

@@ -9,7 +9,7 @@ use lib.Signed.{_≤ℤ_, ≤ℤ-refl}
 use Rattle.integers.specs.Order.{minZ, maxZ}
 use Rattle.integers.proofs.Z.{ints, min-is, max-is}
 use Rattle.sheet_spec.specs.Slots.{_!_, N}
-use Rattle.machine_spec.specs.Box.{lo, hi, In, sides, trim, hull, within, meets, moved}
+use Rattle.machine_spec.specs.Box.{lo, hi, In, boxOf, trim, hull, within, meets, moved}
 use Rattle.machine_spec.specs.Machine.{Machine}
 use Rattle.machine_spec.specs.Rate.{outer, faceRate, rates}
 use Rattle.machine_spec.proofs.Box.{le-is, all-of, sides-lo, sides-hi, hull-lo, hull-hi, moved-lo, moved-hi, trim-lo, trim-hi, within-at}
@@ -99,8 +99,8 @@ module _ {n : ℕ} (room : n ≤ N) (A B : List ℤ) where
 pub trim-holds : {n : ℕ} → n ≤ N → (B : List ℤ) → Inside n B (trim n B)
 trim-holds {n} room B = record { at = λ up i h. rw (trim-side n i room h up B) (beyond-refl up (side up B i)) }
 
-sides-same : (n : ℕ) (f g f′ g′ : ℕ → ℤ) → ((i : ℕ) → i < n → f i ≡ f′ i) → ((i : ℕ) → i < n → g i ≡ g′ i) → sides n f g ≡ sides n f′ g′
-unfolding sides
+sides-same : (n : ℕ) (f g f′ g′ : ℕ → ℤ) → ((i : ℕ) → i < n → f i ≡ f′ i) → ((i : ℕ) → i < n → g i ≡ g′ i) → boxOf n f g ≡ boxOf n f′ g′
+unfolding boxOf
 sides-same zero f g f′ g′ h k = refl
 sides-same (suc n) f g f′ g′ h k = rw (sides-same n f g f′ g′ (λ i l. h i (omega arith)) (λ i l. k i (omega arith)), h n (omega arith), k n (omega arith)) refl
 

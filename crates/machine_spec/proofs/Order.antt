@@ -42,7 +42,7 @@ cond-beyond {up} false false {z = z} f g h = beyond-refl up z
 abbrev met : Machine → ℕ → List ℤ → Bool
 met m k B = bandMeets (m .sheet) (m .bands) k (lo B (m .var)) (hi B (m .var))
 
-module _ {m : Machine} (ok : Proper m) (A B : List ℤ) (o : Ordered (m .n) A) (s : Inside (m .n) A B) where
+module _ {m : Machine} (wf : Proper m) (A B : List ℤ) (o : Ordered (m .n) A) (s : Inside (m .n) A B) where
   -- what a band's row is bounded over: not empty where the band meets the box, and wider in a wider box
   part-ordered : (k : ℕ) → T (met m k A) → Ordered (m .n) (part m k A)
   part-ordered k t = o
@@ -51,15 +51,15 @@ module _ {m : Machine} (ok : Proper m) (A B : List ℤ) (o : Ordered (m .n) A) (
   part-inside k t = s
 
   met-wider : (k : ℕ) → T (met m k A) → T (met m k B)
-  met-wider k t = meets-show (meets-wider (s .at false (m .var) (ok .var) .order) (s .at true (m .var) (ok .var) .order) (meets-read t))
+  met-wider k t = meets-show (meets-wider (s .at false (m .var) (wf .var) .order) (s .at true (m .var) (wf .var) .order) (meets-read t))
 
   share-mono : (up : Bool) (i k : ℕ) → i < m .n → k < m .bands → Beyond up (bandRate up m B i k) (bandRate up m A i k)
   unfolding bandRate
   share-mono up i k h g =
       cond-beyond (met m k A) (met m k B) (met-wider k)
-      (λ t. change-mono up (cap m i) (rowOf m k i) _ _ (ok .divisors k i g h)
+      (λ t. change-mono up (cap m i) (rowOf m k i) _ _ (wf .divisors k i g h)
       (bound-mono up (m .n) (rowOf m k i) (part m k A) (part m k B) (least m k) (greatest m k) (part-ordered k t) (part-inside k t)))
-      (beyond-neutral (change-within up (cap m i) (rowOf m k i) _ (ok .caps i h)) up)
+      (beyond-neutral (change-within up (cap m i) (rowOf m k i) _ (wf .caps i h)) up)
 
   pub rate-mono : (up : Bool) (i : ℕ) → i < m .n → Beyond up (rate up m B i) (rate up m A i)
   unfolding rate
@@ -68,6 +68,6 @@ module _ {m : Machine} (ok : Proper m) (A B : List ℤ) (o : Ordered (m .n) A) (
 -- ---- rates over two boxes that share a state
 
 pub rates-ordered : {m : Machine} {x : List ℤ} (A B : List ℤ) (i : ℕ) → Proper m → Permits m → Band (m .sheet) (m .bands) (x ! (m .var)) → In (m .n) A x → In (m .n) B x → i < m .n → rate false m A i ≤ℤ rate true m B i
-rates-ordered {m} {x} A B i ok p b a c h =
-    let t = goes-on x ok p b .tick in
-    omega (ints, rate-bounds ok t i h false A a .order, rate-bounds ok t i h true B c .order)
+rates-ordered {m} {x} A B i wf p b a c h =
+    let t = goes-on x wf p b .tick in
+    omega (ints, rate-bounds wf t i h false A a .order, rate-bounds wf t i h true B c .order)

@@ -12,7 +12,7 @@ use Rattle.integers.proofs.Z.{ints, flat}
 use Rattle.integers.proofs.Division.{floor-le-ceil, ceil-mono}
 use Rattle.sheet_spec.specs.Slots.{_!_, N, Row, bands}
 use Rattle.sheet_spec.specs.Valid.{Valid}
-use Rattle.machine_spec.specs.Box.{sides}
+use Rattle.machine_spec.specs.Box.{boxOf}
 use Rattle.machine_spec.specs.Machine.{Law, baseline, command, Machine, machine, cap, rowOf, least, greatest, leastOf, greatestOf, numerator, change, Tick}
 use Rattle.machine_spec.proofs.Box.{sides-lo, sides-length}
 use Rattle.machine_spec.proofs.Face.{clamp-mono}
@@ -26,10 +26,10 @@ pub record Permits (m : Machine) : Type 0 where
   pub spreads : (k i : ℕ) → k < m .bands → i < m .n → pos 0 ≤ℤ rowOf m k i .d
 
 pub permits : {v : List ℤ} (l : Law) → Valid v → Permits (machine v l)
-permits {v} l ok = record { commands = commands l; spreads = λ k i h g. ok .rows k i h g .d .low }
+permits {v} l wf = record { commands = commands l; spreads = λ k i h g. wf .rows k i h g .d .low }
   where
     commands : (l : Law) (k : ℕ) → k < bands v → leastOf l v k ≤ℤ greatestOf l v k
-    commands baseline k h = unfold leastOf greatestOf in ok .safety k h
+    commands baseline k h = unfold leastOf greatestOf in wf .safety k h
     commands (command u) k h = unfold leastOf greatestOf in ≤ℤ-refl u
 
 pub change-ordered : (c : ℤ) (r : Row) (n : ℤ) → 0 < natAbs (r .q) → pos 0 ≤ℤ r .d → change false c r n ≤ℤ change true c r n
@@ -43,15 +43,15 @@ change-ordered c r n q d =
 
 -- the state whose numbers are f 0, .. f (n − 1)
 stateOf : ℕ → (ℕ → ℤ) → List ℤ
-stateOf n f = take n (sides n f f)
+stateOf n f = take n (boxOf n f f)
 
 state-length : (n : ℕ) (f : ℕ → ℤ) → n ≤ N → length (stateOf n f) ≡ n
 unfolding stateOf
-state-length n f h = omega (arith, length-take n (sides n f f), sides-length n f f)
+state-length n f h = omega (arith, length-take n (boxOf n f f), sides-length n f f)
 
 state-at : (n : ℕ) (f : ℕ → ℤ) (i : ℕ) → n ≤ N → i < n → stateOf n f ! i ≡ f i
 unfolding stateOf
-state-at n f i h k = getD-take n (sides n f f) i (pos 0) k ∙ sides-lo f f n i h k
+state-at n f i h k = getD-take n (boxOf n f f) i (pos 0) k ∙ sides-lo f f n i h k
 
 pub record Next (m : Machine) (x : List ℤ) : Type 0 where
   pub next : List ℤ
@@ -59,19 +59,19 @@ pub record Next (m : Machine) (x : List ℤ) : Type 0 where
 
 -- each variable takes its least allowed change under the law's least command
 pub goes-on : {m : Machine} (x : List ℤ) → Proper m → Permits m → Band (m .sheet) (m .bands) (x ! (m .var)) → Next m x
-goes-on {m} x ok p b = record {
+goes-on {m} x wf p b = record {
   next = stateOf (m .n) (λ i. x ! i +ℤ f i);
   tick = record {
-    size = state-length (m .n) _ (ok .room);
+    size = state-length (m .n) _ (wf .room);
     band = b .band;
     among = b .among;
     holds = b .holds;
     used = least m (b .band);
     least-used = ≤ℤ-refl (least m (b .band));
     most-used = p .commands (b .band) (b .among);
-    change = λ i h. rw (state-at (m .n) (λ i. x ! i +ℤ f i) i (ok .room) h) (record {
+    change = λ i h. rw (state-at (m .n) (λ i. x ! i +ℤ f i) i (wf .room) h) (record {
       above = simp flat (omega ints);
-      below = simp flat (omega (ints, change-ordered (cap m i) (rowOf m (b .band) i) (numerator (m .n) (rowOf m (b .band) i) x (least m (b .band))) (ok .divisors (b .band) i (b .among) h) (p .spreads (b .band) i (b .among) h)));
+      below = simp flat (omega (ints, change-ordered (cap m i) (rowOf m (b .band) i) (numerator (m .n) (rowOf m (b .band) i) x (least m (b .band))) (wf .divisors (b .band) i (b .among) h) (p .spreads (b .band) i (b .among) h)));
     });
   };
 }

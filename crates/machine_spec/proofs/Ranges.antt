@@ -56,33 +56,33 @@ abbrev pub Lawful : List ℤ → Law → Type 0
 Lawful v baseline = Unit
 Lawful v (command u) = Between (leastCommand v) (greatestCommand v) u
 
-module _ {v : List ℤ} (ok : Valid v) where
+module _ {v : List ℤ} (wf : Valid v) where
   head-near : {u : ℤ} → Between (leastCommand v) (greatestCommand v) u → Bound u 10000
-  head-near h = bound-in (omega (ints, ok .commands-low, h .low)) (omega (ints, ok .commands-high, h .high))
+  head-near h = bound-in (omega (ints, wf .commands-low, h .low)) (omega (ints, wf .commands-high, h .high))
 
   least-near : (l : Law) (k : ℕ) → Lawful v l → k < bands v → Bound (leastOf l v k) 10000
   unfolding leastOf
-  least-near baseline k t h = head-near (record { low = ok .safety-low k h; high = omega (ints, ok .safety k h, ok .safety-high k h) })
+  least-near baseline k t h = head-near (record { low = wf .safety-low k h; high = omega (ints, wf .safety k h, wf .safety-high k h) })
   least-near (command u) k t h = head-near t
 
   greatest-near : (l : Law) (k : ℕ) → Lawful v l → k < bands v → Bound (greatestOf l v k) 10000
   unfolding greatestOf
-  greatest-near baseline k t h = head-near (record { low = omega (ints, ok .safety-low k h, ok .safety k h); high = ok .safety-high k h })
+  greatest-near baseline k t h = head-near (record { low = omega (ints, wf .safety-low k h, wf .safety k h); high = wf .safety-high k h })
   greatest-near (command u) k t h = head-near t
 
   pub ranged : (l : Law) → Lawful v l → Ranged (machine v l)
-  ranged l t = record { caps = λ i h. ok .caps i h .high; rows = ok .rows; least = λ k h. least-near l k t h; greatest = λ k h. greatest-near l k t h }
+  ranged l t = record { caps = λ i h. wf .caps i h .high; rows = wf .rows; least = λ k h. least-near l k t h; greatest = λ k h. greatest-near l k t h }
 
 pub rate-near : {m : Machine} → Proper m → Ranged m → (up : Bool) (B : List ℤ) (i : ℕ) → i < m .n → Bound (rate up m B i) 1000
-rate-near {m} ok r up B i h = let w = rate-within up m B i (ok .caps i h) in bound-in (omega (ints, w .low, neg (cap m i), r .caps i h)) (omega (ints, w .high, r .caps i h))
+rate-near {m} wf r up B i h = let w = rate-within up m B i (wf .caps i h) in bound-in (omega (ints, w .low, neg (cap m i), r .caps i h)) (omega (ints, w .high, r .caps i h))
 
 pub rates-near : {m : Machine} → Proper m → Ranged m → (S : List ℤ) (k : ℕ) (E : List ℤ) → Near (m .n) 1000 (rates m S k E)
 unfolding faceRate
-rates-near {m} ok r S k E = record { at = λ up i h. rw (rates-side m i (ok .room) h up S k E) (rate-near ok r up _ i h) }
+rates-near {m} wf r S k E = record { at = λ up i h. rw (rates-side m i (wf .room) h up S k E) (rate-near wf r up _ i h) }
 
 -- where the neighborhood of a face of S is cut
 pub limit-near : {m : Machine} {S : List ℤ} {b : ℕ} → Proper m → Ranged m → Near (m .n) b S → (up : Bool) (k i : ℕ) → i < m .n → Bound (inward up (side up S i) (pos k *ℤ cap m i)) (b + k * 1000)
-limit-near {m} ok r s up k i h = at up (s .at up i h) (bound-mul {x = pos k} {B = k} (record { at-most = omega arith }) (bound-in (omega (ints, ok .caps i h)) (r .caps i h)))
+limit-near {m} wf r s up k i h = at up (s .at up i h) (bound-mul {x = pos k} {B = k} (record { at-most = omega arith }) (bound-in (omega (ints, wf .caps i h)) (r .caps i h)))
   where
     at : (up : Bool) {x y : ℤ} {b c : ℕ} → Bound x b → Bound y c → Bound (inward up x y) (b + c)
     at false h k = bound-sum h k
@@ -100,7 +100,7 @@ in-range h = bound-in (h .low) (h .high)
 
 pub row-near : {n b : ℕ} {r : Row} {B : List ℤ} (u w : ℤ) → ValidRow n r → Near n b B → Bound u 10000 → Bound w 10000 → (up : Bool) → Bound (bound up n r B u w) (n * (1000 * b) + 1000 * 10000 + 100000000)
 unfolding bound weighted
-row-near {n} {b} {r} {B} u w ok k h g up =
+row-near {n} {b} {r} {B} u w wf k h g up =
     bound-sum (bound-sum
-    (sum-bound n _ (λ j l. let a = in-range (ok .a j l) in outer-one (λ z. Bound z (1000 * b)) up (bound-mul a (k .at false j l)) (bound-mul a (k .at true j l))))
-    (let c = in-range (ok .b) in outer-one (λ z. Bound z (1000 * 10000)) up (bound-mul c h) (bound-mul c g))) (in-range (ok .c))
+    (sum-bound n _ (λ j l. let a = in-range (wf .a j l) in outer-one (λ z. Bound z (1000 * b)) up (bound-mul a (k .at false j l)) (bound-mul a (k .at true j l))))
+    (let c = in-range (wf .b) in outer-one (λ z. Bound z (1000 * 10000)) up (bound-mul c h) (bound-mul c g))) (in-range (wf .c))

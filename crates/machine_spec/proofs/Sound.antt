@@ -30,11 +30,11 @@ positive (pos n) h = omega ints
 positive (negsuc n) h = absurd (h .le)
 
 pub proper : {v : List ℤ} (l : Law) → Valid v → Proper (machine v l)
-proper l ok = record {
-  room = omega (arith, ok .vars-high);
-  var = ok .var;
-  caps = λ i h. omega (ints, ok .caps i h .low);
-  divisors = λ k i h g. positive _ (ok .rows k i h g .q .low);
+proper l wf = record {
+  room = omega (arith, wf .vars-high);
+  var = wf .var;
+  caps = λ i h. omega (ints, wf .caps i h .low);
+  divisors = λ k i h g. positive _ (wf .rows k i h g .q .low);
 }
 
 -- ---- a row over a box that holds the state, and over commands that hold the one used
@@ -45,7 +45,7 @@ bound-holds up n r B x u v w b h k =
     beyond-sum (beyond-sum (sum-beyond n _ _ (λ j l. span up (r .a j) _ _ (x ! j) (b .low j l) (b .high j l))) (span up (r .b) u w v h k)) (beyond-refl up (r .c))
 
 -- what band k's share in the rates over B is worked out over holds the state x and the command u
-pub record Covered (m : Machine) (B : List ℤ) (k : ℕ) (x : List ℤ) (u : ℤ) : Type 0 where
+pub record InPart (m : Machine) (B : List ℤ) (k : ℕ) (x : List ℤ) (u : ℤ) : Type 0 where
   pub meets : T (bandMeets (m .sheet) (m .bands) k (lo B (m .var)) (hi B (m .var)))
   pub state : In (m .n) (part m k B) x
   pub least-used : least m k ≤ℤ u
@@ -55,9 +55,9 @@ pub record Covered (m : Machine) (B : List ℤ) (k : ℕ) (x : List ℤ) (u : �
 pub part-holds : (m : Machine) (k : ℕ) (B x : List ℤ) → In (m .n) B x → T (bandMeets (m .sheet) (m .bands) k (x ! (m .var)) (x ! (m .var))) → In (m .n) (part m k B) x
 part-holds m k B x b t = b
 
-pub tick-covered : {m : Machine} {x y : List ℤ} (B : List ℤ) → Proper m → In (m .n) B x → (t : Tick m x y) → Covered m B (t .band) x (t .used)
-tick-covered {m} {x} B ok b t = record {
-  meets = meets-show (meets-wider (b .low (m .var) (ok .var)) (b .high (m .var) (ok .var)) (meets-read (t .holds)));
+pub tick-in-part : {m : Machine} {x y : List ℤ} (B : List ℤ) → Proper m → In (m .n) B x → (t : Tick m x y) → InPart m B (t .band) x (t .used)
+tick-in-part {m} {x} B wf b t = record {
+  meets = meets-show (meets-wider (b .low (m .var) (wf .var)) (b .high (m .var) (wf .var)) (meets-read (t .holds)));
   state = part-holds m (t .band) B x b (t .holds);
   least-used = t .least-used;
   most-used = t .most-used;
@@ -70,7 +70,7 @@ cond-yes true x y h = refl
 cond-yes false x y h = absurd h
 
 -- a band's share in a rate bounds the outermost change from every state, with every command, that it covers
-pub share-bounds : {m : Machine} {B : List ℤ} {k : ℕ} {x : List ℤ} {u : ℤ} (up : Bool) (i : ℕ) → Covered m B k x u → 0 < natAbs (rowOf m k i .q)
+pub share-bounds : {m : Machine} {B : List ℤ} {k : ℕ} {x : List ℤ} {u : ℤ} (up : Bool) (i : ℕ) → InPart m B k x u → 0 < natAbs (rowOf m k i .q)
     → Beyond up (bandRate up m B i k) (change up (cap m i) (rowOf m k i) (numerator (m .n) (rowOf m k i) x u))
 unfolding bandRate
 share-bounds {m} {B} {k} {x} {u} up i c q =
@@ -107,7 +107,7 @@ outer-neutral {c} {z} h true = omega (ints, max-is z (negℤ c), h .low)
 pub outer-within : {c z : ℤ} → Between (negℤ c) c z → (up : Bool) (r : Row) (n : ℤ) → Between (negℤ c) c (outer up z (change up c r n))
 outer-within {c} h up r n = outer-one (Between (negℤ c) c) up h (change-within up c r n (omega (ints, h .low, h .high, neg c)))
 
-module _ {m : Machine} {x y : List ℤ} (ok : Proper m) (t : Tick m x y) (i : ℕ) (h : i < m .n) where
+module _ {m : Machine} {x y : List ℤ} (wf : Proper m) (t : Tick m x y) (i : ℕ) (h : i < m .n) where
   allowed : (up : Bool) → Beyond up (change up (cap m i) (rowOf m (t .band) i) (numerator (m .n) (rowOf m (t .band) i) x (t .used))) (y ! i -ℤ x ! i)
   allowed false = record { order = t .change i h .above }
   allowed true = record { order = t .change i h .below }
@@ -117,11 +117,11 @@ module _ {m : Machine} {x y : List ℤ} (ok : Proper m) (t : Tick m x y) (i : �
   unfolding rate
   rate-bounds up B b =
       beyond-trans (outermost-at up _ (m .bands) _ (t .band) (t .among))
-      (beyond-trans (share-bounds up i (tick-covered B ok b t) (ok .divisors (t .band) i (t .among) h)) (allowed up))
+      (beyond-trans (share-bounds up i (tick-in-part B wf b t) (wf .divisors (t .band) i (t .among) h)) (allowed up))
 
   -- and by no more than its cap
   pub cap-bounds : (up : Bool) → Beyond up (neutral (not up) (cap m i)) (y ! i -ℤ x ! i)
-  cap-bounds up = beyond-trans (neutral-beyond (change-within up (cap m i) _ _ (ok .caps i h)) up) (allowed up)
+  cap-bounds up = beyond-trans (neutral-beyond (change-within up (cap m i) _ _ (wf .caps i h)) up) (allowed up)
 
 -- the rates too lie within the cap
 neutral-within : (up : Bool) (c : ℤ) → pos 0 ≤ℤ c → Between (negℤ c) c (neutral up c)

@@ -30,9 +30,9 @@ any zero f = false
 any (suc n) f = any n f || f n
 
 -- the box with the lower sides f and the upper sides g
-unfoldable pub sides : ℕ → (ℕ → ℤ) → (ℕ → ℤ) → List ℤ
-sides zero f g = replicate boxSize (pos 0)
-sides (suc n) f g = set (set (sides n f g) n (f n)) (n + N) (g n)
+unfoldable pub boxOf : ℕ → (ℕ → ℤ) → (ℕ → ℤ) → List ℤ
+boxOf zero f g = replicate boxSize (pos 0)
+boxOf (suc n) f g = set (set (boxOf n f g) n (f n)) (n + N) (g n)
 
 -- ---- boxes
 
@@ -43,10 +43,10 @@ pub record In (n : ℕ) (B x : List ℤ) : Type 0 where
 
 -- B, with what no variable has set to 0
 unfoldable pub trim : ℕ → List ℤ → List ℤ
-trim n B = sides n (lo B) (hi B)
+trim n B = boxOf n (lo B) (hi B)
 
 unfoldable pub hull : ℕ → List ℤ → List ℤ → List ℤ
-hull n A B = sides n (λ i. minZ (lo A i) (lo B i)) (λ i. maxZ (hi A i) (hi B i))
+hull n A B = boxOf n (λ i. minZ (lo A i) (lo B i)) (λ i. maxZ (hi A i) (hi B i))
 
 -- A lies in B
 unfoldable pub within : ℕ → List ℤ → List ℤ → Bool
@@ -58,4 +58,4 @@ meets n A B = all n (λ i. leZ (lo A i) (hi B i) && leZ (lo B i) (hi A i))
 
 -- each face of A moved by k of its rates
 unfoldable pub moved : ℕ → List ℤ → ℕ → List ℤ → List ℤ
-moved n A k r = sides n (λ i. lo A i +ℤ pos k *ℤ lo r i) (λ i. hi A i +ℤ pos k *ℤ hi r i)
+moved n A k r = boxOf n (λ i. lo A i +ℤ pos k *ℤ lo r i) (λ i. hi A i +ℤ pos k *ℤ hi r i)

@@ -7,7 +7,7 @@ use lib.IntN.{ℤ, pos, negℤ, _+ℤ_, _-ℤ_, _*ℤ_}
 use lib.ListN.{set}
 use Rattle.integers.specs.Order.{minZ, maxZ}
 use Rattle.sheet_spec.specs.Slots.{N, Row}
-use Rattle.machine_spec.specs.Box.{lo, hi, sum, sides}
+use Rattle.machine_spec.specs.Box.{lo, hi, sum, boxOf}
 use Rattle.machine_spec.specs.Machine.{Machine, cap, rowOf, least, greatest, bandMeets, change}
 
 -- ---- rates over a box
@@ -62,4 +62,4 @@ faceRate up m S k E i = rate up m (neighborhood up S (pos (k + 1) *ℤ cap m i) 
 
 -- the rates of all faces, as a box
 unfoldable pub rates : Machine → List ℤ → ℕ → List ℤ → List ℤ
-rates m S k E = sides (m .n) (faceRate false m S k E) (faceRate true m S k E)
+rates m S k E = boxOf (m .n) (faceRate false m S k E) (faceRate true m S k E)

@@ -9,19 +9,19 @@ use lib.Seq.{getD-append-add}
 use Rattle.sheet_spec.specs.Slots.{δ}
 use Rattle.sheet_spec.specs.Sheet.{values}
 use Rattle.machine_spec.specs.Machine.{baseline}
-use Rattle.safety.specs.Run.{Period, lawOf, acting, lawAt}
+use Rattle.safety.specs.Run.{Period, periodLaw, acting, lawAt}
 
 pub acting-length : (f : List ℕ) (qs : List Period) → length (acting f qs) ≡ length qs * δ (values f)
 unfolding acting
 acting-length f [] = omega arith
 acting-length f (q ∷ qs) =
-    let ls = replicate (δ (values f)) (lawOf f q) in
-    omega (arith, length-append ls (acting f qs), length-replicate (δ (values f)) (lawOf f q), acting-length f qs)
+    let ls = replicate (δ (values f)) (periodLaw f q) in
+    omega (arith, length-append ls (acting f qs), length-replicate (δ (values f)) (periodLaw f q), acting-length f qs)
 
 acting-append : (f : List ℕ) (qs rs : List Period) → acting f (qs ++ rs) ≡ acting f qs ++ acting f rs
 unfolding acting
 acting-append f [] rs = refl
-acting-append f (q ∷ qs) rs = rw (acting-append f qs rs) (sym (append-assoc (replicate (δ (values f)) (lawOf f q)) (acting f qs) (acting f rs)))
+acting-append f (q ∷ qs) rs = rw (acting-append f qs rs) (sym (append-assoc (replicate (δ (values f)) (periodLaw f q)) (acting f qs) (acting f rs)))
 
 module _ (f : List ℕ) (qs rs : List Period) where
   pub law-before : (t : ℕ) → t < length qs * δ (values f) → lawAt f (qs ++ rs) t ≡ lawAt f qs t
@@ -30,14 +30,14 @@ module _ (f : List ℕ) (qs rs : List Period) where
   pub law-behind : (i : ℕ) → lawAt f (qs ++ rs) (length qs * δ (values f) + i) ≡ lawAt f rs i
   law-behind i = rw (acting-append f qs rs, ← acting-length f qs) (getD-append-add (acting f qs) (acting f rs) i baseline)
 
-law-of-one : (f : List ℕ) (q : Period) (i : ℕ) → i < δ (values f) → lawAt f (q ∷ []) i ≡ lawOf f q
+law-of-one : (f : List ℕ) (q : Period) (i : ℕ) → i < δ (values f) → lawAt f (q ∷ []) i ≡ periodLaw f q
 unfolding acting
 law-of-one f q i h =
     let n = δ (values f) in
-    List·getD-append (replicate n (lawOf f q)) [] baseline i (rw (length-replicate n (lawOf f q)) h) ∙ getD-replicate n i (lawOf f q) baseline h
+    List·getD-append (replicate n (periodLaw f q)) [] baseline i (rw (length-replicate n (periodLaw f q)) h) ∙ getD-replicate n i (periodLaw f q) baseline h
 
 -- tick i of period p
-pub law-at : (f : List ℕ) (qs : List Period) (p i : ℕ) → p < length qs → i < δ (values f) → lawAt f qs (p * δ (values f) + i) ≡ lawOf f (getD qs p none)
+pub law-at : (f : List ℕ) (qs : List Period) (p i : ℕ) → p < length qs → i < δ (values f) → lawAt f qs (p * δ (values f) + i) ≡ periodLaw f (getD qs p none)
 law-at f [] p i h k = absurd (omega arith)
 law-at f (q ∷ qs) zero i h k = let e : 0 * δ (values f) + i ≡ i = omega arith in rw e (law-before f (q ∷ []) qs i (omega arith) ∙ law-of-one f q i k)
 law-at f (q ∷ qs) (suc p) i h k =

@@ -17,7 +17,8 @@ use Rattle.machine_spec.specs.Box.{In}
 use Rattle.machine_spec.specs.Machine.{Law, baseline, command, machine, Tick}
 use Rattle.machine_spec.specs.Rate.{neutral}
 use Rattle.machine_spec.proofs.Sound.{proper, cap-bounds}
-use Rattle.boxes_spec.specs.Reach.{orNext, lawRefusal}
+use Rattle.sheet_spec.specs.Refusals.{orElse}
+use Rattle.boxes_spec.specs.Reach.{lawRefusal}
 use Rattle.boxes_spec.proofs.Sound.{Ticks}
 use Rattle.boxes_spec.proofs.Ranges.{Sized, start-sized, recovery-sized}
 use Rattle.decision_spec.specs.Question.{questionRefusal, formRefusal, allowanceRefusal, allowanceOf, commandOf, measured}
@@ -34,19 +35,19 @@ pub record Held (v : List ℤ) (ls : List Law) (x : List ℤ) : Type 0 where
 -- a tick changes a variable by at most 1,000
 change-size : {v : List ℤ} {l : Law} {x y : List ℤ} → Valid v → Tick (machine v l) x y → (i : ℕ) → i < vars v → size (y ! i) ≤ size (x ! i) + 1000
 unfolding neutral
-change-size {v} {l} {x} {y} ok t i h =
-    step (x ! i) (y ! i) _ (ok .caps i h .high) (cap-bounds (proper l ok) t i h false .order) (cap-bounds (proper l ok) t i h true .order)
+change-size {v} {l} {x} {y} wf t i h =
+    step (x ! i) (y ! i) _ (wf .caps i h .high) (cap-bounds (proper l wf) t i h false .order) (cap-bounds (proper l wf) t i h true .order)
   where
     step : (a b c : ℤ) → c ≤ℤ pos 1000 → negℤ c ≤ℤ (b -ℤ a) → (b -ℤ a) ≤ℤ c → size b ≤ size a + 1000
     step a (pos b) c k f g = omega (ints, sub (pos b) a)
     step a (negsuc b) c k f g = omega (ints, sub (negsuc b) a, neg c)
 
-module _ {v : List ℤ} (ok : Valid v) where
+module _ {v : List ℤ} (wf : Valid v) where
   pub held-tick : {l : Law} {ls : List Law} {x y : List ℤ} → Held v (l ∷ ls) x → Tick (machine v l) x y → Held v ls y
   unfolding Covered
   held-tick {y} s t = record {
     covered = s .covered .1 y t;
-    near = λ i h. omega (arith, s .near i h, change-size ok t i h);
+    near = λ i h. omega (arith, s .near i h, change-size wf t i h);
   }
 
   -- so do k ticks under one law
@@ -71,7 +72,7 @@ hold {x} few s b c = record {
     between (pos n) a b h k = omega ints
     between (negsuc n) a b h k = omega ints
 
-or-none : (a b : ℕ) → orNext a b ≡ 0 → (a ≡ 0) × (b ≡ 0)
+or-none : (a b : ℕ) → orElse a b ≡ 0 → (a ≡ 0) × (b ≡ 0)
 or-none zero b e = (refl, e)
 or-none (suc a) b e = absurd (omega arith)
 
@@ -84,9 +85,9 @@ measured-sized v g e =
 pub keep-held : {v x : List ℤ} (g : List ℕ) → Valid v → questionRefusal v g ≡ 0
     → T (isKeep (decisionOf v (measured (vars v) g) (commandOf g) (allowanceOf g))) → In (vars v) (measured (vars v) g) x
     → Held v (replicate (δ v) (command (commandOf g)) ++ replicate (α v) baseline) x
-keep-held {v} g ok e t b =
-    let few : length (replicate (δ v) (command (commandOf g)) ++ replicate (α v) baseline) ≤ 1000 = simp (length-append, length-replicate) (ok .sum-high) in
-    hold few (measured-sized v g e) b (decision-sound ok (commandOf g) (allowanceOf g) t b)
+keep-held {v} g wf e t b =
+    let few : length (replicate (δ v) (command (commandOf g)) ++ replicate (α v) baseline) ≤ 1000 = simp (length-append, length-replicate) (wf .sum-high) in
+    hold few (measured-sized v g e) b (decision-sound wf (commandOf g) (allowanceOf g) t b)
 
 -- ---- the way back to the recovery box
 
@@ -97,12 +98,12 @@ pub record Returning (v x : List ℤ) : Type 0 where
   pub held : Held v (replicate (suc left) baseline) x
 
 -- a sheet whose recovery check passed
-module _ {v : List ℤ} (ok : Valid v) (passed : T (isKeep (recoveryOf v))) where
+module _ {v : List ℤ} (wf : Valid v) (passed : T (isKeep (recoveryOf v))) where
   -- a state of the recovery box comes back to it in ρ ticks
   pub recovered : {x : List ℤ} → In (vars v) (recoveryBox v) x → Returning v x
   recovered {x} b =
-      let few : length (replicate (ρ v) baseline) ≤ 1000 = rw (length-replicate (ρ v) baseline) (ok .ρ-high) in
-      from (ρ v) (ok .ρ-low) (omega arith) (hold few (recovery-sized ok) b (recovery-sound ok passed b))
+      let few : length (replicate (ρ v) baseline) ≤ 1000 = rw (length-replicate (ρ v) baseline) (wf .ρ-high) in
+      from (ρ v) (wf .ρ-low) (omega arith) (hold few (recovery-sized wf) b (recovery-sound wf passed b))
     where
       from : (k : ℕ) → 1 ≤ k → k ≤ max (α v) (ρ v) → Held v (replicate k baseline) x → Returning v x
       from zero h few s = absurd (omega arith)
@@ -115,4 +116,4 @@ module _ {v : List ℤ} (ok : Valid v) (passed : T (isKeep (recoveryOf v))) wher
   returning (suc k) few s = record { left = k; soon = few; held = s }
 
   pub returning-tick : {x y : List ℤ} → Returning v x → Tick (machine v baseline) x y → Returning v y
-  returning-tick r t = returning (r .left) (omega (arith, r .soon)) (held-tick ok (r .held) t)
+  returning-tick r t = returning (r .left) (omega (arith, r .soon)) (held-tick wf (r .held) t)

@@ -22,10 +22,10 @@ use Rattle.machine_spec.proofs.Sound.{proper}
 use Rattle.machine_spec.proofs.Progress.{permits, goes-on}
 use Rattle.boxes_spec.proofs.Sound.{Ticks}
 use Rattle.decision_spec.specs.Decision.{checkRecovery, isKeep}
-use Rattle.safety.specs.Run.{Period, lawOf, lawAt, Measured, Run}
+use Rattle.safety.specs.Run.{Period, periodLaw, lawAt, Measured, Run}
 use Rattle.decision_spec.proofs.Cover.{behind, behind-ticks}
 use Rattle.safety.proofs.Acting.{law-at, law-before, law-behind}
-use Rattle.safety.proofs.Run.{Backed, Guarded, backed-guarded, ok, begins, backed-tick, at-period, guarded}
+use Rattle.safety.proofs.Run.{Backed, Guarded, backed-guarded, wf, begins, backed-tick, at-period, guarded}
 
 -- ---- the states of a run
 
@@ -33,7 +33,7 @@ guarded-bound : {v x : List ℤ} → Guarded v x → (i : ℕ) → i < vars v �
 guarded-bound g i h = record { at-most = omega (arith, g .held .near i h) }
 
 guarded-band : {v x : List ℤ} → Valid v → Guarded v x → Band v (bands v) (x ! bandVar v)
-guarded-band {v} ok g = has-band (ok .bands-low) (omega (ints, ok .first-edge, guarded-bound g (bandVar v) (ok .var) .at-most))
+guarded-band {v} wf g = has-band (wf .bands-low) (omega (ints, wf .first-edge, guarded-bound g (bandVar v) (wf .var) .at-most))
 
 module _ (f : List ℕ) (passed : T (isKeep (checkRecovery f))) (qs : List Period) (x : ℕ → List ℤ)
     (start : In (vars (values f)) (recoveryBox (values f)) (x 0)) (run : Run f qs x) (t : ℕ) (h : t ≤ length qs * δ (values f)) where
@@ -41,7 +41,7 @@ module _ (f : List ℕ) (passed : T (isKeep (checkRecovery f))) (qs : List Perio
   within-limits = guarded-bound (guarded f passed qs x start run t h)
 
   pub has-bands : Band (values f) (bands (values f)) (x t ! bandVar (values f))
-  has-bands = guarded-band (ok f passed) (guarded f passed qs x start run t h)
+  has-bands = guarded-band (wf f passed) (guarded f passed qs x start run t h)
 
 sizes : {f : List ℕ} {qs : List Period} {x : ℕ → List ℤ} → Run f qs x → (t : ℕ) → t ≤ length qs * δ (values f) → length (x t) ≡ vars (values f)
 sizes run zero h = run .starts
@@ -101,7 +101,7 @@ record Trajectory (m : Machine) (s : List ℤ) (k : ℕ) : Type 0 where
   first : states 0 ≡ s
   ticks : Ticks m states k
 
-one-period : {f : List ℕ} (q : Period) {s : List ℤ} (r : Trajectory (machine (values f) (lawOf f q)) s (δ (values f)))
+one-period : {f : List ℕ} (q : Period) {s : List ℤ} (r : Trajectory (machine (values f) (periodLaw f q)) s (δ (values f)))
     → length s ≡ vars (values f) → Measured f q s → Run f (q ∷ []) (r .states)
 one-period {f} q r e m = record {
   starts = rw (r .first) e;
@@ -125,7 +125,7 @@ module _ (f : List ℕ) (passed : T (isKeep (checkRecovery f))) where
   unfolding behind
   onward zero l s b = record { states = λ t. s; first = refl; ticks = λ i h. absurd (omega arith) }
   onward (suc left) l s b =
-      let n = goes-on s (proper l (ok f passed)) (permits l (ok f passed)) (guarded-band (ok f passed) (backed-guarded l left b)) in
+      let n = goes-on s (proper l (wf f passed)) (permits l (wf f passed)) (guarded-band (wf f passed) (backed-guarded l left b)) in
       let r = onward left l (n .next) (backed-tick f passed l left b (n .tick)) in
       record { states = behind s (r .states); first = refl; ticks = behind-ticks (r .states) left (r .first) (n .tick) (r .ticks) }
 
@@ -134,7 +134,7 @@ module _ (f : List ℕ) (passed : T (isKeep (checkRecovery f))) where
       → (q : Period) → Measured f q (x (length qs * δ (values f))) → Continued f qs x q
   runs-go-on qs x start run q m =
       let k = length qs * δ (values f) in
-      let r = onward (δ (values f)) (lawOf f q) (x k) (begins f passed q (at-period f passed qs x start run (length qs) (omega arith)) m) in
+      let r = onward (δ (values f)) (periodLaw f q) (x k) (begins f passed q (at-period f passed qs x start run (length qs) (omega arith)) m) in
       record {
         states = join k x (r .states);
         same = join-to k x (r .states) (sym (r .first));

@@ -18,7 +18,7 @@ use Rattle.sheet_spec.proofs.Valid.{valid}
 use Rattle.machine_spec.specs.Box.{In}
 use Rattle.machine_spec.specs.Machine.{Law, baseline, command, machine, Tick}
 use Rattle.decision_spec.specs.Decision.{checkRecovery, decide, isKeep}
-use Rattle.safety.specs.Run.{Period, kept, lawOf, lawAt, Measured, Run, SafeRuns}
+use Rattle.safety.specs.Run.{Period, kept, periodLaw, lawAt, Measured, Run, SafeRuns}
 use Rattle.decision_spec.proofs.Cover.{Covered}
 use Rattle.safety.proofs.Acting.{law-at}
 use Rattle.decision_spec.proofs.Attempt.{check-keep, decide-keep}
@@ -49,31 +49,31 @@ choose P false x y f g = g tt
 
 -- a sheet that passed
 module _ (f : List ℕ) (passed : T (isKeep (checkRecovery f))) where
-  pub ok : Valid (values f)
-  ok = valid f (check-keep f passed .0)
+  pub wf : Valid (values f)
+  wf = valid f (check-keep f passed .0)
 
   -- ---- a period
 
-  pub begins : {x : List ℤ} (q : Period) → Returning (values f) x → Measured f q x → Backed (values f) (lawOf f q) (δ (values f)) x
-  unfolding Measured lawOf kept Backed
+  pub begins : {x : List ℤ} (q : Period) → Returning (values f) x → Measured f q x → Backed (values f) (periodLaw f q) (δ (values f)) x
+  unfolding Measured periodLaw kept Backed
   begins none r b = r
   begins {x} (some g) r b =
       choose (λ l. Backed (values f) l (δ (values f)) x) (isKeep (decide f g)) _ _
-      (λ t. let d = decide-keep f g t in keep-held g ok (d .0) (d .1) (b t)) (λ n. r)
+      (λ t. let d = decide-keep f g t in keep-held g wf (d .0) (d .1) (b t)) (λ n. r)
 
   pub backed-tick : {x y : List ℤ} (l : Law) (left : ℕ) → Backed (values f) l (suc left) x → Tick (machine (values f) l) x y → Backed (values f) l left y
   unfolding Backed
-  backed-tick baseline left r t = returning-tick ok (check-keep f passed .1) r t
-  backed-tick (command u) left s t = held-tick ok s t
+  backed-tick baseline left r t = returning-tick wf (check-keep f passed .1) r t
+  backed-tick (command u) left s t = held-tick wf s t
 
   ends : {x : List ℤ} (l : Law) → Backed (values f) l 0 x → Returning (values f) x
   unfolding Backed
   ends baseline r = r
-  ends (command u) s = returning ok (check-keep f passed .1) (α (values f)) (omega arith) s
+  ends (command u) s = returning wf (check-keep f passed .1) (α (values f)) (omega arith) s
 
   -- behind a kept period α ticks of the plain law are left
-  kept-ends : {x : List ℤ} (q : Period) → T (kept f q) → Backed (values f) (lawOf f q) 0 x → Held (values f) (replicate (α (values f)) baseline) x
-  unfolding kept lawOf Backed
+  kept-ends : {x : List ℤ} (q : Period) → T (kept f q) → Backed (values f) (periodLaw f q) 0 x → Held (values f) (replicate (α (values f)) baseline) x
+  unfolding kept periodLaw Backed
   kept-ends none t s = absurd t
   kept-ends {x} (some g) t s =
       choose (λ l. Backed (values f) l 0 x → Held (values f) (replicate (α (values f)) baseline) x) (isKeep (decide f g)) _ _
@@ -84,28 +84,28 @@ module _ (f : List ℕ) (passed : T (isKeep (checkRecovery f))) where
   module _ (qs : List Period) (x : ℕ → List ℤ) (start : In (vars (values f)) (recoveryBox (values f)) (x 0)) (run : Run f qs x) where
     -- what is known behind tick i of period p
     through : (p : ℕ) → p < length qs → Returning (values f) (x (p * δ (values f)))
-        → (i : ℕ) → i ≤ δ (values f) → Backed (values f) (lawOf f (getD qs p none)) (δ (values f) - i) (x (p * δ (values f) + i))
+        → (i : ℕ) → i ≤ δ (values f) → Backed (values f) (periodLaw f (getD qs p none)) (δ (values f) - i) (x (p * δ (values f) + i))
     through p h r zero k = rw (add-zero, sub-zero) (begins (getD qs p none) r (run .measured p h))
     through p h r (suc i) k =
         let n = δ (values f) in
         let e : n - i ≡ suc (n - suc i) = omega arith in
         rw add-suc
-        (backed-tick (lawOf f (getD qs p none)) (n - suc i) (rw e at (through p h r i (omega arith)))
+        (backed-tick (periodLaw f (getD qs p none)) (n - suc i) (rw e at (through p h r i (omega arith)))
         (rw (law-at f qs p i h k) at (run .ticks (p * n + i) (omega (arith, mul-le-mul-right n h)))))
 
-    period-end : (p : ℕ) → p < length qs → Returning (values f) (x (p * δ (values f))) → Backed (values f) (lawOf f (getD qs p none)) 0 (x (suc p * δ (values f)))
+    period-end : (p : ℕ) → p < length qs → Returning (values f) (x (p * δ (values f))) → Backed (values f) (periodLaw f (getD qs p none)) 0 (x (suc p * δ (values f)))
     period-end p h r = let n = δ (values f) in rw suc-mul (rw (sub-self n) at (through p h r n (omega arith)))
 
     -- a period starts and ends on the way back to the recovery box
     pub at-period : (p : ℕ) → p ≤ length qs → Returning (values f) (x (p * δ (values f)))
-    at-period zero h = rw zero-mul (recovered ok (check-keep f passed .1) start)
-    at-period (suc p) h = ends (lawOf f (getD qs p none)) (period-end p h (at-period p (omega arith)))
+    at-period zero h = rw zero-mul (recovered wf (check-keep f passed .1) start)
+    at-period (suc p) h = ends (periodLaw f (getD qs p none)) (period-end p h (at-period p (omega arith)))
 
     -- what is known at tick t goes by the law that acts there
     pub at-tick : (t : ℕ) → t < length qs * δ (values f) → Backed (values f) (lawAt f qs t) (suc (δ (values f) - suc (t % δ (values f)))) (x t)
     at-tick t h =
         let n = δ (values f) in
-        let some-ticks = ok .δ-low in
+        let some-ticks = wf .δ-low in
         let i = mod-lt t {m = n} some-ticks in
         let p = div-lt-iff-lt-mul {k = n} {x = t} {y = length qs} some-ticks .1 h in
         let e : n - t % n ≡ suc (n - suc (t % n)) = omega arith in
@@ -127,7 +127,7 @@ module _ (f : List ℕ) (passed : T (isKeep (checkRecovery f))) where
         → In (vars (values f)) (recoveryBox (values f)) (x (suc p * δ (values f) + α (values f)))
     returns p h t k plain =
         let n = suc p * δ (values f) in
-        held-returns ok (α (values f)) (λ i. x (n + i)) (rw add-zero (kept-ends (getD qs p none) t (period-end p h (at-period p (omega arith)))))
+        held-returns wf (α (values f)) (λ i. x (n + i)) (rw add-zero (kept-ends (getD qs p none) t (period-end p h (at-period p (omega arith)))))
         (λ i l. rw add-suc (rw (plain i l) at (run .ticks (n + i) (omega arith))))
 
 pub safe-runs : SafeRuns

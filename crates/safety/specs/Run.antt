@@ -24,14 +24,14 @@ kept f none = false
 kept f (some g) = isKeep (decide f g)
 
 -- the law that acts at each tick of a period: the question's command where it is kept, else the plain law
-unfoldable pub lawOf : List ℕ → Period → Law
-lawOf f none = baseline
-lawOf f (some g) = elim (kept f (some g)) [ true ↦ command (commandOf g) | false ↦ baseline ]
+unfoldable pub periodLaw : List ℕ → Period → Law
+periodLaw f none = baseline
+periodLaw f (some g) = elim (kept f (some g)) [ true ↦ command (commandOf g) | false ↦ baseline ]
 
 -- the law of each tick of the run: δ ticks a period
 unfoldable pub acting : List ℕ → List Period → List Law
 acting f [] = []
-acting f (q ∷ qs) = replicate (δ (values f)) (lawOf f q) ++ acting f qs
+acting f (q ∷ qs) = replicate (δ (values f)) (periodLaw f q) ++ acting f qs
 
 abbrev pub lawAt : List ℕ → List Period → ℕ → Law
 lawAt f qs t = getD (acting f qs) t baseline

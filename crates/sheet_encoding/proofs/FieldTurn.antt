@@ -6,7 +6,7 @@ use native.Mathlib.Omega.{arith}
 use native.Mathlib.Nat.{add-zero, mul-le-mul-right}
 use lib.IntN.{ℤ}
 use lib.ListN.{set, drop}
-use Rattle.sheet_spec.specs.Slots.{headSize, bandSlot, firstRow, safetyLeastSlot, safetyGreatestSlot, sides}
+use Rattle.sheet_spec.specs.Slots.{headSize, bandSlot, firstRow, safetyLeastSlot, safetyGreatestSlot, pairSize}
 use Rattle.sheet_spec.specs.Refusals.{orElse}
 use Rattle.sheet_spec.specs.Fields.{i32, decoded, test, offset, filled, bad}
 use Rattle.sheet_spec.specs.Sizes.{capBytes, safetyLeastAt, safetyGreatestAt, rowBytes, upperAt, boxBytes, coefficientBytes}
@@ -43,8 +43,8 @@ pub row-room : (n i : ℕ) → i < n → i * rowBytes n + rowBytes n ≤ n * row
 row-room n i l = omega (arith, mul-le-mul-right (rowBytes n) l)
 
 -- a box's upper side i
-pub upper-offset : (h s i : ℕ) → offset (boxFields h s) (i * sides + 1) ≡ boxBytes i + upperAt
+pub upper-offset : (h s i : ℕ) → offset (boxFields h s) (i * pairSize + 1) ≡ boxBytes i + upperAt
 unfolding sideFields _▸_
 upper-offset h s i =
-    let e : i * sides + 0 ≡ i * sides = omega arith in
-    omega (arith, offset-next (boxFields h s) (i * sides + 0) (i * sides + 1) (omega arith) _ (side-run h s i .at 0 (omega arith)), ap (offset (boxFields h s)) e, side-offset h s i)
+    let e : i * pairSize + 0 ≡ i * pairSize = omega arith in
+    omega (arith, offset-next (boxFields h s) (i * pairSize + 0) (i * pairSize + 1) (omega arith) _ (side-run h s i .at 0 (omega arith)), ap (offset (boxFields h s)) e, side-offset h s i)

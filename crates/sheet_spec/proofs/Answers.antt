@@ -10,7 +10,7 @@ use lib.ListN.{length}
 use lib.Seq.{sets}
 use borrow.Author.Tests.{eq-eqb, ne-eqb, le-leb, lt-leb}
 use Rattle.sheet_spec.specs.Slots.{headSize, vars}
-use Rattle.sheet_spec.specs.Refusals.{Cause, number, unless, firstRefusal}
+use Rattle.sheet_spec.specs.Refusals.{Cause, number, refuseUnless, firstRefusal}
 use Rattle.sheet_spec.specs.Fields.{bad, test}
 use Rattle.sheet_spec.specs.Sizes.{capsAt}
 use Rattle.sheet_spec.specs.Layout.{_▸_, head, headFields, fields}
@@ -28,12 +28,12 @@ module _ (f : List ℕ) where
 
   pub refused-beginning : leb capsAt (length f) && marked f 0 head ≡ false → number Cause.beginning ≡ refusal f
   unfolding stage firstRefusal
-  refused-beginning e = at-stage 0 1 (omega arith) refl (ap (λ (b : Bool). unless b Cause.beginning) (sym e)) (number-is Cause.beginning)
+  refused-beginning e = at-stage 0 1 (omega arith) refl (ap (λ (b : Bool). refuseUnless b Cause.beginning) (sym e)) (number-is Cause.beginning)
 
   module _ (begun : leb capsAt (length f) && marked f 0 head ≡ true) where
     one : firstRefusal (stage f) 1 ≡ 0
     unfolding stage firstRefusal
-    one = first-next (stage f) 0 0 refl (ap (λ (b : Bool). unless b Cause.beginning) (sym begun))
+    one = first-next (stage f) 0 0 refl (ap (λ (b : Bool). refuseUnless b Cause.beginning) (sym begun))
 
     pub refused-head : (c : ℕ) → c ≡ bad headFields (headOf f) headSize → (c ≡ 0 → ⊥) → c ≡ refusal f
     unfolding stage
@@ -47,12 +47,12 @@ module _ (f : List ℕ) where
       pub refused-size : (length f ≡ start (shapeOf f) (records (shapeOf f)) → ⊥) → number Cause.size ≡ refusal f
       unfolding stage
       refused-size n =
-          at-stage 2 5 (omega arith) two (ap (λ (b : Bool). unless b Cause.size) (sym (ne-eqb (length f) (start (shapeOf f) (records (shapeOf f))) n))) (number-is Cause.size)
+          at-stage 2 5 (omega arith) two (ap (λ (b : Bool). refuseUnless b Cause.size) (sym (ne-eqb (length f) (start (shapeOf f) (records (shapeOf f))) n))) (number-is Cause.size)
 
       pub answer : length f ≡ start (shapeOf f) (records (shapeOf f)) → badAll (markedAt (shapeOf f) f) (shapeOf f) (contents f) (records (shapeOf f)) ≡ refusal f
       unfolding stage refusal
       answer e =
-          sym (first-next (stage f) 3 _ (first-next (stage f) 2 0 two (ap (λ (b : Bool). unless b Cause.size) (sym (eq-eqb (length f) (start (shapeOf f) (records (shapeOf f))) e)))) refl)
+          sym (first-next (stage f) 3 _ (first-next (stage f) 2 0 two (ap (λ (b : Bool). refuseUnless b Cause.size) (sym (eq-eqb (length f) (start (shapeOf f) (records (shapeOf f))) e)))) refl)
 
 -- ---- writing
 

@@ -8,7 +8,7 @@ use lib.IntN.{ℤ}
 use lib.ListN.{length}
 use lib.Signed.{leZ}
 use Rattle.sheet_spec.specs.Slots.{_!_, headSize}
-use Rattle.sheet_spec.specs.Refusals.{Cause, number, unless, firstRefusal}
+use Rattle.sheet_spec.specs.Refusals.{Cause, number, refuseUnless, firstRefusal}
 use Rattle.sheet_spec.specs.Fields.{Field, test, bad}
 use Rattle.sheet_spec.specs.Sizes.{capsAt}
 use Rattle.sheet_spec.specs.Layout.{head, headFields}
@@ -25,7 +25,7 @@ first-most h {most} a (suc k) = go (firstRefusal h k) (first-most h a k)
     go zero l = a k
     go (suc c) l = l
 
-unless-most : (b : Bool) (c : Cause) → unless b c ≤ 17
+unless-most : (b : Bool) (c : Cause) → refuseUnless b c ≤ 17
 unless-most true c = omega arith
 unless-most false c = number-range c .1
 

@@ -2,10 +2,10 @@
 use mathlib.Core.Path.{_≡_, ap}
 use Prim.Native.Nat.{ℕ, suc, _+_, _*_, _<_}
 use native.Mathlib.Omega.{arith}
-use Rattle.sheet_spec.specs.Slots.{headSize, rowSlot, firstRow, sides}
+use Rattle.sheet_spec.specs.Slots.{headSize, rowSlot, firstRow, pairSize}
 use Rattle.sheet_spec.specs.Refusals.{Cause}
 use Rattle.sheet_spec.specs.Fields.{i16, Field}
-use Rattle.sheet_spec.specs.Layout.{_▸_, within, capField, headFields, rowRest, rowFields, bandFields, sideFields, boxFields, rowCount}
+use Rattle.sheet_spec.specs.Layout.{_▸_, plusMinus, capField, headFields, rowRest, rowFields, bandFields, sideFields, boxFields, rowCount}
 use Rattle.sheet_spec.proofs.Streams.{first-low, first-after, groups-at}
 use Rattle.sheet_spec.proofs.FieldRuns.{Run}
 
@@ -15,7 +15,7 @@ cap-at i = let e : headSize + i ≡ suc (suc (suc (suc (suc (suc (suc (suc (suc 
 
 -- a row's coefficient a, and the numbers after the coefficients
 abbrev pub coefficient : ℕ → ℕ → Field
-coefficient s j = within i16 (s + j) 1000 Cause.row
+coefficient s j = plusMinus i16 (s + j) 1000 Cause.row
 
 pub coefficient-at : (n s j : ℕ) → j < n → rowFields n s j ≡ coefficient s j
 unfolding rowFields
@@ -31,9 +31,9 @@ row-run n k i = record {
   at = λ j l. (let e : firstRow + i * rowCount n + j ≡ suc (suc (suc (i * rowCount n + j))) = omega arith in rw e (groups-at (rowCount n) _ i j l));
 }
 
-pub side-run : (h s i : ℕ) → Run (boxFields h s) (sideFields h (s + i)) (i * sides) sides
+pub side-run : (h s i : ℕ) → Run (boxFields h s) (sideFields h (s + i)) (i * pairSize) pairSize
 unfolding boxFields
-side-run h s i = record { at = λ j l. groups-at sides _ i j l }
+side-run h s i = record { at = λ j l. groups-at pairSize _ i j l }
 
 -- from row i to the next
 pub row-next : (n i : ℕ) → firstRow + i * rowCount n + rowCount n ≡ firstRow + (i + 1) * rowCount n

@@ -13,7 +13,7 @@ use lib.Signed.{leZ, leZ-yes, _≤ℤ_, _<ℤ_}
 use Rattle.integers.proofs.Z.{ints, le-true}
 use Rattle.sheet_spec.specs.Slots.{_!_}
 use Rattle.sheet_spec.specs.Valid.{Between}
-use Rattle.sheet_spec.specs.Refusals.{Cause, number, unless, firstRefusal}
+use Rattle.sheet_spec.specs.Refusals.{Cause, number, refuseUnless, firstRefusal}
 use Rattle.sheet_spec.specs.Fields.{Field, test, bad}
 use Rattle.sheet_spec.specs.File.{Shape, shape, records, recordAt, fieldsAt, countAt, badRecord, badAll}
 use Rattle.sheet_spec.specs.Sheet.{valueRefusal}
@@ -96,7 +96,7 @@ number-range Cause.room = (omega arith, omega arith)
 pub number-is : (c : Cause) → number c ≡ 0 → ⊥
 number-is c e = omega (arith, number-range c .0)
 
-pub unless-zero : (b : Bool) (c : Cause) → unless b c ≡ 0 → b ≡ true
+pub unless-zero : (b : Bool) (c : Cause) → refuseUnless b c ≡ 0 → b ≡ true
 unless-zero true c e = refl
 unless-zero false c e = absurd (number-is c e)
 

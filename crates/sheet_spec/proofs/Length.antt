@@ -5,7 +5,7 @@ use Prim.Native.Nat.{ℕ, zero, suc, _+_, _*_, _≤_, _<_}
 use native.Mathlib.Omega.{arith}
 use native.Mathlib.Nat.{zero-mul, suc-mul, mul-comm}
 use lib.IntN.{ℤ}
-use Rattle.sheet_spec.specs.Slots.{headSize, rowSlot, recoverySlot, unsafeSlot, vars, bands, boxes, restSize, firstRow, sides}
+use Rattle.sheet_spec.specs.Slots.{headSize, rowSlot, recoverySlot, unsafeSlot, vars, bands, boxes, restSize, firstRow, pairSize}
 use Rattle.sheet_spec.specs.Fields.{u16, i16, Field, width, offset}
 use Rattle.sheet_spec.specs.Sizes.{letters, capsAt, capBytes, rowsAt, coefficientBytes, rowBytes, pairBytes, boxBytes, bandHead}
 use Rattle.sheet_spec.specs.Layout.{_▸_, unsafeLimit, recoveryLimit, capField, headFields, edgeField, rowRest, rowFields, bandFields, sideFields, boxFields, fields, count, Record, head, band, unsafe, recovery, rowCount}
@@ -57,10 +57,10 @@ row-offset n k i =
     ∙ ap (λ (a : ℕ). a + i * rowBytes n) (ap (offset (bandFields n k)) e ∙ rows-offset n k)
 
 -- where the sides of variable i start
-pub side-offset : (h s i : ℕ) → offset (boxFields h s) (i * sides) ≡ boxBytes i
+pub side-offset : (h s i : ℕ) → offset (boxFields h s) (i * pairSize) ≡ boxBytes i
 unfolding offset sideFields _▸_
 side-offset h s i =
-    offset-runs (boxFields h s) (λ i. sideFields h (s + i)) (λ i. i * sides) sides pairBytes (λ i. suc-mul i sides) (side-run h s) (λ i. refl) i ∙ omega arith
+    offset-runs (boxFields h s) (λ i. sideFields h (s + i)) (λ i. i * pairSize) pairSize pairBytes (λ i. suc-mul i pairSize) (side-run h s) (λ i. refl) i ∙ omega arith
 
 -- ---- records, and the file
 

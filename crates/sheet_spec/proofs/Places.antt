@@ -4,7 +4,7 @@ use mathlib.Core.Logic.{⊎-elim}
 use Prim.Native.Nat.{ℕ, zero, suc, _+_, _*_, _-_, _/_, _%_, _≤_, _<_}
 use native.Mathlib.Omega.{arith}
 use native.Mathlib.Nat.{mod-lt, div-add-mod', div-lt-iff-lt-mul, mul-le-mul-right}
-use Rattle.sheet_spec.specs.Slots.{N, maxBands, maxBoxes, rowSize, bandSize, boxSize, bandSlot, rowSlot, recoverySlot, unsafeSlot, slots, bSlot, cSlot, dSlot, qSlot, restSize, safetyLeastSlot, safetyGreatestSlot, sides, firstRow}
+use Rattle.sheet_spec.specs.Slots.{N, maxBands, maxBoxes, rowSize, bandSize, boxSize, bandSlot, rowSlot, recoverySlot, unsafeSlot, slots, bSlot, cSlot, dSlot, qSlot, restSize, safetyLeastSlot, safetyGreatestSlot, pairSize, firstRow}
 use Rattle.sheet_spec.specs.Fields.{Field}
 use Rattle.sheet_spec.specs.Layout.{unsafeLimit, recoveryLimit, _▸_, first, groups, always, maxVars, headFields, edgeField, rowRest, rowFields, bandFields, sideFields, boxFields, fields, count, Record, head, band, unsafe, recovery, rowCount, bandCount, boxCount}
 use Rattle.sheet_spec.specs.File.{Shape, records, recordAt, fieldsAt, countAt}
@@ -150,15 +150,15 @@ module _ (n : ℕ) (l : n ≤ N) where
       (spread-next _ _ (bandSlot k + firstRow) (omega arith) (omega arith) (omega arith)
       (spread-most (omega arith) (spread-groups n (rowCount n) rowSize (bandSlot k + firstRow) _ (omega arith) (λ i h. spread-row (rowSlot k i)))))))
 
-  pair-slot : (h s q : ℕ) → q < sides → sideFields h s q .slot ≡ s + q * N
+  pair-slot : (h s q : ℕ) → q < pairSize → sideFields h s q .slot ≡ s + q * N
   unfolding sideFields _▸_
   pair-slot h s zero l = omega arith
   pair-slot h s (suc zero) l = omega arith
   pair-slot h s (suc (suc q)) l = let z : ⊥ = omega arith in absurd z
 
-  side-slot : (h s j : ℕ) → boxFields h s j .slot ≡ s + j / sides + j % sides * N
+  side-slot : (h s j : ℕ) → boxFields h s j .slot ≡ s + j / pairSize + j % pairSize * N
   unfolding boxFields groups
-  side-slot h s j = pair-slot h (s + j / sides) (j % sides) (mod-lt j (omega arith))
+  side-slot h s j = pair-slot h (s + j / pairSize) (j % pairSize) (mod-lt j (omega arith))
 
   spread-box : (h s : ℕ) → Spread (boxFields h s) (boxCount n) s (s + boxSize)
   spread-box h s = record {
@@ -228,7 +228,7 @@ module _ (s : Shape) (l : Small s) where
       omega (arith, spread-at r .high j b)
 
   -- no field has the slot of a side of the recovery box beyond the variables
-  pub recovery-free : (i q : ℕ) → s .vars ≤ i → i < N → q < sides → (r : ℕ) → r < records s → (j : ℕ) → j < countAt s r → fieldsAt s r j .slot ≡ recoverySlot + i + q * N → ⊥
+  pub recovery-free : (i q : ℕ) → s .vars ≤ i → i < N → q < pairSize → (r : ℕ) → r < records s → (j : ℕ) → j < countAt s r → fieldsAt s r j .slot ≡ recoverySlot + i + q * N → ⊥
   unfolding fields
   recovery-free i q b h k =
       let room : s .vars ≤ N = omega (arith, l .vars) in
@@ -237,5 +237,5 @@ module _ (s : Shape) (l : Small s) where
       (λ m d j c e. omega (arith, spread-record (s .vars) room (band m) .high j c, l .bands))
       (λ m d j c e. omega (arith, spread-record (s .vars) room (unsafe m) .low j c))
       (λ j c e.
-      let z : j / sides ≡ i = same-variable (j / sides) i (j % sides) q (omega arith) h (omega (arith, side-slot (s .vars) room recoveryLimit recoverySlot j)) in
+      let z : j / pairSize ≡ i = same-variable (j / pairSize) i (j % pairSize) q (omega arith) h (omega (arith, side-slot (s .vars) room recoveryLimit recoverySlot j)) in
       omega arith)

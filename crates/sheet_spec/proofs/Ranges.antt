@@ -9,7 +9,7 @@ use lib.IntN.{ℤ, pos, negsuc, negℤ, natAbs}
 use lib.Signed.{leZ, leZ-yes}
 use mir.Facts.{and-yes}
 use Rattle.integers.proofs.Z.{ints, flat}
-use Rattle.sheet_spec.specs.Slots.{_!_, headSize, bandSlot, rowSlot, recoverySlot, unsafeSlot, vars, bands, boxes, varsSlot, bandsSlot, boxesSlot, bandVarSlot, δSlot, αSlot, ρSlot, leastSlot, greatestSlot, restSize, sides, bInRest, cInRest, dInRest, qInRest, edgeInBand, leastInBand, greatestInBand}
+use Rattle.sheet_spec.specs.Slots.{_!_, headSize, bandSlot, rowSlot, recoverySlot, unsafeSlot, vars, bands, boxes, varsSlot, bandsSlot, boxesSlot, bandVarSlot, δSlot, αSlot, ρSlot, leastSlot, greatestSlot, restSize, pairSize, bInRest, cInRest, dInRest, qInRest, edgeInBand, leastInBand, greatestInBand}
 use Rattle.sheet_spec.specs.Valid.{Between}
 use Rattle.sheet_spec.specs.Fields.{Kind, u8, u16, i16, i32, Field}
 use Rattle.sheet_spec.specs.Layout.{unsafeLimit, recoveryLimit, _▸_, headFields, edgeField, rowRest, rowFields, bandFields, sideFields, boxFields, rowCount, bandCount, boxCount}
@@ -95,7 +95,7 @@ module _ (v : List ℤ) (n : ℕ) where
   box-fit : (h s : ℕ) → h ≤ unsafeLimit → Each (InRange v) (boxFields h s) (boxCount n) → Each (FieldFits v) (boxFields h s) (boxCount n)
   unfolding boxFields sideFields _▸_
   box-fit h s l b =
-      each-groups n sides _ (λ i k.
+      each-groups n pairSize _ (λ i k.
       let p = each-side n h s b i k in
       let e : Between (lowest i32) (highest i32) (negℤ (pos h)) = record { low = simp flat (omega ints); high = simp flat (omega ints) } in
       let f : Between (lowest i32) (highest i32) (pos h) = record { low = omega ints; high = omega ints } in

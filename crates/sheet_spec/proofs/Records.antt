@@ -3,7 +3,7 @@ use mathlib.Core.Path.{_≡_, refl, sym, _∙_, subst}
 use mathlib.Core.Logic.{⊎-elim}
 use Prim.Native.Nat.{ℕ, _+_, _*_, _-_, _≤_, _<_}
 use native.Mathlib.Omega.{arith}
-use Rattle.sheet_spec.specs.Slots.{headSize, rowSlot, recoverySlot, unsafeSlot, sides}
+use Rattle.sheet_spec.specs.Slots.{headSize, rowSlot, recoverySlot, unsafeSlot, pairSize}
 use Rattle.sheet_spec.specs.Fields.{Field}
 use Rattle.sheet_spec.specs.Layout.{unsafeLimit, recoveryLimit, _▸_, capField, headFields, rowFields, bandFields, sideFields, boxFields, fields, count, Record, head, band, unsafe, recovery, rowCount, bandCount, boxCount}
 use Rattle.sheet_spec.specs.File.{Shape, records, recordAt}
@@ -87,6 +87,6 @@ module _ {P : Field → Type 0} (n : ℕ) where
   unfolding bandFields
   each-row k b = each-group n (rowCount n) _ (each-rest _ _ (each-rest _ _ (each-rest _ _ (subst (Each P (bandFields n k)) (sym (rows-more (n * rowCount n))) b))))
 
-  pub each-side : (h s : ℕ) → Each P (boxFields h s) (boxCount n) → (i : ℕ) → i < n → Each P (sideFields h (s + i)) sides
+  pub each-side : (h s : ℕ) → Each P (boxFields h s) (boxCount n) → (i : ℕ) → i < n → Each P (sideFields h (s + i)) pairSize
   unfolding boxFields
-  each-side h s = each-group n sides (λ i. sideFields h (s + i))
+  each-side h s = each-group n pairSize (λ i. sideFields h (s + i))

@@ -11,7 +11,7 @@ use lib.Seq.{take-all, take-at, drop-at, length-take-le, sets-eq}
 use borrow.Author.Tests.{eq-eqb, le-leb, leb-true}
 use Rattle.integers.specs.Bytes.{Bytes}
 use Rattle.sheet_spec.specs.Slots.{_!_, headSize, varsSlot, bandsSlot, boxesSlot}
-use Rattle.sheet_spec.specs.Refusals.{Cause, unless}
+use Rattle.sheet_spec.specs.Refusals.{Cause, refuseUnless}
 use Rattle.sheet_spec.specs.Fields.{decoded, offset}
 use Rattle.sheet_spec.specs.Sizes.{letters, capsAt}
 use Rattle.sheet_spec.specs.Layout.{_▸_, Record, head, headFields, fields, count}
@@ -97,7 +97,7 @@ module _ (v : List ℤ) (buffer : List ℕ) (place : ℕ) (e : writeRefusal v bu
   unfolding writeRefusal
   passed = go (valueRefusal v) e
     where
-      go : (c : ℕ) → _≡_ {A = ℕ} (elim c [ zero ↦ unless (leb (place + length-of v) (length buffer)) Cause.room | suc c ↦ suc c ]) 0 → (c ≡ 0) × (place + length-of v ≤ length buffer)
+      go : (c : ℕ) → _≡_ {A = ℕ} (elim c [ zero ↦ refuseUnless (leb (place + length-of v) (length buffer)) Cause.room | suc c ↦ suc c ]) 0 → (c ≡ 0) × (place + length-of v ≤ length buffer)
       go zero e = (refl, leb-true _ _ (unless-zero (leb (place + length-of v) (length buffer)) Cause.room e))
       go (suc c) e = absurd (let z : ⊥ = omega arith in z)
 

@@ -5,7 +5,7 @@ use Prim.Native.Nat.{ℕ, zero, suc, _+_, _*_, _<_}
 use native.Mathlib.Omega.{arith}
 use lib.IntN.{ℤ}
 use lib.Signed.{_≤ℤ_}
-use Rattle.sheet_spec.specs.Slots.{_!_, headSize, bandSlot, rowSlot, recoverySlot, unsafeSlot, vars, bands, varsSlot, δSlot, leastSlot, greatestSlot, restSize, sides, edgeInBand, leastInBand}
+use Rattle.sheet_spec.specs.Slots.{_!_, headSize, bandSlot, rowSlot, recoverySlot, unsafeSlot, vars, bands, varsSlot, δSlot, leastSlot, greatestSlot, restSize, pairSize, edgeInBand, leastInBand}
 use Rattle.sheet_spec.specs.Fields.{Field}
 use Rattle.sheet_spec.specs.Layout.{unsafeLimit, recoveryLimit, _▸_, headFields, edgeField, rowRest, rowFields, bandFields, sideFields, boxFields, rowCount, bandCount, boxCount}
 use Rattle.sheet_spec.specs.File.{Shape}
@@ -63,7 +63,7 @@ module _ (v w : List ℤ) where
   box-ends : (n h s : ℕ) → Each Equal (boxFields h s) (boxCount n) → Each Ends (boxFields h s) (boxCount n)
   unfolding boxFields sideFields _▸_
   box-ends n h s e =
-      each-groups n sides _ (λ i l. each-next _ _ (given refl refl) (record { at = λ j k. given (each-side n h s e i l .at 0 (omega arith)) refl }))
+      each-groups n pairSize _ (λ i l. each-next _ _ (given refl refl) (record { at = λ j k. given (each-side n h s e i l .at 0 (omega arith)) refl }))
 
   -- ---- sheets
 

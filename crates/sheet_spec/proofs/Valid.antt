@@ -10,7 +10,7 @@ use lib.ListN.{length}
 use mir.Syntax.{w32}
 use mir.Val.{SFits}
 use Rattle.integers.proofs.Z.{ints, flat}
-use Rattle.sheet_spec.specs.Slots.{_!_, N, slots, bandSlot, recoverySlot, unsafeSlot, vars, bands, row, varsSlot, bandsSlot, boxesSlot, bandVarSlot, δSlot, αSlot, ρSlot, leastSlot, greatestSlot, restSize, sides, bInRest, cInRest, dInRest, qInRest, edgeInBand, leastInBand, greatestInBand}
+use Rattle.sheet_spec.specs.Slots.{_!_, N, slots, bandSlot, recoverySlot, unsafeSlot, vars, bands, row, varsSlot, bandsSlot, boxesSlot, bandVarSlot, δSlot, αSlot, ρSlot, leastSlot, greatestSlot, restSize, pairSize, bInRest, cInRest, dInRest, qInRest, edgeInBand, leastInBand, greatestInBand}
 use Rattle.sheet_spec.specs.Valid.{ValidRow, ValidBox, Valid}
 use Rattle.sheet_spec.specs.Fields.{Kind, u8, u16, i16, i32}
 use Rattle.sheet_spec.specs.Layout.{unsafeLimit, recoveryLimit, _▸_, headFields, edgeField, rowRest, rowFields, bandFields, sideFields, boxFields, boxCount}
@@ -182,8 +182,8 @@ module _ (f : List ℕ) where
       let P : List ℤ → Type 0 = λ v. (TakenAll (shape v) (records (shape v)) i → ⊥) → v ! i ≡ pos 0 in
       cases P (λ e. let a = accepted f e in subst P (sym (a .values)) (λ n. ⊎-elim (λ z. z) (λ t. absurd (n t)) (zero-or-taken f a i))) (λ n. zeros-at i)
 
-  pub recovery-beyond : refusal f ≡ 0 → (i q : ℕ) → vars (values f) ≤ i → i < N → q < sides → values f ! (recoverySlot + i + q * N) ≡ pos 0
+  pub recovery-beyond : refusal f ≡ 0 → (i q : ℕ) → vars (values f) ≤ i → i < N → q < pairSize → values f ! (recoverySlot + i + q * N) ≡ pos 0
   recovery-beyond e i q b h k =
-      let ok = valid f e in
+      let wf = valid f e in
       values-beyond (recoverySlot + i + q * N)
-      (λ t. recovery-free (shape (values f)) (record { vars = ok .vars-high; bands = ok .bands-high; boxes = ok .boxes-high }) i q b h k (t .r) (t .below) (t .taken .j) (t .taken .below) (t .taken .is))
+      (λ t. recovery-free (shape (values f)) (record { vars = wf .vars-high; bands = wf .bands-high; boxes = wf .boxes-high }) i q b h k (t .r) (t .below) (t .taken .j) (t .taken .below) (t .taken .is))

@@ -9,7 +9,7 @@ use mir.Syntax.{w16, w32}
 use mir.Val.{ofZ}
 use Rattle.integers.specs.Bytes.{be, beBytes, decode}
 use Rattle.sheet_spec.specs.Slots.{_!_}
-use Rattle.sheet_spec.specs.Refusals.{Cause, unless, firstRefusal}
+use Rattle.sheet_spec.specs.Refusals.{Cause, refuseUnless, firstRefusal}
 
 pub data Kind : Type 0 where
   u8 u16 i16 i32 : Kind
@@ -46,7 +46,7 @@ encoded k z = beBytes (width k) (ofZ w32 z)
 
 -- 0 where the field's value lies in its range, else the refusal
 unfoldable pub test : List ℤ → Field → ℕ
-test v x = unless (leZ (x .least v) (v ! x .slot) && leZ (v ! x .slot) (x .greatest v)) (x .cause)
+test v x = refuseUnless (leZ (x .least v) (v ! x .slot) && leZ (v ! x .slot) (x .greatest v)) (x .cause)
 
 -- ---- the first k fields
 

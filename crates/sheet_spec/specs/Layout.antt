@@ -4,7 +4,7 @@ use mathlib.Core.List.{List}
 use Prim.Native.Nat.{ℕ, zero, suc, _+_, _*_, _-_, _/_, _%_}
 use lib.Dec.{ltb}
 use lib.IntN.{ℤ, pos, negℤ, _+ℤ_, _-ℤ_}
-use Rattle.sheet_spec.specs.Slots.{_!_, N, maxBands, maxBoxes, varsSlot, bandsSlot, boxesSlot, bandVarSlot, δSlot, αSlot, ρSlot, leastSlot, greatestSlot, headSize, capSlot, bSlot, cSlot, dSlot, qSlot, restSize, firstRow, bandSlot, safetyLeastSlot, safetyGreatestSlot, rowSlot, sides, recoverySlot, unsafeSlot}
+use Rattle.sheet_spec.specs.Slots.{_!_, N, maxBands, maxBoxes, varsSlot, bandsSlot, boxesSlot, bandVarSlot, δSlot, αSlot, ρSlot, leastSlot, greatestSlot, headSize, capSlot, bSlot, cSlot, dSlot, qSlot, restSize, firstRow, bandSlot, safetyLeastSlot, safetyGreatestSlot, rowSlot, pairSize, recoverySlot, unsafeSlot}
 use Rattle.sheet_spec.specs.Refusals.{Cause}
 use Rattle.sheet_spec.specs.Fields.{Kind, u8, u16, i16, i32, Field}
 
@@ -37,8 +37,8 @@ abbrev pub fromTo : Kind → ℕ → ℕ → ℕ → Cause → Field
 fromTo k s l h = ranged k s (λ v. pos l) (λ v. pos h)
 
 -- within ±h
-abbrev pub within : Kind → ℕ → ℕ → Cause → Field
-within k s h = ranged k s (λ v. negℤ (pos h)) (λ v. pos h)
+abbrev pub plusMinus : Kind → ℕ → ℕ → Cause → Field
+plusMinus k s h = ranged k s (λ v. negℤ (pos h)) (λ v. pos h)
 
 -- a sheet has at most so many variables; there is room for N
 abbrev pub maxVars : ℕ
@@ -57,7 +57,7 @@ headFields =
     ▸ fromTo u16 δSlot 1 1000 Cause.times
     ▸ ranged u16 αSlot (λ v. pos 1) (λ v. pos 1000 -ℤ v ! δSlot) Cause.times
     ▸ fromTo u16 ρSlot 1 1000 Cause.times
-    ▸ within i32 leastSlot 10000 Cause.commands
+    ▸ plusMinus i32 leastSlot 10000 Cause.commands
     ▸ ranged i32 greatestSlot (λ v. v ! leastSlot) (λ v. pos 10000) Cause.commands
     ▸ capField
 
@@ -69,14 +69,14 @@ edgeField (suc k) = ranged i32 (bandSlot (suc k)) (λ v. v ! bandSlot k +ℤ pos
 -- b, c, d, q of the row at a slot
 unfoldable pub rowRest : ℕ → ℕ → Field
 rowRest s =
-    within i16 (bSlot s) 1000 Cause.row
-    ▸ within i32 (cSlot s) 100000000 Cause.row
+    plusMinus i16 (bSlot s) 1000 Cause.row
+    ▸ plusMinus i32 (cSlot s) 100000000 Cause.row
     ▸ fromTo i32 (dSlot s) 0 100000000 Cause.row
     ▸ always (fromTo u16 (qSlot s) 1 4096 Cause.row)
 
 -- the row at a slot: n coefficients a, then the rest
 unfoldable pub rowFields : ℕ → ℕ → ℕ → Field
-rowFields n s = first n (λ j. within i16 (s + j) 1000 Cause.row) (rowRest s)
+rowFields n s = first n (λ j. plusMinus i16 (s + j) 1000 Cause.row) (rowRest s)
 
 -- so many fields a row has, a band, and a box, of a sheet with n variables
 abbrev pub rowCount : ℕ → ℕ
@@ -86,7 +86,7 @@ abbrev pub bandCount : ℕ → ℕ
 bandCount n = firstRow + n * rowCount n
 
 abbrev pub boxCount : ℕ → ℕ
-boxCount n = n * sides
+boxCount n = n * pairSize
 
 -- edge, safety least and greatest, n rows
 unfoldable pub bandFields : ℕ → ℕ → ℕ → Field
@@ -105,11 +105,11 @@ recoveryLimit = 1000000
 
 -- a lower side at a slot, within ±h, and its upper side
 unfoldable pub sideFields : ℕ → ℕ → ℕ → Field
-sideFields h s = within i32 s h Cause.side ▸ always (ranged i32 (s + N) (λ v. v ! s) (λ v. pos h) Cause.side)
+sideFields h s = plusMinus i32 s h Cause.side ▸ always (ranged i32 (s + N) (λ v. v ! s) (λ v. pos h) Cause.side)
 
 -- the box at a slot: for each variable the two sides
 unfoldable pub boxFields : ℕ → ℕ → ℕ → Field
-boxFields h s = groups sides (λ i. sideFields h (s + i))
+boxFields h s = groups pairSize (λ i. sideFields h (s + i))
 
 -- ---- records
 

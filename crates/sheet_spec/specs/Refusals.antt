@@ -22,9 +22,9 @@ number side = 11
 number room = 17
 
 -- 0 where the test passed, else the number of the cause
-abbrev pub unless : Bool → Cause → ℕ
-unless true c = 0
-unless false c = number c
+abbrev pub refuseUnless : Bool → Cause → ℕ
+refuseUnless true c = 0
+refuseUnless false c = number c
 
 -- the first of h 0, .. h (k - 1) that is not 0, or 0
 unfoldable pub firstRefusal : (ℕ → ℕ) → ℕ → ℕ

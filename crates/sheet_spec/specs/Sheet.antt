@@ -8,7 +8,7 @@ use lib.IntN.{ℤ, pos}
 use lib.ListN.{length, replicate}
 use lib.Seq.{sets}
 use Rattle.sheet_spec.specs.Slots.{_!_, headSize, slots}
-use Rattle.sheet_spec.specs.Refusals.{Cause, unless, firstRefusal}
+use Rattle.sheet_spec.specs.Refusals.{Cause, refuseUnless, firstRefusal}
 use Rattle.sheet_spec.specs.Fields.{filled, bad}
 use Rattle.sheet_spec.specs.Sizes.{letters, capsAt}
 use Rattle.sheet_spec.specs.Layout.{head, headFields}
@@ -32,9 +32,9 @@ contents f = let s = shapeOf f in filledAll s f (records s) zeros
 
 -- the reader's tests in their order, each made only where those before it passed
 unfoldable pub stage : List ℕ → ℕ → ℕ
-stage f zero = unless (leb capsAt (length f) && marked f 0 head) Cause.beginning
+stage f zero = refuseUnless (leb capsAt (length f) && marked f 0 head) Cause.beginning
 stage f (suc zero) = bad headFields (headOf f) headSize
-stage f (suc (suc zero)) = let s = shapeOf f in unless (eqb (length f) (start s (records s))) Cause.size
+stage f (suc (suc zero)) = let s = shapeOf f in refuseUnless (eqb (length f) (start s (records s))) Cause.size
 stage f (suc (suc (suc i))) = let s = shapeOf f in badAll (markedAt s f) s (contents f) (records s)
 
 -- 0 where the file is accepted, else why it is refused
@@ -58,7 +58,7 @@ unfoldable pub bytesOf : List ℤ → List ℕ
 bytesOf v = codedAll (shape v) v (records (shape v))
 
 unfoldable pub writeRefusal : List ℤ → List ℕ → ℕ → ℕ
-writeRefusal v buffer place = elim (valueRefusal v) [ zero ↦ unless (leb (place + length-of v) (length buffer)) Cause.room | suc c ↦ suc c ]
+writeRefusal v buffer place = elim (valueRefusal v) [ zero ↦ refuseUnless (leb (place + length-of v) (length buffer)) Cause.room | suc c ↦ suc c ]
 
 -- the buffer after writing
 unfoldable pub written : List ℤ → List ℕ → ℕ → List ℕ

@@ -116,11 +116,11 @@ abbrev pub rowSlot : ℕ → ℕ → ℕ
 rowSlot k i = bandSlot k + firstRow + i * rowSize
 
 -- a box: N lower sides, then N upper sides; a variable has two
-abbrev pub sides : ℕ
-sides = 2
+abbrev pub pairSize : ℕ
+pairSize = 2
 
 abbrev pub boxSize : ℕ
-boxSize = sides * N
+boxSize = pairSize * N
 
 abbrev pub recoverySlot : ℕ
 recoverySlot = headSize + N + maxBands * bandSize

@@ -11,8 +11,8 @@ use Rattle.boxes_rates.specs.Plant.{Usable, machineOf}
 use Rattle.machine_spec.proofs.InPlace.{trim-trim, trim-as}
 use Rattle.boxes_rates.proofs.Rates.{usable}
 use Rattle.boxes_rates.proofs.Bounds.{wider}
-use Rattle.boxes.proofs.Answer.{Refusal, reach-refused, walkable, reach-ended, reach-failed}
-use Rattle.boxes.proofs.steps.Walked.{the-type}
+use Rattle.boxes.proofs.Answer.{Refusal, reach-refused, reachable, reach-ended, reach-failed}
+use Rattle.boxes.proofs.steps.ReachResult.{the-type}
 use Rattle.boxes.proofs.reach_of.Statement.{statement}
 use Rattle.boxes.proofs.reach_of.Tie as tie
 
@@ -38,11 +38,11 @@ reach-refusal-requires c κs = (ap (λ (m : Machine). m .n) (plant-is c), works 
 returns : tie.Need-returns
 returns c = c .refused .ensures ∙ reach-refused (refusal-is (c .before .before)) (c .before .if1 .taken)
 
-walk-requires : tie.Need-walk-requires
-walk-requires c κs =
+reach-requires : tie.Need-reach-requires
+reach-requires c κs =
     let t = c .before .before in
     let r = t .before .before in
-    let w = walkable (refusal-is r) (t .before .if1 .left) (plant-is (r .before)) (t .trim .ensures) in (
+    let w = reachable (refusal-is r) (t .before .if1 .left) (plant-is (r .before)) (t .trim .ensures) in (
       (works (r .before), omega arith),
       (
         (w .0, (w .1 .0, (wider (omega arith) (w .1 .1), omega (arith, w .0, w .1 .0)))),
@@ -56,8 +56,8 @@ returns-2 c =
     let t = w .before .before .before in
     let r = t .before .before in
     c .refused2 .ensures
-    ∙ reach-failed (refusal-is r) (t .before .if1 .left) (plant-is (r .before)) (t .trim .ensures) (w .walk .result) _ _ (w .walk .ensures .0)
-    (λ i j q. let z : tagOf the-type (w .walk .result) ≡ 0 = ap (tagOf the-type) q in ⊎-elim (λ o. omega arith) (⊎-elim (λ o. omega arith) (λ o. omega arith)) (c .before .match .keys2))
+    ∙ reach-failed (refusal-is r) (t .before .if1 .left) (plant-is (r .before)) (t .trim .ensures) (w .reach .result) _ _ (w .reach .ensures .0)
+    (λ i j q. let z : tagOf the-type (w .reach .result) ≡ 0 = ap (tagOf the-type) q in ⊎-elim (λ o. omega arith) (⊎-elim (λ o. omega arith) (λ o. omega arith)) (c .before .match .keys2))
 
 returns-3 : tie.Need-returns-3
 returns-3 c =
@@ -65,7 +65,7 @@ returns-3 c =
     let w = k .before .before in
     let t = w .before .before .before in
     let r = t .before .before in
-    reach-ended (refusal-is r) (t .before .if1 .left) (plant-is (r .before)) (t .trim .ensures) (w .walk .result) _ _ (w .walk .ensures .0) (k .r .given .0 .0) (k .r .given .0 .1 .0) (k .r .given .1)
+    reach-ended (refusal-is r) (t .before .if1 .left) (plant-is (r .before)) (t .trim .ensures) (w .reach .result) _ _ (w .reach .ensures .0) (k .r .given .0 .0) (k .r .given .0 .1 .0) (k .r .given .1)
 
 pub reach-of-spec : {M : Type 1} → statement M
 reach-of-spec =
@@ -76,7 +76,7 @@ reach-of-spec =
     (λ c κs. tt)
     returns
     (λ c κs. works (c .before .before) .vars)
-    walk-requires
+    reach-requires
     (λ c. search needs)
     (λ c κs. tt)
     returns-2

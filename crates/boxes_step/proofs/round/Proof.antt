@@ -10,7 +10,7 @@ use borrow.Author.Needs.{needs}
 use Rattle.machine_spec.specs.Box.{trim}
 use Rattle.machine_spec.specs.Machine.{Machine}
 use Rattle.machine_spec.proofs.Box.{differ}
-use Rattle.boxes_arithmetic.specs.Limits.{Sides}
+use Rattle.boxes_arithmetic.specs.Limits.{SidesWithin}
 use Rattle.boxes_rates.specs.Plant.{machineOf}
 use Rattle.boxes_rates.proofs.Bounds.{rates-bound}
 use Rattle.machine_spec.proofs.InPlace.{trim-as, trim-as-hull}
@@ -33,7 +33,7 @@ module _ (c : tie.After-rates) where
   R = c .rates .last .1 .1 .1 .1 .1 .0
 
   -- a rate is at most 1,000
-  slow : Sides 1000 R
+  slow : SidesWithin 1000 R
   slow = rw (c .rates .ensures .0) (rates-bound (s .pre .0) (s .args .start .now) (s .args .k) (s .args .e .now))
 
   trimmed : trim (s .args .p .n) E ≡ E

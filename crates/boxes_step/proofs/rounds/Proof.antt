@@ -5,7 +5,7 @@ use Prim.Native.Nat.{_≤_, _+_, _*_}
 use native.Mathlib.Omega.{arith}
 use Rattle.machine_spec.specs.Box.{trim}
 use Rattle.machine_spec.proofs.Box.{differ}
-use Rattle.boxes_arithmetic.specs.Limits.{Sides}
+use Rattle.boxes_arithmetic.specs.Limits.{SidesWithin}
 use Rattle.boxes_rates.specs.Plant.{machineOf}
 use Rattle.boxes_rates.proofs.Bounds.{wider, rates-bound}
 use Rattle.boxes_step.specs.Limits.{stepLimit}
@@ -17,7 +17,7 @@ use Rattle.boxes_step.proofs.rounds.Tie as tie
 
 abbrev Inv-loop : tie.InvT-loop
 Inv-loop b p sheet start k count e₀ r₀ c₀ left₀ e r c left =
-    ((c + left ≤ count + 8) × ((trim (p .n) e ≡ e) × Sides 1000 r)) × (Sides (stepLimit + k * 1000) e
+    ((c + left ≤ count + 8) × ((trim (p .n) e ≡ e) × SidesWithin 1000 r)) × (SidesWithin (stepLimit + k * 1000) e
     × (Rounding (b .limited) (b .allowance) (machineOf p sheet) start k count left e c
     × (k ≡ 1 → e ≡ start)))
 
@@ -29,13 +29,13 @@ loop-holds c =
     let p = c .pre .1 in
     let e = p .1 .0 in (
       (omega arith, (trim-as (c .args .p .n) e (p .1 .1 .0), p .1 .1 .1)),
-      (subst (Sides (stepLimit + c .args .k * 1000)) (sym e) (wider (omega arith) (p .0 .1 .0)), (rounding-starts (c .args .b .limited) (c .args .b .allowance) _ (c .args .k) (c .args .count) e, λ one. e)),
+      (subst (SidesWithin (stepLimit + c .args .k * 1000)) (sym e) (wider (omega arith) (p .0 .1 .0)), (rounding-starts (c .args .b .limited) (c .args .b .allowance) _ (c .args .k) (c .args .count) e, λ one. e)),
     )
 
 returns : tie.Need-returns Inv-loop μ-loop
 returns c =
     let i = c .before .before .before .loop .inv in
-    (rounding-out (i .1 .1 .0) (omega arith) _ (c .before .is-out .ensures) _ (c .if1 .taken), i .0 .1)
+    (rounding-out (i .1 .1 .0) (omega arith) _ (c .before .is-exhausted .ensures) _ (c .if1 .taken), i .0 .1)
 
 round-requires : tie.Need-round-requires Inv-loop μ-loop
 round-requires c κs =
@@ -55,7 +55,7 @@ module _ (r : tie.After-round Inv-loop μ-loop) where
   s = d .before
 
   -- a rate is at most 1,000
-  slow : Sides 1000 (r .round .last .1 .1 .1 .1 .1 .0)
+  slow : SidesWithin 1000 (r .round .last .1 .1 .1 .1 .1 .0)
   slow = rw (r .round .ensures .1 .0) (rates-bound (s .pre .0) (s .args .start .now) (s .args .k) (d .loop .e))
 
   one-tick : s .args .k ≡ 1 → r .round .result ≡ true
@@ -65,7 +65,7 @@ returns-2 : tie.Need-returns-2 Inv-loop μ-loop
 returns-2 c =
     let r = c .before in
     let e = r .round .ensures in
-    (rounding-settles (d r .loop .inv .1 .1 .0) (omega arith) _ (f r .before .is-out .ensures) (f r .if1 .left) _ (e .0) _ (e .1 .0) (c .if2 .taken), (e .1 .1 .1, slow r))
+    (rounding-settles (d r .loop .inv .1 .1 .0) (omega arith) _ (f r .before .is-exhausted .ensures) (f r .if1 .left) _ (e .0) _ (e .1 .0) (c .if2 .taken), (e .1 .1 .1, slow r))
 
 loop-again : tie.Need-loop-again Inv-loop μ-loop
 loop-again c =
@@ -78,7 +78,7 @@ loop-again c =
       (
         rw grew near,
         (
-          rounding-on (d r .loop .inv .1 .1 .0) (omega arith) _ (f r .before .is-out .ensures) (f r .if1 .left) _ (e .0) _ grew (c .if2 .left),
+          rounding-on (d r .loop .inv .1 .1 .0) (omega arith) _ (f r .before .is-exhausted .ensures) (f r .if1 .left) _ (e .0) _ grew (c .if2 .left),
           λ one. absurd (differ (one-tick r one) (c .if2 .left)),
         ),
       ),

@@ -5,17 +5,17 @@ use Prim.Native.Nat.{_≤_, _+_, _*_}
 use native.Mathlib.Omega.{arith}
 use borrow.Author.Needs.{needs}
 use denote.Enum.Declared.{tagOf}
-use Rattle.boxes_arithmetic.specs.Limits.{Sides}
+use Rattle.boxes_arithmetic.specs.Limits.{SidesWithin}
 use Rattle.boxes_rates.specs.Plant.{machineOf}
 use Rattle.boxes_step.proofs.Bounds.{halving-count}
 use Rattle.boxes_step.proofs.Turn.{Halving, halving-starts, halving-ends, halving-finest, halving-on}
-use Rattle.boxes_step.proofs.Stepped.{the-type}
+use Rattle.boxes_step.proofs.StepResult.{the-type}
 use Rattle.boxes_step.proofs.step.Statement.{statement}
 use Rattle.boxes_step.proofs.step.Tie as tie
 
 abbrev Inv-loop : tie.InvT-loop
 Inv-loop b p sheet start width count e₀ r₀ k₀ c₀ e r k c =
-    ((k ≤ width) × ((c + 8 * k ≤ count + 8 * width) × ((e ≡ start) × Sides 1000 r))) × Halving (b .limited) (b .allowance) (machineOf p sheet) start width count k c
+    ((k ≤ width) × ((c + 8 * k ≤ count + 8 * width) × ((e ≡ start) × SidesWithin 1000 r))) × Halving (b .limited) (b .allowance) (machineOf p sheet) start width count k c
 
 abbrev μ-loop : tie.MeasureT-loop
 μ-loop b p sheet start width count e₀ r₀ k₀ c₀ e r k c = k

@@ -8,14 +8,14 @@ use Rattle.sheet_spec.specs.Valid.{Valid}
 use Rattle.sheet_spec.proofs.Valid.{valid}
 use Rattle.machine_spec.specs.Box.{trim}
 use Rattle.decision_spec.specs.Decision.{recoveryOf, checkRecovery}
-use Rattle.decision_answers.specs.Recovery.{checked}
+use Rattle.decision_answers.specs.Recovery.{checkReplyOf}
 use Rattle.decision.proofs.Answer.{unless-refused, unless-passed}
 use Rattle.decision.proofs.RecoveryBox.{recovery-trimmed}
 use Rattle.decision.proofs.check_recovery.Statement.{statement}
 use Rattle.decision.proofs.check_recovery.Tie as tie
 
 returns : tie.Need-returns
-unfolding checked checkRecovery
+unfolding checkReplyOf checkRecovery
 returns c = unless-refused _ _ (c .before .read-into .ensures .0) (c .if1 .taken)
 
 check-on-requires : tie.Need-check-on-requires

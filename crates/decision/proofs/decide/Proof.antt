@@ -6,14 +6,14 @@ use borrow.Author.Needs.{needs}
 use Rattle.sheet_spec.specs.Valid.{Valid}
 use Rattle.sheet_spec.proofs.Valid.{valid}
 use Rattle.decision_spec.specs.Decision.{decide, decisionOn}
-use Rattle.decision_answers.specs.Decision.{decided}
+use Rattle.decision_answers.specs.Decision.{replyOf}
 use Rattle.decision_spec.proofs.Allowance.{answer-allowed}
 use Rattle.decision.proofs.Answer.{unless-refused, unless-passed}
 use Rattle.decision.proofs.decide.Statement.{statement}
 use Rattle.decision.proofs.decide.Tie as tie
 
 returns : tie.Need-returns
-unfolding decided decide
+unfolding replyOf decide
 returns c = answer-allowed _ _ (unless-refused _ _ (c .before .read-into .ensures .0) (c .if1 .taken))
 
 decide-on-requires : tie.Need-decide-on-requires

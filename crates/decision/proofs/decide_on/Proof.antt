@@ -10,13 +10,13 @@ use mir.Syntax.{w32}
 use mir.Val.{SFits}
 use borrow.Author.Needs.{needs}
 use Rattle.sheet_spec.specs.Slots.{N, vars}
-use Rattle.boxes_arithmetic.specs.Limits.{Sides}
+use Rattle.boxes_arithmetic.specs.Limits.{SidesWithin}
 use Rattle.machine_spec.proofs.InPlace.{trim-as}
 use Rattle.decision_spec.specs.Question.{questionLength, measured, questionRefusal}
-use Rattle.decision_answers.specs.Decision.{decided}
+use Rattle.decision_answers.specs.Decision.{replyOf}
 use Rattle.decision.specs.Limits.{startLimit}
 use Rattle.decision_question.proofs.Refusals.{asked-length, measured-near, measured-trimmed}
-use Rattle.decision.proofs.Answer.{unless-refused, unless-passed, trial-decides}
+use Rattle.decision.proofs.Answer.{unless-refused, unless-passed, plan-decides}
 use Rattle.decision.proofs.decide_on.Statement.{statement}
 use Rattle.decision.proofs.decide_on.Tie as tie
 
@@ -60,7 +60,7 @@ refusal-requires : tie.Need-refusal-requires
 refusal-requires c κs = (c .count .ensures, omega (arith, c .count .ensures, room c))
 
 returns : tie.Need-returns
-unfolding decided
+unfolding replyOf
 returns c = unless-refused _ _ (c .before .refusal .ensures) (c .if1 .taken)
 
 measured-requires : tie.Need-measured-requires
@@ -78,17 +78,17 @@ allowance-requires c κs = omega (arith, long (e (c .before .before)))
 command-requires : tie.Need-command-requires
 command-requires c κs = omega (arith, long (e (c .before .before .before)))
 
-tries-requires : tie.Need-tries-requires
-tries-requires c κs =
+attempts-requires : tie.Need-attempts-requires
+attempts-requires c κs =
     let t = c .before .before .before .before in
     let m = t .before .before in
     let x = n (e m) in
-    let ok = s x .pre in
+    let wf = s x .pre in
     let d = t .before .count2 .ensures in
     let a = t .count3 .ensures in
     let w = c .larger .ensures in (
-      (ok, (subst (Sides startLimit) (sym (start m)) (measured-near (v x) (g x) (passed (e m)) (room x)), trim-as (vars (v x)) (start m) (measured-trimmed (vars (v x)) (g x) (room x)))),
-      (omega (arith, d, a, ok .sum-high), (omega (arith, d, a, w, ok .δ-low), omega (arith, d, a, w, ok .sum-high))),
+      (wf, (subst (SidesWithin startLimit) (sym (start m)) (measured-near (v x) (g x) (passed (e m)) (room x)), trim-as (vars (v x)) (start m) (measured-trimmed (vars (v x)) (g x) (room x)))),
+      (omega (arith, d, a, wf .sum-high), (omega (arith, d, a, w, wf .δ-low), omega (arith, d, a, w, wf .sum-high))),
     )
 
 returns-2 : tie.Need-returns-2
@@ -98,8 +98,8 @@ returns-2 c =
     let t = u .before .before in
     let m = t .before .before in
     let f : SFits w32 (u .command .result) = search needs in
-    c .tries .ensures
-    ∙ trial-decides (v (n (e m))) (start m) (toZ-ofZ f ∙ u .command .ensures) (u .before .allowance .ensures) (t .before .count2 .ensures) (t .count3 .ensures) (l .larger .ensures)
+    c .attempts .ensures
+    ∙ plan-decides (v (n (e m))) (start m) (toZ-ofZ f ∙ u .command .ensures) (u .before .allowance .ensures) (t .before .count2 .ensures) (t .count3 .ensures) (l .larger .ensures)
     ∙ unless-passed _ _ (e m .before .refusal .ensures) (e m .if1 .left)
 
 pub decide-on-spec : {M : Type 1} → statement M
@@ -115,5 +115,5 @@ decide-on-spec =
     allowance-requires
     command-requires
     (λ c κs. search needs)
-    tries-requires
+    attempts-requires
     returns-2)

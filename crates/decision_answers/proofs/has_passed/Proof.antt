@@ -2,7 +2,7 @@
 use mathlib.Core.Path.{sym, ap}
 use borrow.Author.Needs.{needs}
 use Rattle.decision_answers.specs.declared.Recovery.{Recovery}
-use Rattle.decision_answers.specs.Recovery.{checked}
+use Rattle.decision_answers.specs.Recovery.{checkReplyOf}
 use Rattle.decision_spec.specs.Decision.{isKeep}
 use Rattle.decision_answers.proofs.has_passed.Statement.{statement}
 use Rattle.decision_answers.proofs.has_passed.Tie as tie
@@ -11,16 +11,16 @@ enum-told : tie.Need-enum-told
 enum-told c = search needs
 
 returns : tie.Need-returns
-unfolding checked isKeep
-returns c = sym (ap (λ (a : Recovery). isKeep (checked a)) (c .enum-told .given .1))
+unfolding checkReplyOf isKeep
+returns c = sym (ap (λ (a : Recovery). isKeep (checkReplyOf a)) (c .enum-told .given .1))
 
 returns-2 : tie.Need-returns-2
-unfolding checked isKeep
-returns-2 c = sym (ap (λ (a : Recovery). isKeep (checked a)) (c .enum-told2 .given .1))
+unfolding checkReplyOf isKeep
+returns-2 c = sym (ap (λ (a : Recovery). isKeep (checkReplyOf a)) (c .enum-told2 .given .1))
 
 returns-3 : tie.Need-returns-3
-unfolding checked isKeep
-returns-3 c = sym (ap (λ (a : Recovery). isKeep (checked a)) (c .enum-told3 .given .1))
+unfolding checkReplyOf isKeep
+returns-3 c = sym (ap (λ (a : Recovery). isKeep (checkReplyOf a)) (c .enum-told3 .given .1))
 
 pub has-passed-spec : {M : Type 1} → statement M
 has-passed-spec =

@@ -7,7 +7,7 @@ use mir.Val.{SFits}
 use borrow.Author.Needs.{needs}
 use Rattle.integers.proofs.Z.{up32, from32}
 use Rattle.sheet_spec.specs.Fields.{decoded}
-use Rattle.machine_spec.specs.Box.{sides}
+use Rattle.machine_spec.specs.Box.{boxOf}
 use Rattle.machine_spec.proofs.Box.{sides-more}
 use Rattle.decision_spec.specs.Question.{pairs}
 use Rattle.decision_question.proofs.pairs.Statement.{statement}
@@ -20,7 +20,7 @@ abbrev μ-loop : tie.MeasureT-loop
 μ-loop n g at b₀ i₀ b i = n - i
 
 loop-holds : tie.Need-loop-holds Inv-loop μ-loop
-unfolding pairs sides
+unfolding pairs boxOf
 loop-holds c = (omega arith, refl)
 
 loop-again : tie.Need-loop-again Inv-loop μ-loop

@@ -16,7 +16,7 @@ use Rattle.boxes.proofs.steps.plant.Tie as tie
 
 -- a number of the head as a count
 counts : {v : List ℤ} → Valid v → (i : ℕ) → i < 7 → T (nonNeg (toZ w32 (ofZ w32 (v ! i)))) × Fits w64 (natAbs (toZ w32 (ofZ w32 (v ! i))))
-counts ok i h = let f = ok .fits i in rw (toZ-ofZ f) (yes-nonNeg (ok .head i h), fits-natAbs tt f)
+counts wf i h = let f = wf .fits i in rw (toZ-ofZ f) (yes-nonNeg (wf .head i h), fits-natAbs tt f)
 
 pub plant-spec : {M : Type 1} → statement M
 plant-spec =

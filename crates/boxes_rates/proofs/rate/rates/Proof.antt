@@ -9,7 +9,7 @@ use mir.Syntax.{w64}
 use mir.Val.{SFits}
 use borrow.Author.Needs.{needs}
 use Rattle.sheet_spec.specs.Slots.{N}
-use Rattle.machine_spec.specs.Box.{sides}
+use Rattle.machine_spec.specs.Box.{boxOf}
 use Rattle.machine_spec.specs.Rate.{faceRate, rates}
 use Rattle.boxes_rates.specs.Plant.{machineOf}
 use Rattle.machine_spec.proofs.Box.{sides-more}
@@ -18,13 +18,13 @@ use Rattle.boxes_rates.proofs.rate.rates.Tie as tie
 
 abbrev Inv-loop : tie.InvT-loop
 Inv-loop p sheet s k e₀ r₀ i₀ e r i =
-    (i ≤ p .n) × ((p .n ≤ N) × ((e ≡ e₀) × (r ≡ sides i (faceRate false (machineOf p sheet) s k e₀) (faceRate true (machineOf p sheet) s k e₀))))
+    (i ≤ p .n) × ((p .n ≤ N) × ((e ≡ e₀) × (r ≡ boxOf i (faceRate false (machineOf p sheet) s k e₀) (faceRate true (machineOf p sheet) s k e₀))))
 
 abbrev μ-loop : tie.MeasureT-loop
 μ-loop p sheet s k e₀ r₀ i₀ e r i = p .n - i
 
 loop-holds : tie.Need-loop-holds Inv-loop μ-loop
-unfolding sides
+unfolding boxOf
 loop-holds c = (omega arith, (c .before .pre .0 .0 .vars, (refl, refl)))
 
 face-rate-requires : tie.Need-face-rate-requires Inv-loop μ-loop

@@ -5,7 +5,7 @@ use native.Mathlib.Omega.{arith}
 use borrow.Author.Needs.{needs}
 use Rattle.integers.proofs.Z.{up32}
 use Rattle.sheet_spec.specs.Slots.{N, boxAt}
-use Rattle.machine_spec.specs.Box.{sides, trim}
+use Rattle.machine_spec.specs.Box.{boxOf, trim}
 use Rattle.boxes_arithmetic.proofs.Bounds.{wide}
 use Rattle.machine_spec.proofs.Box.{sides-more, box-lo, box-hi}
 use Rattle.boxes_shape.proofs.compare.box_at.Statement.{statement}
@@ -18,7 +18,7 @@ abbrev μ-loop : tie.MeasureT-loop
 μ-loop n sheet at r₀ i₀ r i = n - i
 
 loop-holds : tie.Need-loop-holds Inv-loop μ-loop
-unfolding trim sides
+unfolding trim boxOf
 loop-holds c = (omega arith, refl)
 
 loop-again : tie.Need-loop-again Inv-loop μ-loop

@@ -3,7 +3,7 @@ use mathlib.Core.Path.{_≡_, refl}
 use Prim.Native.Nat.{_≤_, _-_}
 use native.Mathlib.Omega.{arith}
 use Rattle.integers.proofs.Z.{told}
-use Rattle.machine_spec.specs.Box.{sides, trim}
+use Rattle.machine_spec.specs.Box.{boxOf, trim}
 use Rattle.machine_spec.proofs.Box.{sides-more}
 use Rattle.boxes_shape.proofs.compare.trim.Statement.{statement}
 use Rattle.boxes_shape.proofs.compare.trim.Tie as tie
@@ -15,7 +15,7 @@ abbrev μ-loop : tie.MeasureT-loop
 μ-loop n b r₀ i₀ r i = n - i
 
 loop-holds : tie.Need-loop-holds Inv-loop μ-loop
-unfolding trim sides
+unfolding trim boxOf
 loop-holds c = (omega arith, refl)
 
 loop-again : tie.Need-loop-again Inv-loop μ-loop

@@ -11,10 +11,10 @@ use Rattle.sheet_spec.specs.Slots.{vars}
 use Rattle.sheet_spec.specs.Sheet.{values}
 use Rattle.sheet_spec.specs.Valid.{Valid}
 use Rattle.sheet_spec.proofs.Valid.{valid}
-use Rattle.boxes_arithmetic.specs.Limits.{Sides}
+use Rattle.boxes_arithmetic.specs.Limits.{SidesWithin}
 use Rattle.machine_spec.specs.Machine.{lawOf}
 use Rattle.boxes_spec.specs.Reach.{Answer, reachOf}
-use Rattle.boxes.specs.ReachAnswer.{answered}
+use Rattle.boxes.specs.ReachAnswer.{answerOf}
 use Rattle.decision_spec.specs.ReachCall.{startBox, reachedRefusal, reachedCall, reachedOut, reachAnswer, reachCall, reachOut}
 use Rattle.decision_spec.proofs.Calls.{or-refused, or-unchanged, room-stop}
 use Rattle.guard.proofs.ReachAnswer.{reach-far, file-refused, file-reached}
@@ -51,7 +51,7 @@ module _ (c : tie.After-reach-of) where
   n-is : k .count .result ≡ vars (values (s r .args .sheet .now))
   n-is = k .count .ensures ∙ ap vars (r .read-into .ensures .1)
 
-  answer-is : answered (c .reach-of .result) ≡ reachAnswer (s r .args .sheet .now) (s r .args .ticks) (s r .args .width) (s r .args .law) (s r .args .command) (s r .args .start .now)
+  answer-is : answerOf (c .reach-of .result) ≡ reachAnswer (s r .args .sheet .now) (s r .args .ticks) (s r .args .width) (s r .args .law) (s r .args .command) (s r .args .start .now)
   answer-is =
       c .reach-of .ensures
       ∙ ap (λ (u : ℤ). reachOf (v r) (s r .args .ticks) (s r .args .width) (lawOf (eqb (s r .args .law) 0) u) (b .start-box .result)) (toZ-ofZ (s r .fits .command))
@@ -78,9 +78,9 @@ reach-of-requires c κs = accepted (c .before .before .before .before .before)
 give-reached-requires : tie.Need-give-reached-requires
 give-reached-requires c κs =
     let d = c .before in
-    let ok = accepted (e d) in (
-      omega (arith, k d .count .ensures, ok .vars-high),
-      subst (λ (a : Answer). Sides 2000000 (a .end) × Sides 2000000 (a .swept)) (sym (d .reach-of .ensures)) (reach-far ok _ _ _ _),
+    let wf = accepted (e d) in (
+      omega (arith, k d .count .ensures, wf .vars-high),
+      subst (λ (a : Answer). SidesWithin 2000000 (a .end) × SidesWithin 2000000 (a .swept)) (sym (d .reach-of .ensures)) (reach-far wf _ _ _ _),
     )
 
 returns-2 : tie.Need-returns-2
@@ -89,8 +89,8 @@ returns-2 c =
     let g = c .before .before in
     let d = g .before .before in
     let out = s (r d) .args .out .now in (
-      g .give-reached .ensures .0 ∙ ap (λ (n : ℕ). reachedCall n (answered (d .reach-of .result)) out) (n-is d) ∙ ap (λ (a : Answer). reachedCall (vars (values (s (r d) .args .sheet .now))) a out) (answer-is d),
-      g .give-reached .ensures .1 ∙ ap (λ (n : ℕ). reachedOut n (answered (d .reach-of .result)) out) (n-is d) ∙ ap (λ (a : Answer). reachedOut (vars (values (s (r d) .args .sheet .now))) a out) (answer-is d),
+      g .give-reached .ensures .0 ∙ ap (λ (n : ℕ). reachedCall n (answerOf (d .reach-of .result)) out) (n-is d) ∙ ap (λ (a : Answer). reachedCall (vars (values (s (r d) .args .sheet .now))) a out) (answer-is d),
+      g .give-reached .ensures .1 ∙ ap (λ (n : ℕ). reachedOut n (answerOf (d .reach-of .result)) out) (n-is d) ∙ ap (λ (a : Answer). reachedOut (vars (values (s (r d) .args .sheet .now))) a out) (answer-is d),
     )
 
 pub reach-call-spec : {M : Type 1} → statement M

@@ -1,24 +1,24 @@
 -- `put_decision` goes by the decision's cases. Assumes nothing.
 use borrow.Author.Needs.{needs}
-use Rattle.decision_answers.specs.Decision.{decided}
+use Rattle.decision_answers.specs.Decision.{replyOf}
 use Rattle.decision_spec.specs.Listing.{decisionWord, replyText}
 use Rattle.listing.proofs.lines.put_decision.Statement.{statement}
 use Rattle.listing.proofs.lines.put_decision.Tie as tie
 
 returns : tie.Need-returns
-unfolding decided replyText decisionWord
+unfolding replyOf replyText decisionWord
 returns c = rw (c .before .before .before .before .d .given .1) (c .put-verdict .ensures)
 
 returns-2 : tie.Need-returns-2
-unfolding decided replyText decisionWord
+unfolding replyOf replyText decisionWord
 returns-2 c = rw (c .before .before .before .before .d2 .given .1) (c .put-verdict2 .ensures)
 
 returns-3 : tie.Need-returns-3
-unfolding decided replyText decisionWord
+unfolding replyOf replyText decisionWord
 returns-3 c = rw (c .before .before .before .before .d3 .given .1) (c .put-verdict3 .ensures)
 
 returns-4 : tie.Need-returns-4
-unfolding decided replyText decisionWord
+unfolding replyOf replyText decisionWord
 returns-4 c = rw (c .before .before .before .d4 .given .1) (c .put-refused .ensures)
 
 pub put-decision-spec : {M : Type 1} → statement M

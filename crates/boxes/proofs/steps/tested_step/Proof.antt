@@ -1,4 +1,4 @@
--- `leg` does what the definition's leg does, and leaves the step's end box and swept box. Assumes nothing.
+-- `tested_step` does what the definition's tested step does, and leaves the step's end box and swept box. Assumes nothing.
 use mathlib.Core.Path.{_≡_, refl, ap, _∙_}
 use mathlib.Core.Bool.{Bool}
 use mathlib.Core.List.{List}
@@ -15,11 +15,11 @@ use Rattle.boxes_rates.proofs.Bounds.{wider}
 use Rattle.machine_spec.proofs.InPlace.{trim-moved, trim-as}
 use Rattle.boxes_spec.specs.Step.{step}
 use Rattle.boxes_spec.specs.Reach.{clear}
-use Rattle.boxes.specs.Walked.{ended}
+use Rattle.boxes.specs.ReachResult.{isEnded}
 use Rattle.boxes.proofs.Bounds.{step-ticks, zero-bound}
-use Rattle.boxes.proofs.Turn.{Stepping, leg-unsettled, leg-out, leg-clear, leg-unsafe}
-use Rattle.boxes.proofs.steps.leg.Statement.{statement}
-use Rattle.boxes.proofs.steps.leg.Tie as tie
+use Rattle.boxes.proofs.Turn.{Stepping, tested-unsettled, tested-exhausted, tested-clear, tested-unsafe}
+use Rattle.boxes.proofs.steps.tested_step.Statement.{statement}
+use Rattle.boxes.proofs.steps.tested_step.Tie as tie
 
 -- what is known behind the step
 module _ (r : tie.After-step) where
@@ -86,12 +86,12 @@ arrive-requires c κs =
     ((p .0 .0 .vars, omega (arith, most, q .0)), ((wider (omega arith) (q .1 .1 .0), r .step .ensures .1 .1), (r .step .ensures .1 .0, p .1 .1 .1)))
 
 returns : tie.Need-returns
-unfolding clear ended
+unfolding clear isEnded
 returns c =
     let u = c .before in
     let h = u .before .before in
     let e = h .arrive .ensures in
-    (leg-unsafe (stepping (came h)) (free (came h)) (t h) (i h) (k h .r .given .1) (e .0) (e .1 .1) {x = met h} (u .meets-unsafe .ensures) refl (c .if1 .taken), ((λ no. absurd (differ no refl)), trimmed h))
+    (tested-unsafe (stepping (came h)) (free (came h)) (t h) (i h) (k h .r .given .1) (e .0) (e .1 .1) {x = met h} (u .meets-unsafe .ensures) refl (c .if1 .taken), ((λ no. absurd (differ no refl)), trimmed h))
 
 returns-2 : tie.Need-returns-2
 unfolding clear
@@ -99,24 +99,24 @@ returns-2 c =
     let u = c .before in
     let h = u .before .before in
     let e = h .arrive .ensures in
-    (leg-clear (stepping (came h)) (free (came h)) (t h) (i h) (k h .r .given .1) (e .0) (e .1 .1) {x = met h} (u .meets-unsafe .ensures) refl (c .if1 .left), ((λ yes. (e .1 .0, e .1 .1)), trimmed h))
+    (tested-clear (stepping (came h)) (free (came h)) (t h) (i h) (k h .r .given .1) (e .0) (e .1 .1) {x = met h} (u .meets-unsafe .ensures) refl (c .if1 .left), ((λ yes. (e .1 .0, e .1 .1)), trimmed h))
 
 returns-3 : tie.Need-returns-3
-unfolding ended
+unfolding isEnded
 returns-3 c =
     let k = c .before in
     let r = k .before .before in
-    (leg-unsettled (stepping r) (free r) _ _ (k .r2 .given .0 .0) (k .r2 .given .1), ((λ no. absurd (differ no refl)), s r .pre .1 .1 .1 .0))
+    (tested-unsettled (stepping r) (free r) _ _ (k .r2 .given .0 .0) (k .r2 .given .1), ((λ no. absurd (differ no refl)), s r .pre .1 .1 .1 .0))
 
 returns-4 : tie.Need-returns-4
-unfolding ended
+unfolding isEnded
 returns-4 c =
     let k = c .before in
     let r = k .before .before in
-    (leg-out (stepping r) (free r) _ _ (k .r3 .given .0 .0) (k .r3 .given .1), ((λ no. absurd (differ no refl)), s r .pre .1 .1 .1 .0))
+    (tested-exhausted (stepping r) (free r) _ _ (k .r3 .given .0 .0) (k .r3 .given .1), ((λ no. absurd (differ no refl)), s r .pre .1 .1 .1 .0))
 
-pub leg-spec : {M : Type 1} → statement M
-leg-spec =
+pub tested-step-spec : {M : Type 1} → statement M
+tested-step-spec =
     tie.close
     (tie.spec
     (λ c κs. tt)

@@ -3,11 +3,11 @@ use mathlib.Core.List.{List, [], _∷_}
 use Prim.Native.Nat.{ℕ}
 use lib.IntN.{ℤ}
 use Rattle.machine_spec.specs.Machine.{baseline, command}
-use Rattle.boxes_spec.specs.Step.{Got}
-use Rattle.decision.specs.declared.attempts.Trial.{Trial}
+use Rattle.boxes_spec.specs.Step.{Result}
+use Rattle.decision.specs.declared.attempt.AttemptPlan.{AttemptPlan}
 use Rattle.decision_spec.specs.Decision.{phase, attempt}
 
--- the attempt that a trial asks for, on the sheet v from the box S
-abbrev pub attemptOf : Trial → List ℤ → List ℤ → ℕ → ℕ → Got (List ℤ)
+-- the attempt that a plan asks for, on the sheet v from the box S
+abbrev pub attemptOf : AttemptPlan → List ℤ → List ℤ → ℕ → ℕ → Result (List ℤ)
 attemptOf t v S w c =
     attempt (t .budget .limited) (t .budget .allowance) v w (phase (command (t .command)) (t .first) ∷ phase baseline (t .then) ∷ []) S c

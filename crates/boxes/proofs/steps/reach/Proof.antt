@@ -1,4 +1,4 @@
--- `walk` does what the definition's reach does. Assumes nothing.
+-- `reach` does what the definition's reach does. Assumes nothing.
 use mathlib.Core.Path.{_≡_, refl, ap}
 use mathlib.Core.Logic.{⊎-elim}
 use mathlib.Core.List.{List}
@@ -8,30 +8,30 @@ use lib.IntN.{ℤ}
 use borrow.Author.Needs.{needs}
 use denote.Enum.Declared.{tagOf}
 use Rattle.machine_spec.specs.Box.{hull, trim}
-use Rattle.boxes_arithmetic.specs.Limits.{Sides}
+use Rattle.boxes_arithmetic.specs.Limits.{SidesWithin}
 use Rattle.boxes_rates.specs.Plant.{machineOf}
 use Rattle.boxes_rates.proofs.Bounds.{wider}
 use Rattle.boxes_spec.specs.Reach.{clear}
-use Rattle.boxes.specs.Limits.{walkLimit}
-use Rattle.boxes.specs.Walked.{ended}
-use Rattle.boxes.proofs.Bounds.{Covers, leg-covers}
+use Rattle.boxes.specs.Limits.{reachLimit}
+use Rattle.boxes.specs.ReachResult.{isEnded}
+use Rattle.boxes.proofs.Bounds.{StepBounds, tested-bounds}
 use Rattle.machine_spec.proofs.InPlace.{trim-as-hull}
-use Rattle.boxes.proofs.Turn.{Walking, walking-starts, walking-ends, walking-stops, walking-on}
-use Rattle.boxes.proofs.steps.Walked.{the-type}
-use Rattle.boxes.proofs.steps.walk.Statement.{statement}
-use Rattle.boxes.proofs.steps.walk.Tie as tie
+use Rattle.boxes.proofs.Turn.{Reaching, reaching-starts, reaching-ends, reaching-stops, reaching-on}
+use Rattle.boxes.proofs.steps.ReachResult.{the-type}
+use Rattle.boxes.proofs.steps.reach.Statement.{statement}
+use Rattle.boxes.proofs.steps.reach.Tie as tie
 
 abbrev Inv-loop : tie.InvT-loop
 Inv-loop b p sheet boxes width ticks count end₀ swept₀ work₀ path₀ left₀ c₀ end swept work path left c =
     ((left ≤ ticks) × (c + 73 * left ≤ count + 73 * ticks)) × (((work ≡ end) × ((trim (p .n) end ≡ end) × ((trim (p .n) swept ≡ swept) × (trim (p .n) path ≡ path))))
-    × (Sides (walkLimit + (ticks - left) * 1000) end
-    × Walking (b .limited) (b .allowance) (machineOf p sheet) (clear (p .n) sheet boxes) width end₀ ticks count end swept left c))
+    × (SidesWithin (reachLimit + (ticks - left) * 1000) end
+    × Reaching (b .limited) (b .allowance) (machineOf p sheet) (clear (p .n) sheet boxes) width end₀ ticks count end swept left c))
 
 abbrev μ-loop : tie.MeasureT-loop
 μ-loop b p sheet boxes width ticks count end₀ swept₀ work₀ path₀ left₀ c₀ end swept work path left c = left
 
--- behind a leg
-module _ (g : tie.After-leg Inv-loop μ-loop) where
+-- behind a tested step
+module _ (g : tie.After-tested-step Inv-loop μ-loop) where
   abbrev d : tie.At-loop Inv-loop μ-loop
   d = g .before .before .before .before .before
 
@@ -39,26 +39,26 @@ module _ (g : tie.After-leg Inv-loop μ-loop) where
   s = d .before .before .before .before
 
   abbrev E : List ℤ
-  E = g .leg .last .1 .1 .1 .1 .1 .1 .1 .0
+  E = g .tested-step .last .1 .1 .1 .1 .1 .1 .1 .0
 
   abbrev P : List ℤ
-  P = g .leg .last .1 .1 .1 .1 .1 .1 .1 .1 .1 .0
+  P = g .tested-step .last .1 .1 .1 .1 .1 .1 .1 .1 .1 .0
 
   trimmed : trim (s .args .p .n) E ≡ E
-  trimmed = g .leg .ensures .1 .1
+  trimmed = g .tested-step .ensures .1 .1
 
--- behind a leg that ended
+-- behind a tested step that ended
 module _ (c : tie.After-join Inv-loop μ-loop) where
   abbrev k : tie.After-r Inv-loop μ-loop
   k = c .before .before .before .before
 
-  abbrev came : tie.After-leg Inv-loop μ-loop
+  abbrev came : tie.After-tested-step Inv-loop μ-loop
   came = k .before .before
 
-  -- where the leg arrived
-  arrived : (came .leg .last .1 .1 .1 .1 .1 .1 .1 .1 .0 ≡ E came) × (P came ≡ hull (s came .args .p .n) (d came .loop .end) (E came))
-  unfolding ended
-  arrived = came .leg .ensures .1 .0 (ap ended (k .r .given .1))
+  -- where the tested step arrived
+  arrived : (came .tested-step .last .1 .1 .1 .1 .1 .1 .1 .1 .0 ≡ E came) × (P came ≡ hull (s came .args .p .n) (d came .loop .end) (E came))
+  unfolding isEnded
+  arrived = came .tested-step .ensures .1 .0 (ap isEnded (k .r .given .1))
 
   -- the ticks it covers, the count behind it
   abbrev t : ℕ
@@ -67,11 +67,11 @@ module _ (c : tie.After-join Inv-loop μ-loop) where
   abbrev i : ℕ
   i = k .r .given .0 .1 .0
 
-  covers : Covers (walkLimit + (s came .args .ticks - d came .loop .left) * 1000) (d came .loop .left) t (E came) × (i ≤ d came .loop .c + 73)
+  covers : StepBounds (reachLimit + (s came .args .ticks - d came .loop .left) * 1000) (d came .loop .left) t (E came) × (i ≤ d came .loop .c + 73)
   covers =
       let p = s came .pre in
       let v = d came .loop .inv .1 .1 in
-      leg-covers (v .1) (p .0 .0) (p .1 .0 .0 .0) (p .1 .0 .0 .1) (v .0) (omega arith) (came .leg .result) _ (P came) (came .leg .ensures .0) t i (k .r .given .1)
+      tested-bounds (v .1) (p .0 .0) (p .1 .0 .0 .0) (p .1 .0 .0 .1) (v .0) (omega arith) (came .tested-step .result) _ (P came) (came .tested-step .ensures .0) t i (k .r .given .1)
 
 loop-holds : tie.Need-loop-holds Inv-loop μ-loop
 loop-holds c =
@@ -80,12 +80,12 @@ loop-holds c =
       (omega arith, omega arith),
       (
         (refl, (p .1, (p .1, p .1))),
-        (wider (omega arith) (p .0 .1 .1 .0), walking-starts (s .args .b .limited) (s .args .b .allowance) _ _ (s .args .width) _ (s .args .ticks) (s .args .count)),
+        (wider (omega arith) (p .0 .1 .1 .0), reaching-starts (s .args .b .limited) (s .args .b .allowance) _ _ (s .args .width) _ (s .args .ticks) (s .args .count)),
       ),
     )
 
-leg-requires : tie.Need-leg-requires Inv-loop μ-loop
-leg-requires c κs =
+tested-step-requires : tie.Need-tested-step-requires Inv-loop μ-loop
+tested-step-requires c κs =
     let d = c .before .before .before .before in
     let p = d .before .before .before .before .pre in
     let q = p .1 .0 in
@@ -95,8 +95,8 @@ leg-requires c κs =
 returns : tie.Need-returns Inv-loop μ-loop
 returns c =
     let g = c .before in (
-      walking-stops (d g .loop .inv .1 .1 .1) (g .leg .result) _ _ (omega arith) (g .leg .ensures .0) _
-          (λ t i q. let z : tagOf the-type (g .leg .result) ≡ 0 = ap (tagOf the-type) q in ⊎-elim (λ o. omega arith) (⊎-elim (λ o. omega arith) (λ o. omega arith)) (c .match .keys2)),
+      reaching-stops (d g .loop .inv .1 .1 .1) (g .tested-step .result) _ _ (omega arith) (g .tested-step .ensures .0) _
+          (λ t i q. let z : tagOf the-type (g .tested-step .result) ≡ 0 = ap (tagOf the-type) q in ⊎-elim (λ o. omega arith) (⊎-elim (λ o. omega arith) (λ o. omega arith)) (c .match .keys2)),
       trimmed g,
     )
 
@@ -117,22 +117,22 @@ loop-again c =
         (arrived c .0, (trimmed g, (trim-as-hull m (d g .loop .swept) (P g) room (c .join .ensures), trim-as-hull m (d g .loop .end) (E g) room (arrived c .1)))),
         (
           wider (omega (arith, n .0 .some, n .0 .most, v .0)) (n .0 .sides),
-          walking-on (v .1 .1 .1) (g .leg .result) _ (P g) (omega arith) (g .leg .ensures .0) (t c) (i c) (k c .r .given .1) (n .0 .some) (n .0 .most) (arrived c .1) _ (c .join .ensures),
+          reaching-on (v .1 .1 .1) (g .tested-step .result) _ (P g) (omega arith) (g .tested-step .ensures .0) (t c) (i c) (k c .r .given .1) (n .0 .some) (n .0 .most) (arrived c .1) _ (c .join .ensures),
         ),
       ),
     )
 
 returns-2 : tie.Need-returns-2 Inv-loop μ-loop
-returns-2 c = let v = c .before .loop .inv .1 in (walking-ends (v .1 .1) (omega arith), v .0 .1 .0)
+returns-2 c = let v = c .before .loop .inv .1 in (reaching-ends (v .1 .1) (omega arith), v .0 .1 .0)
 
-pub walk-spec : {M : Type 1} → statement M
-walk-spec =
+pub reach-spec : {M : Type 1} → statement M
+reach-spec =
     tie.close
     (tie.spec
     Inv-loop
     μ-loop
     loop-holds
-    leg-requires
+    tested-step-requires
     (λ c. search needs)
     returns
     join-requires

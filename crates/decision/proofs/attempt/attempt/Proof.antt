@@ -14,22 +14,22 @@ use denote.Enum.Declared.{tagOf}
 use Rattle.sheet_spec.specs.Slots.{vars, recoveryBox}
 use Rattle.machine_spec.specs.Box.{trim, within}
 use Rattle.machine_spec.specs.Machine.{baseline, command, machine, lawOf}
-use Rattle.boxes_arithmetic.specs.Limits.{Sides}
+use Rattle.boxes_arithmetic.specs.Limits.{SidesWithin}
 use Rattle.boxes_rates.specs.Plant.{machineOf}
 use Rattle.boxes_rates.proofs.Bounds.{wider}
-use Rattle.boxes.specs.declared.steps.Walked.{Walked}
-use Rattle.boxes.specs.declared.steps.Walked.the-variants.{Ended}
-use Rattle.boxes_spec.specs.Step.{Got}
-use Rattle.boxes.specs.Walked.{walked}
-use Rattle.boxes.proofs.steps.Walked.{the-type}
+use Rattle.boxes.specs.declared.steps.ReachResult.{ReachResult}
+use Rattle.boxes.specs.declared.steps.ReachResult.the-variants.{Ended}
+use Rattle.boxes_spec.specs.Step.{Result}
+use Rattle.boxes.specs.ReachResult.{reachedOf}
+use Rattle.boxes.proofs.steps.ReachResult.{the-type}
 use Rattle.decision_spec.specs.Decision.{Phase, phase, attempt}
-use Rattle.decision.specs.Attempted.{summary}
+use Rattle.decision.specs.AttemptResult.{summary}
 use Rattle.decision.specs.Limits.{startLimit}
 use Rattle.decision.proofs.Turn.{reached, plant-usable, plant-vars, plant-trimmed, vars-trimmed, plant-reach, phase-near, phase-on, phase-stops, attempt-succeeds, attempt-fails, within-trim}
-use Rattle.decision.proofs.attempts.attempt.Statement.{statement}
-use Rattle.decision.proofs.attempts.attempt.Tie as tie
+use Rattle.decision.proofs.attempt.attempt.Statement.{statement}
+use Rattle.decision.proofs.attempt.attempt.Tie as tie
 
-not-ended : {r : Walked} → (tagOf the-type r ≡ 1) ⊎ ((tagOf the-type r ≡ 2) ⊎ (tagOf the-type r ≡ 3)) → (t d : ℕ) → r ≡ Ended t d → ⊥
+not-ended : {r : ReachResult} → (tagOf the-type r ≡ 1) ⊎ ((tagOf the-type r ≡ 2) ⊎ (tagOf the-type r ≡ 3)) → (t d : ℕ) → r ≡ Ended t d → ⊥
 not-ended {r} k t d q = let z : tagOf the-type r ≡ 0 = ap (tagOf the-type) q in ⊎-elim (λ o. omega arith) (⊎-elim (λ o. omega arith) (λ o. omega arith)) k
 
 -- behind the plant
@@ -52,33 +52,33 @@ module _ (c : tie.After-plant) where
   abbrev last : Phase
   last = phase baseline (s .args .t .then)
 
-  abbrev tried : List Phase → List ℤ → ℕ → Got (List ℤ)
+  abbrev tried : List Phase → List ℤ → ℕ → Result (List ℤ)
   tried = attempt l a v (s .args .width)
 
   under : machineOf (c .plant .result) v ≡ machine v (first .law)
   unfolding lawOf
   under = let f : SFits w32 (s .args .t .command) = search needs in c .plant .ensures ∙ ap (λ (u : ℤ). machine v (command u)) (toZ-ofZ f)
 
--- behind the first walk
-module _ (c : tie.After-walk) where
+-- behind the first reach
+module _ (c : tie.After-reach) where
   abbrev p : tie.After-plant
   p = c .before .before .before .before .before
 
   abbrev E : List ℤ
-  E = c .walk .last .1 .1 .1 .1 .1 .1 .1 .0
+  E = c .reach .last .1 .1 .1 .1 .1 .1 .1 .0
 
   abbrev W : List ℤ
-  W = c .walk .last .1 .1 .1 .1 .1 .1 .1 .1 .0
+  W = c .reach .last .1 .1 .1 .1 .1 .1 .1 .1 .0
 
-  walk-first : walked E W (c .walk .result) ≡ reached (l p) (a p) (v p) (s p .args .width) (first p) (s p .args .start .now) (s p .args .count)
-  walk-first = c .walk .ensures .0 ∙ plant-reach (p .plant .result) _ (under p) _ _ _ _ _ _ _ (c .before .before .before .before .count .ensures)
+  reach-first : reachedOf E W (c .reach .result) ≡ reached (l p) (a p) (v p) (s p .args .width) (first p) (s p .args .start .now) (s p .args .count)
+  reach-first = c .reach .ensures .0 ∙ plant-reach (p .plant .result) _ (under p) _ _ _ _ _ _ _ (c .before .before .before .before .count .ensures)
 
   trimmed : trim (vars (v p)) E ≡ E
-  trimmed = vars-trimmed (p .plant .result) _ (under p) (c .walk .ensures .1)
+  trimmed = vars-trimmed (p .plant .result) _ (under p) (c .reach .ensures .1)
 
 -- where it ended
 module _ (c : tie.After-r) where
-  abbrev g : tie.After-walk
+  abbrev g : tie.After-reach
   g = c .before .before
 
   abbrev t : ℕ
@@ -87,14 +87,14 @@ module _ (c : tie.After-r) where
   abbrev d : ℕ
   d = c .r .given .0 .1 .0
 
-  near : Sides (startLimit + s (p g) .args .t .first * 1000) (E g) × (d ≤ s (p g) .args .count + 73 * s (p g) .args .t .first)
-  near = phase-near _ _ _ _ (first (p g)) [] _ _ _ (E g) (W g) (walk-first g) t d (c .r .given .1) (s (p g) .pre .0 .0) (s (p g) .pre .1 .1 .0) (s (p g) .pre .1 .1 .1 .0) (s (p g) .pre .0 .1 .0)
+  near : SidesWithin (startLimit + s (p g) .args .t .first * 1000) (E g) × (d ≤ s (p g) .args .count + 73 * s (p g) .args .t .first)
+  near = phase-near _ _ _ _ (first (p g)) [] _ _ _ (E g) (W g) (reach-first g) t d (c .r .given .1) (s (p g) .pre .0 .0) (s (p g) .pre .1 .1 .0) (s (p g) .pre .1 .1 .1 .0) (s (p g) .pre .0 .1 .0)
 
   first-on : tried (p g) (first (p g) ∷ last (p g) ∷ []) (s (p g) .args .start .now) (s (p g) .args .count) ≡ tried (p g) (last (p g) ∷ []) (E g) d
-  first-on = phase-on _ _ _ _ (first (p g)) _ _ _ _ (E g) (W g) (walk-first g) t d (c .r .given .1)
+  first-on = phase-on _ _ _ _ (first (p g)) _ _ _ _ (E g) (W g) (reach-first g) t d (c .r .given .1)
 
--- behind the second walk
-module _ (c : tie.After-walk2) where
+-- behind the second reach
+module _ (c : tie.After-reach2) where
   abbrev k : tie.After-r
   k = c .before .before .before .before .before .before
 
@@ -102,18 +102,18 @@ module _ (c : tie.After-walk2) where
   h = p (g k)
 
   abbrev F : List ℤ
-  F = c .walk2 .last .1 .1 .1 .1 .1 .1 .1 .0
+  F = c .reach2 .last .1 .1 .1 .1 .1 .1 .1 .0
 
   abbrev X : List ℤ
-  X = c .walk2 .last .1 .1 .1 .1 .1 .1 .1 .1 .0
+  X = c .reach2 .last .1 .1 .1 .1 .1 .1 .1 .1 .0
 
-  walk-last : walked F X (c .walk2 .result) ≡ reached (l h) (a h) (v h) (s h .args .width) (last h) (E (g k)) (d k)
+  reach-last : reachedOf F X (c .reach2 .result) ≡ reached (l h) (a h) (v h) (s h .args .width) (last h) (E (g k)) (d k)
   unfolding lawOf
-  walk-last = c .walk2 .ensures .0 ∙ plant-reach (c .before .before .before .plant2 .result) _ (c .before .before .before .plant2 .ensures) _ _ _ _ _ _ _ (g k .before .before .before .before .count .ensures)
+  reach-last = c .reach2 .ensures .0 ∙ plant-reach (c .before .before .before .plant2 .result) _ (c .before .before .before .plant2 .ensures) _ _ _ _ _ _ _ (g k .before .before .before .before .count .ensures)
 
 -- where it ended
 module _ (c : tie.After-q) where
-  abbrev j : tie.After-walk2
+  abbrev j : tie.After-reach2
   j = c .before .before
 
   abbrev m : tie.After-r
@@ -123,7 +123,7 @@ module _ (c : tie.After-q) where
   i = c .q .given .0 .1 .0
 
   both-on : tried (h j) (first (h j) ∷ last (h j) ∷ []) (s (h j) .args .start .now) (s (h j) .args .count) ≡ tried (h j) [] (F j) i
-  both-on = first-on m ∙ phase-on _ _ _ _ (last (h j)) [] _ _ _ (F j) (X j) (walk-last j) (c .q .given .0 .0) i (c .q .given .1)
+  both-on = first-on m ∙ phase-on _ _ _ _ (last (h j)) [] _ _ _ (F j) (X j) (reach-last j) (c .q .given .0 .0) i (c .q .given .1)
 
 -- the test against the recovery box
 module _ (c : tie.After-within) where
@@ -142,8 +142,8 @@ module _ (c : tie.After-within) where
 count-requires : tie.Need-count-requires
 count-requires c κs = let q = s c .pre .0 .0 in (omega arith, q .head 2 (omega arith))
 
-walk-requires : tie.Need-walk-requires
-walk-requires c κs =
+reach-requires : tie.Need-reach-requires
+reach-requires c κs =
     let b = c .before .before .before in
     let r = b .before in
     let q = s r .pre in (
@@ -157,10 +157,10 @@ walk-requires c κs =
 returns : tie.Need-returns
 returns c =
     let y = c .before .before in
-    c .summary-of .ensures (E y) (W y) ∙ phase-stops _ _ _ _ (first (p y)) (last (p y) ∷ []) _ _ _ (E y) (W y) (walk-first y) (not-ended (c .before .match .keys2))
+    c .summary-of .ensures (E y) (W y) ∙ phase-stops _ _ _ _ (first (p y)) (last (p y) ∷ []) _ _ _ (E y) (W y) (reach-first y) (not-ended (c .before .match .keys2))
 
-walk-requires-2 : tie.Need-walk-requires-2
-walk-requires-2 c κs =
+reach-requires-2 : tie.Need-reach-requires-2
+reach-requires-2 c κs =
     let z = c .before .before .before .before .before in
     let q = s (p (g z)) .pre in
     let n = near z in (
@@ -174,7 +174,7 @@ walk-requires-2 c κs =
 returns-2 : tie.Need-returns-2
 returns-2 c =
     let y = c .before .before in
-    c .summary-of2 .ensures (F y) (X y) ∙ phase-stops _ _ _ _ (last (h y)) [] _ _ _ (F y) (X y) (walk-last y) (not-ended (c .before .match2 .keys2)) ∙ ap summary (sym (first-on (k y)))
+    c .summary-of2 .ensures (F y) (X y) ∙ phase-stops _ _ _ _ (last (h y)) [] _ _ _ (F y) (X y) (reach-last y) (not-ended (c .before .match2 .keys2)) ∙ ap summary (sym (first-on (k y)))
 
 box-at-requires : tie.Need-box-at-requires
 box-at-requires c κs = let r = h (j (c .before)) in (omega (arith, plant-vars (r .plant .result) _ (under r), s r .pre .0 .0 .vars-high), omega arith)
@@ -198,12 +198,12 @@ attempt-spec =
     (tie.spec
     (λ c κs. search needs)
     count-requires
-    walk-requires
+    reach-requires
     (λ c. search needs)
     (λ c κs. search needs)
     returns
     (λ c κs. search needs)
-    walk-requires-2
+    reach-requires-2
     (λ c. search needs)
     (λ c κs. search needs)
     returns-2
