@@ -2,9 +2,11 @@
  *
  *     drive sheet.bin
  *
- * It reads the sheet once and runs the recovery check. Then, period by period, it measures, asks the
- * guard about the coach's command, and acts on the answer. At the end it lets the same coach command
- * without the guard, to show the difference; the simulated sledge has no buffers that would stop it.
+ * It reads the sheet once and runs the recovery check. Then, LEAD ticks before each period, it
+ * measures, moves the measured box on to the period's start, and asks the guard about the coach's
+ * command; from the period's first tick on it acts on the answer. It moves boxes on by a reach, and
+ * in a second run by the caps alone, to compare. At the end it lets the same coach command without
+ * the guard, to show the difference; the simulated sledge has no buffers that would stop it.
  * All arithmetic is in whole numbers, so that it prints the same everywhere. */
 
 #include "guard.h"
@@ -12,7 +14,11 @@
 #include <stdio.h>
 #include <stdlib.h>
 
-enum { PERIODS = 1000, ALLOWANCE = 400 };
+enum {
+    PERIODS = 1000,
+    ALLOWANCE = 400,
+    LEAD = 2 /* ticks from the measurement to the period's start: time to measure and to ask */
+};
 
 /* The variables of the sheet, in its order. */
 enum { POSITION = 0, COASTING = 1, VARIABLES = 2 };
@@ -55,6 +61,24 @@ static int64_t coasting_of(int64_t position, int64_t speed)
     return position + speed * TAU_MS / 1000;
 }
 
+static int32_t step_below(int64_t nm)
+{
+    int64_t step = nm / NM_PER_STEP;
+    return (int32_t)(step * NM_PER_STEP > nm ? step - 1 : step);
+}
+
+static int32_t step_above(int64_t nm)
+{
+    return -step_below(-nm);
+}
+
+/* The true state, in whole steps of the sheet. */
+static void state_of(const struct sledge *sledge, int32_t state[VARIABLES])
+{
+    state[POSITION] = step_below(sledge->position + NM_PER_STEP / 2);
+    state[COASTING] = step_below(coasting_of(sledge->position, sledge->speed) + NM_PER_STEP / 2);
+}
+
 /* ---- measuring -------------------------------------------------------------------------------- */
 
 enum { POSITION_ERROR = 200000, SPEED_ERROR = 15000000 }; /* nm and nm/s */
@@ -68,29 +92,42 @@ static struct sledge measure(const struct sledge *sledge)
     return measured;
 }
 
-static int32_t step_below(int64_t nm)
-{
-    int64_t step = nm / NM_PER_STEP;
-    return (int32_t)(step * NM_PER_STEP > nm ? step - 1 : step);
-}
-
-static int32_t step_above(int64_t nm)
-{
-    return -step_below(-nm);
-}
+/* A box: side 2i is variable i's lower side, side 2i + 1 its upper side. */
+struct box {
+    int32_t sides[2 * VARIABLES];
+};
 
 /* The measured box: its sides by the corners, rounded outward. */
-static void measured_box(const struct sledge *measured, int32_t sides[2 * VARIABLES])
+static struct box measured_box(const struct sledge *measured)
 {
     int64_t low = measured->position - POSITION_ERROR;
     int64_t high = measured->position + POSITION_ERROR;
-    sides[2 * POSITION] = step_below(low);
-    sides[2 * POSITION + 1] = step_above(high);
-    sides[2 * COASTING] = step_below(coasting_of(low, measured->speed - SPEED_ERROR));
-    sides[2 * COASTING + 1] = step_above(coasting_of(high, measured->speed + SPEED_ERROR));
+    struct box box;
+    box.sides[2 * POSITION] = step_below(low);
+    box.sides[2 * POSITION + 1] = step_above(high);
+    box.sides[2 * COASTING] = step_below(coasting_of(low, measured->speed - SPEED_ERROR));
+    box.sides[2 * COASTING + 1] = step_above(coasting_of(high, measured->speed + SPEED_ERROR));
+    return box;
+}
+
+/* Whether the box holds the true state. */
+static bool holds(const struct box *box, const struct sledge *sledge)
+{
+    int32_t state[VARIABLES];
+    state_of(sledge, state);
+    for (size_t i = 0; i < VARIABLES; i++)
+        if (state[i] < box->sides[2 * i] || box->sides[2 * i + 1] < state[i])
+            return false;
+    return true;
 }
 
 /* ---- who commands ----------------------------------------------------------------------------- */
+
+/* What acts on the motor: the coach's command if it was kept, the plain law otherwise. */
+struct law {
+    bool kept;
+    int32_t command; /* of the coach */
+};
 
 /* The plain law of leg_press.txt, with the motor's inaccuracy. */
 static int32_t plain_force(const struct sledge *measured)
@@ -111,7 +148,7 @@ static int32_t coach_force(void)
     return random_within(-1200, 450);
 }
 
-/* The legs push anew every period, with 0 to 800 N. */
+/* The legs push anew every few ticks, with 0 to 800 N. */
 static int32_t legs_push(void)
 {
     return random_within(0, 4) == 0 ? 800 * random_within(0, 1) : random_within(0, 800);
@@ -153,6 +190,10 @@ static bool set_up(struct sheet *sheet)
         printf("not a sheet for this machine\n");
         return false;
     }
+    if (number(sheet, GUARD_SLOT_DELTA) < LEAD) {
+        printf("a period is too short to measure and ask\n");
+        return false;
+    }
     answer = guard_recovery(sheet->bytes, sheet->length);
     printf("recovery check %s, width %u, %u rounds\n",
            guard_code(answer) == GUARD_PASS ? "pass" : "fail", guard_width(answer),
@@ -163,10 +204,8 @@ static bool set_up(struct sheet *sheet)
 /* Whether the true state, in whole steps, is in a no-go box. */
 static bool forbidden(const struct sheet *sheet, const struct sledge *sledge)
 {
-    int32_t state[VARIABLES] = {
-        step_below(sledge->position + NM_PER_STEP / 2),
-        step_below(coasting_of(sledge->position, sledge->speed) + NM_PER_STEP / 2),
-    };
+    int32_t state[VARIABLES];
+    state_of(sledge, state);
     for (int32_t j = 0; j < number(sheet, GUARD_SLOT_UNSAFE_BOXES); j++) {
         size_t slot = guard_slot_unsafe((size_t)j);
         bool inside = true;
@@ -179,24 +218,69 @@ static bool forbidden(const struct sheet *sheet, const struct sledge *sledge)
     return false;
 }
 
+/* ---- moving a box on to the period's start ---------------------------------------------------- */
+
+/* By a reach under the law that acts now: its end box holds the state so many ticks later. At width
+ * 1 it takes one round for each tick. False if it is refused: then there is no box to ask about. */
+static bool move_by_reach(const struct sheet *sheet, struct law now, uint32_t ticks,
+                          struct box *box)
+{
+    uint8_t start[8 * VARIABLES];
+    uint8_t boxes[16 * VARIABLES]; /* the end box, then the swept box */
+    for (size_t i = 0; i < 2 * VARIABLES; i++)
+        guard_put(start, i, box->sides[i]);
+    uint64_t answer = guard_reach(sheet->bytes, sheet->length, ticks, 1, now.kept ? 1 : 0,
+                                  now.command, start, sizeof start, boxes, sizeof boxes);
+    if (guard_is_refused(answer))
+        return false;
+    for (size_t i = 0; i < 2 * VARIABLES; i++)
+        box->sides[i] = guard_get(boxes, i);
+    return true;
+}
+
+/* By the caps: no variable changes by more than its cap in a tick, whatever acts. False if a side is
+ * reversed or out of range: after the widening that might not be seen. */
+static bool move_by_caps(const struct sheet *sheet, uint32_t ticks, struct box *box)
+{
+    enum { GREATEST_SIDE = 1000000 };
+    for (size_t i = 0; i < VARIABLES; i++) {
+        int32_t lower = box->sides[2 * i], upper = box->sides[2 * i + 1];
+        int32_t most = number(sheet, GUARD_SLOT_CAPS + i) * (int32_t)ticks;
+        if (lower > upper || lower < -GREATEST_SIDE || upper > GREATEST_SIDE)
+            return false;
+        box->sides[2 * i] = lower - most;
+        box->sides[2 * i + 1] = upper + most;
+    }
+    return true;
+}
+
+/* How a run moves its boxes on, or that it does not ask. */
+enum mode { BY_REACH, BY_CAPS, UNGUARDED };
+
+static bool move_on(const struct sheet *sheet, enum mode mode, struct law now, struct box *box)
+{
+    return mode == BY_REACH ? move_by_reach(sheet, now, LEAD, box) : move_by_caps(sheet, LEAD, box);
+}
+
 /* ---- the loop --------------------------------------------------------------------------------- */
 
 struct summary {
     unsigned answers[4]; /* by code */
     unsigned unasked;
     uint32_t most_rounds;
+    unsigned boxes;                           /* asked about */
+    unsigned held_as_measured, held_as_moved; /* of these, with the state at the period's start */
+    int32_t widest[VARIABLES];                /* of the boxes moved on */
     int64_t least_position, greatest_position;
     unsigned forbidden_ticks;
 };
 
 /* One question, and whether the coach's command may act for the next period. */
-static bool ask(const struct sheet *sheet, const struct sledge *measured, int32_t command,
+static bool ask(const struct sheet *sheet, const struct box *box, int32_t command,
                 struct summary *summary)
 {
-    int32_t sides[2 * VARIABLES];
     uint8_t question[GUARD_LONGEST_QUESTION];
-    measured_box(measured, sides);
-    size_t length = guard_question(question, ALLOWANCE, command, sides, VARIABLES);
+    size_t length = guard_question(question, ALLOWANCE, command, box->sides, VARIABLES);
     uint64_t answer = guard_decide(sheet->bytes, sheet->length, question, length);
     summary->answers[guard_code(answer)]++;
     if (guard_rounds(answer) > summary->most_rounds)
@@ -204,14 +288,14 @@ static bool ask(const struct sheet *sheet, const struct sledge *measured, int32_
     return guard_code(answer) == GUARD_KEEP;
 }
 
-/* delta ticks under the command, or under the plain law, which reads the sensors every tick. */
-static void act(const struct sheet *sheet, struct sledge *sledge, bool kept, int32_t command,
+/* So many ticks under the command, or under the plain law, which reads the sensors every tick. */
+static void act(const struct sheet *sheet, struct sledge *sledge, struct law now, int32_t ticks,
                 struct summary *summary)
 {
     int32_t legs = legs_push();
-    for (int32_t t = 0; t < number(sheet, GUARD_SLOT_DELTA); t++) {
+    for (int32_t t = 0; t < ticks; t++) {
         struct sledge measured = measure(sledge);
-        tick(sledge, kept ? command : plain_force(&measured), legs);
+        tick(sledge, now.kept ? now.command : plain_force(&measured), legs);
         if (sledge->position < summary->least_position)
             summary->least_position = sledge->position;
         if (sledge->position > summary->greatest_position)
@@ -220,50 +304,92 @@ static void act(const struct sheet *sheet, struct sledge *sledge, bool kept, int
     }
 }
 
-static void guarded_period(const struct sheet *sheet, struct sledge *sledge,
-                           struct summary *summary)
+/* At a period's start: whether the box that was asked about holds the true state, which only a
+ * simulation knows. */
+static void look_at_box(const struct box *measured, const struct box *moved,
+                        const struct sledge *sledge, struct summary *summary)
 {
-    struct sledge measured = measure(sledge);
-    bool sensors_fail = random_within(0, 49) == 0;
-    int32_t command = coach_force();
-    bool kept = false;
-    if (sensors_fail)
-        summary->unasked++; /* no question: the plain law */
-    else
-        kept = ask(sheet, &measured, command, summary);
-    act(sheet, sledge, kept, command, summary);
+    summary->boxes++;
+    summary->held_as_measured += holds(measured, sledge);
+    summary->held_as_moved += holds(moved, sledge);
+    for (size_t i = 0; i < VARIABLES; i++) {
+        int32_t wide = moved->sides[2 * i + 1] - moved->sides[2 * i];
+        if (wide > summary->widest[i])
+            summary->widest[i] = wide;
+    }
 }
 
-static struct summary run(const struct sheet *sheet, bool guarded)
+/* One period under the law that acts now. LEAD ticks before its end the drive measures and asks;
+ * the answer says what acts in the next period. */
+static struct law guarded_period(const struct sheet *sheet, struct sledge *sledge, struct law now,
+                                 enum mode mode, struct summary *summary)
+{
+    act(sheet, sledge, now, number(sheet, GUARD_SLOT_DELTA) - LEAD, summary);
+
+    struct law next = {false, coach_force()};
+    struct sledge sensors = measure(sledge);
+    bool sensors_fail = random_within(0, 49) == 0;
+    struct box measured = measured_box(&sensors);
+    struct box moved = measured;
+    bool asked = !sensors_fail && move_on(sheet, mode, now, &moved);
+    if (asked)
+        next.kept = ask(sheet, &moved, next.command, summary);
+    else
+        summary->unasked++; /* no question: the plain law */
+
+    act(sheet, sledge, now, LEAD, summary); /* in a real drive, while it measures and asks */
+
+    if (asked)
+        look_at_box(&measured, &moved, sledge, summary);
+    return next;
+}
+
+static struct summary run(const struct sheet *sheet, enum mode mode)
 {
     struct sledge sledge = {300 * 1000000, 0}; /* in the recovery box, at rest */
-    struct summary summary = {{0}, 0, 0, sledge.position, sledge.position, 0};
-    random_state = 1;
+    struct summary summary = {.least_position = sledge.position,
+                              .greatest_position = sledge.position};
+    struct law now = {false, 0}; /* no question was asked for the first period: the plain law */
+    random_state = 2;            /* from here each kind of answer occurs */
     for (int i = 0; i < PERIODS; i++) {
-        if (guarded)
-            guarded_period(sheet, &sledge, &summary);
-        else
-            act(sheet, &sledge, true, coach_force(), &summary);
+        if (mode != UNGUARDED) {
+            now = guarded_period(sheet, &sledge, now, mode, &summary);
+        } else {
+            now = (struct law){true, coach_force()};
+            act(sheet, &sledge, now, number(sheet, GUARD_SLOT_DELTA), &summary);
+        }
     }
     return summary;
 }
 
-static void print(const struct summary *summary)
+static void print_travel(const struct summary *summary)
 {
+    printf("position %d to %d mm, %u ticks in a no-go box\n",
+           (int)(summary->least_position / 1000000), (int)(summary->greatest_position / 1000000),
+           summary->forbidden_ticks);
+}
+
+static void print(const char *name, const struct summary *summary)
+{
+    printf("%s\n", name);
     printf("periods %d\n", PERIODS);
     printf("kept %u\n", summary->answers[GUARD_KEEP]);
     printf("over finest %u\n", summary->answers[GUARD_FINEST]);
     printf("over spent %u\n", summary->answers[GUARD_SPENT]);
     printf("refused %u\n", summary->answers[GUARD_REFUSED]);
     printf("no question %u\n", summary->unasked);
-    printf("most rounds in a period %u\n", summary->most_rounds);
+    printf("most rounds in a decision %u\n", summary->most_rounds);
+    printf("true state at the period's start: in %u of %u boxes moved on, in %u as measured\n",
+           summary->held_as_moved, summary->boxes, summary->held_as_measured);
+    printf("widest box moved on: position %d, coasting %d steps\n", (int)summary->widest[POSITION],
+           (int)summary->widest[COASTING]);
+    print_travel(summary);
 }
 
-static void print_travel(const char *name, const struct summary *summary)
+/* The machine kept out of the no-go boxes, and every box that was asked about held its state. */
+static bool as_promised(const struct summary *summary)
 {
-    printf("%s: position %d to %d mm, %u ticks in a no-go box\n", name,
-           (int)(summary->least_position / 1000000), (int)(summary->greatest_position / 1000000),
-           summary->forbidden_ticks);
+    return summary->forbidden_ticks == 0 && summary->held_as_moved == summary->boxes;
 }
 
 int main(int count, char **words)
@@ -275,10 +401,12 @@ int main(int count, char **words)
     }
     if (!set_up(&sheet))
         return EXIT_FAILURE;
-    struct summary guarded = run(&sheet, true);
-    struct summary unguarded = run(&sheet, false);
-    print(&guarded);
-    print_travel("with the guard", &guarded);
-    print_travel("without it", &unguarded);
-    return guarded.forbidden_ticks == 0 ? EXIT_SUCCESS : EXIT_FAILURE;
+    struct summary by_reach = run(&sheet, BY_REACH);
+    struct summary by_caps = run(&sheet, BY_CAPS);
+    struct summary unguarded = run(&sheet, UNGUARDED);
+    print("-- with the guard, boxes moved on by a reach", &by_reach);
+    print("-- with the guard, boxes moved on by the caps", &by_caps);
+    printf("-- without the guard\n");
+    print_travel(&unguarded);
+    return as_promised(&by_reach) && as_promised(&by_caps) ? EXIT_SUCCESS : EXIT_FAILURE;
 }
