@@ -4,6 +4,7 @@ pub mod Stages
 pub mod Settled
 pub mod Sound
 pub mod Count
+pub mod Cut
 pub mod Refusals
 pub mod Order
 pub mod Ranges

@@ -4,4 +4,5 @@ pub mod Starred
 pub mod Cover
 pub mod Attempt
 pub mod Allowance
+pub mod Spent
 mod Reference

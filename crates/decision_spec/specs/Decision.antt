@@ -72,9 +72,13 @@ attempts attemptAt (suc fuel) w c = outcome (attemptAt w c) w (λ c′. attempts
 unfoldable pub decisionPhases : List ℤ → ℤ → List Phase
 decisionPhases v u = phase (command u) (δ v) ∷ phase baseline (α v) ∷ []
 
+-- from the measured box B, with an allowance (if `limited`)
+abbrev pub decisionWithin : Bool → ℕ → List ℤ → List ℤ → ℤ → Reply
+decisionWithin limited allowance v B u =
+    attempts (λ w c. attempt limited allowance v w (decisionPhases v u) B c) (max (δ v) (α v)) (max (δ v) (α v)) 0
+
 unfoldable pub decisionOf : List ℤ → List ℤ → ℤ → ℕ → Reply
-decisionOf v B u allowance =
-    attempts (λ w c. attempt true allowance v w (decisionPhases v u) B c) (max (δ v) (α v)) (max (δ v) (α v)) 0
+decisionOf v B u allowance = decisionWithin true allowance v B u
 
 -- ρ ticks under the plain law from the recovery box, with no allowance
 unfoldable pub recoveryPhases : List ℤ → List Phase

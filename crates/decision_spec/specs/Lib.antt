@@ -4,5 +4,6 @@ pub mod Numbers
 pub mod ReachCall
 pub mod Question
 pub mod Decision
+pub mod Spent
 pub mod Listing
 pub mod Starred

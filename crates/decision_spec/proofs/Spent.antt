@@ -1,0 +1,148 @@
+-- A decision is spent exactly if it would count more rounds than its allowance. An attempt with an allowance is the attempt with none, cut at the allowance
+-- (boxes_spec/proofs/Cut), and so is the decision over all widths. Assumes nothing.
+use mathlib.Core.Path.{_≡_, refl, sym, ap, _∙_, subst}
+use mathlib.Core.Bool.{Bool, true, false}
+use mathlib.Core.List.{List, [], _∷_}
+use Prim.Native.Nat.{ℕ, zero, suc, _+_, _*_, _-_, _/_, _≤_, _<_, max}
+use native.Mathlib.Nat.{le-refl, le-trans, lt-of-lt-of-le}
+use native.Mathlib.Omega.{arith}
+use lib.Dec.{leb}
+use lib.IntN.{ℤ}
+use lib.ListN.{getD, take, drop}
+use lib.Seq.{getD-take, drop-drop}
+use mir.Syntax.{w32}
+use borrow.Author.Tests.{lt-ltb, le-ltb, ltb-true, le-leb, leb-true}
+use Rattle.integers.specs.Bytes.{decode}
+use Rattle.sheet_spec.specs.Slots.{vars, boxes, δ, α, recoveryBox}
+use Rattle.sheet_spec.specs.Sheet.{refusal, values}
+use Rattle.machine_spec.specs.Box.{boxOf, within}
+use Rattle.machine_spec.specs.Machine.{machine}
+use Rattle.machine_spec.proofs.Box.{differ}
+use Rattle.boxes_spec.specs.Step.{Result, ok, failed, exhausted}
+use Rattle.boxes_spec.specs.Reach.{clear}
+use Rattle.boxes_spec.proofs.Count.{count, cond-zero}
+use Rattle.boxes_spec.proofs.Cut.{Cut, value, failure, spent, CutFrom, cut-value, cut-failure, cut-if, cut-then, reach-cut}
+use Rattle.decision_spec.specs.Question.{i32, formRefusal, allowanceRefusal, questionRefusal, allowanceOf, commandOf, pairs, measured}
+use Rattle.decision_spec.specs.Decision.{Phase, follow, attempt, keep, finest, spent, Reply, refused, answered, outcome, attempts, decisionPhases, decisionWithin, decisionOf, unlessRefused, decide, roundsOf}
+use Rattle.decision_spec.specs.Spent.{isSpent, CutAt, SpentOnValues, SameButAllowance, SpentOnBytes}
+
+-- ---- an attempt
+
+module _ (A : ℕ) (v : List ℤ) (w : ℕ) where
+  follow-cut : (ps : List Phase) (S : List ℤ) (c : ℕ) → CutFrom A c (follow true A v w ps S c) (follow false 0 v w ps S c)
+  unfolding follow
+  follow-cut [] S c = cut-value
+  follow-cut (p ∷ ps) S c = cut-then _ _ (λ r c′. follow-cut ps (r .end) c′) (reach-cut A (machine v (p .law)) (clear (vars v) v (boxes v)) w S (p .ticks) c)
+
+  attempt-cut : (ps : List Phase) (S : List ℤ) (c : ℕ) → CutFrom A c (attempt true A v w ps S c) (attempt false 0 v w ps S c)
+  unfolding attempt
+  attempt-cut ps S c = cut-then _ _ (λ E c′. cut-if (within (vars v) E (recoveryBox v)) cut-value cut-failure) (follow-cut ps S c)
+
+-- ---- attempts at ever smaller widths
+
+module _ {A : ℕ} where
+  same-reply : (r : Reply) → isSpent r ≡ false → roundsOf r ≤ A → CutAt A r r
+  same-reply r n h = record { exactly = n ∙ sym (le-ltb A (roundsOf r) h); rounds = λ e. absurd (differ e n); same = λ _. refl }
+
+  spent-reply : (w : ℕ) (more : Reply) → A < roundsOf more → CutAt A (answered spent w A) more
+  unfolding isSpent roundsOf
+  spent-reply w more h = record { exactly = sym (lt-ltb A (roundsOf more) h); rounds = λ _. refl; same = λ e. absurd (differ refl e) }
+
+-- the same for a reply after the count c
+record CutAfter (A c : ℕ) (reply more : Reply) : Type 0 where
+  grows : c ≤ roundsOf more
+  cuts : c ≤ A → CutAt A reply more
+
+module _ {A : ℕ} (w : ℕ) (next next′ : ℕ → Reply) (later : (c : ℕ) → CutAfter A c (next c) (next′ c)) where
+  failed-cut : (t : Bool) (c : ℕ) → CutAfter A c (elim t [ true ↦ answered finest w c | false ↦ next c ]) (elim t [ true ↦ answered finest w c | false ↦ next′ c ])
+  unfolding isSpent roundsOf
+  failed-cut true c = record { grows = le-refl c; cuts = same-reply (answered finest w c) refl }
+  failed-cut false c = later c
+
+  outcome-grows : (g : Result (List ℤ)) → count g ≤ roundsOf (outcome g w next′)
+  unfolding outcome roundsOf
+  outcome-grows (ok E c) = le-refl c
+  outcome-grows (failed why c) = failed-cut (leb w 1) c .grows
+  outcome-grows (exhausted c) = le-refl c
+
+  outcome-cut : {g g′ : Result (List ℤ)} → Cut A g g′ → CutAt A (outcome g w next) (outcome g′ w next′)
+  unfolding outcome isSpent roundsOf
+  outcome-cut (value {c = c} h) = same-reply (answered keep w c) refl h
+  outcome-cut (failure {c = c} h) = failed-cut (leb w 1) c .cuts h
+  outcome-cut (spent {whole = g} h) = spent-reply w (outcome g w next′) (lt-of-lt-of-le h (outcome-grows g))
+
+module _ {A : ℕ} (a a′ : ℕ → ℕ → Result (List ℤ)) (each-cut : (w c : ℕ) → CutFrom A c (a w c) (a′ w c)) where
+  attempts-cut : (fuel w c : ℕ) → CutAfter A c (attempts a fuel w c) (attempts a′ fuel w c)
+  unfolding attempts isSpent roundsOf
+  attempts-cut zero w c = record { grows = le-refl c; cuts = same-reply (answered finest w c) refl }
+  attempts-cut (suc fuel) w c =
+      let later : (c′ : ℕ) → CutAfter A c′ (attempts a fuel (w / 2) c′) (attempts a′ fuel (w / 2) c′) = attempts-cut fuel (w / 2) in
+      record { grows = le-trans (each-cut w c .grows) (outcome-grows w _ _ later (a′ w c)); cuts = λ h. outcome-cut w _ _ later (each-cut w c .cuts h) }
+
+-- ---- the decision on values
+
+-- two allowances: both replies are the one with no allowance, cut
+between : {A A′ : ℕ} {reply reply′ whole : Reply} → A < A′ → CutAt A reply whole → CutAt A′ reply′ whole → CutAt A reply reply′
+between {A} {A′} {reply} {reply′} {whole} h k k′ = by (isSpent reply′) refl
+  where
+    by : (t : Bool) → isSpent reply′ ≡ t → CutAt A reply reply′
+    by true e =
+        let q = k′ .rounds e in
+        let n = ltb-true A′ (roundsOf whole) (sym (k′ .exactly) ∙ e) in
+        let s : isSpent reply ≡ true = k .exactly ∙ lt-ltb A (roundsOf whole) (omega arith) in
+        record { exactly = s ∙ sym (lt-ltb A (roundsOf reply′) (omega arith)); rounds = k .rounds; same = λ n. absurd (differ s n) }
+    by false e = subst (CutAt A reply) (sym (k′ .same e)) k
+
+decision-cut : (v B : List ℤ) (u : ℤ) (A : ℕ) → CutAt A (decisionOf v B u A) (decisionWithin false 0 v B u)
+unfolding decisionOf
+decision-cut v B u A = attempts-cut _ _ (λ w c. attempt-cut A v w (decisionPhases v u) B c) (max (δ v) (α v)) (max (δ v) (α v)) 0 .cuts (omega arith)
+
+pub spent-on-values : SpentOnValues
+spent-on-values v B u A = (decision-cut v B u A, λ A′ h. between h (decision-cut v B u A) (decision-cut v B u A′))
+
+-- ---- the decision on bytes
+
+module _ {g g′ : List ℕ} (s : SameButAllowance g g′) where
+  -- the bytes after the allowance
+  same-from : (at : ℕ) → 6 ≤ at → drop at g ≡ drop at g′
+  same-from at h =
+      let q : 6 + (at - 6) ≡ at = omega arith in
+      rw q at (sym (drop-drop (at - 6) 6 g) ∙ ap (λ (r : List ℕ). drop (at - 6) r) (s .rest) ∙ drop-drop (at - 6) 6 g′)
+
+  same-number : (at : ℕ) → 6 ≤ at → i32 g at ≡ i32 g′ at
+  same-number at h = ap (λ (r : List ℕ). decode w32 (take 4 r)) (same-from at h)
+
+  same-command : commandOf g ≡ commandOf g′
+  unfolding commandOf
+  same-command = same-number 6 (omega arith)
+
+  same-measured : (n : ℕ) → measured n g ≡ measured n g′
+  unfolding measured pairs
+  same-measured n = λ t. boxOf n (λ i. same-number (10 + 8 * i) (omega arith) t) (λ i. same-number (10 + 8 * i + 4) (omega arith) t)
+
+  same-mark : (i : ℕ) → i < 2 → getD g i 0 ≡ getD g′ i 0
+  same-mark i h = sym (getD-take 2 g i 0 h) ∙ ap (λ (r : List ℕ). getD r i 0) (s .mark) ∙ getD-take 2 g′ i 0 h
+
+  same-refusal : (v : List ℤ) → allowanceRefusal g ≡ allowanceRefusal g′ → questionRefusal v g ≡ questionRefusal v g′
+  unfolding questionRefusal formRefusal
+  same-refusal v e = rw (s .size, same-mark 0 (omega arith), same-mark 1 (omega arith), e, same-command, same-measured (vars v)) refl
+
+-- a smaller allowance is not refused either
+less-allowed : (g g′ : List ℕ) → allowanceOf g < allowanceOf g′ → allowanceRefusal g′ ≡ 0 → allowanceRefusal g ≡ allowanceRefusal g′
+unfolding allowanceRefusal
+less-allowed g g′ h e =
+    let n = leb-true (allowanceOf g′) 1000000 (cond-zero (leb (allowanceOf g′) 1000000) 12 e) in
+    rw (le-leb (allowanceOf g) 1000000 (omega arith), le-leb (allowanceOf g′) 1000000 n) refl
+
+unless-cut : {A : ℕ} (r : ℕ) {reply more : Reply} → CutAt A reply more → CutAt A (unlessRefused r reply) (unlessRefused r more)
+unfolding unlessRefused isSpent roundsOf
+unless-cut zero k = k
+unless-cut (suc r) k = same-reply (refused (suc r)) refl (omega arith)
+
+pub spent-on-bytes : SpentOnBytes
+unfolding decide
+spent-on-bytes f g g′ s h e =
+    let v = values f in
+    unless-cut (refusal f)
+    (rw (same-refusal s v (less-allowed g g′ h e), same-command s, same-measured s (vars v))
+    (unless-cut (questionRefusal v g′) (spent-on-values v (measured (vars v) g′) (commandOf g′) (allowanceOf g) .1 (allowanceOf g′) h)))
