@@ -20,6 +20,13 @@ use Rattle.boxes_refusals.proofs.Turn.{sides-near}
 pub record Refusal (v : List ℤ) (ticks w : ℕ) (l : Law) (B : List ℤ) (a : ℕ) : Type 0 where
   pub is : a ≡ reachRefusal v ticks w l B
 
+-- what holds of a reach of T ticks at the width w from S that is not refused
+pub record Accepted (T w : ℕ) (S : List ℤ) : Type 0 where
+  pub some : 0 < w
+  pub most : w ≤ 1000
+  pub ticks : T ≤ 1000
+  pub start : SidesWithin 1000000 S
+
 module _ {v : List ℤ} {ticks w : ℕ} {l : Law} {B : List ℤ} {a : ℕ} (r : Refusal v ticks w l B a) where
   pub reach-refused : (a ≡ 0 → ⊥) → refused a ≡ reachOf v ticks w l B
   unfolding reachOf
@@ -27,12 +34,17 @@ module _ {v : List ℤ} {ticks w : ℕ} {l : Law} {B : List ℤ} {a : ℕ} (r : 
 
   -- nothing is refused; the machine and the start box as the code has them
   module _ (e : a ≡ 0) {m : Machine} (q : m ≡ machine v l) {S : List ℤ} (s : S ≡ trim (m .n) B) where
-    pub reachable : ((0 < w) × (w ≤ 1000)) × ((ticks ≤ 1000) × SidesWithin 1000000 S)
+    pub reachable : Accepted ticks w S
     unfolding reachRefusal
     reachable =
         let t = or-none (ticksRefusal ticks w) _ (sym (r .is) ∙ e) in
         let u = ticks-width ticks w (t .0) in
-        ((u .1, u .2), (u .0, subst (SidesWithin 1000000) (sym (s ∙ ap (λ (x : Machine). trim (x .n) B) q)) (sides-near (vars v) B (or-none (lawRefusal v l) _ (t .1) .1))))
+        record {
+          some = u .1;
+          most = u .2;
+          ticks = u .0;
+          start = subst (SidesWithin 1000000) (sym (s ∙ ap (λ (x : Machine). trim (x .n) B) q)) (sides-near (vars v) B (or-none (lawRefusal v l) _ (t .1) .1));
+        }
 
     -- a reach came to o
     module _ (o : ReachResult) (E W : List ℤ) (h : reachedOf E W o ≡ reach false 0 m (clear (m .n) v 0) w S ticks 0) where

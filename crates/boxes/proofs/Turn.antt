@@ -1,6 +1,7 @@
 -- A turn of the definitions for a turn of the code's loops: a tested step, and the tested steps of a reach. Assumes nothing.
 use mathlib.Core.Path.{_≡_, refl, sym, ap, _∙_}
 use mathlib.Core.Bool.{Bool, true, false, not}
+use mathlib.Core.Logic.{_⊎_, ⊎-elim}
 use mathlib.Core.List.{List}
 use Prim.Native.Nat.{ℕ, suc, _-_, _≤_, _<_, min}
 use native.Mathlib.Omega.{arith}
@@ -8,6 +9,7 @@ use native.Mathlib.Nat.{le-refl}
 use borrow.Author.Tests.{le-leb, lt-leb}
 use lib.Dec.{leb}
 use lib.IntN.{ℤ}
+use denote.Enum.Declared.{tagOf}
 use Rattle.integers.proofs.Tests.{pick-yes, pick-no, suc-of}
 use Rattle.machine_spec.specs.Box.{hull, moved}
 use Rattle.machine_spec.specs.Machine.{Machine}
@@ -19,7 +21,9 @@ use Rattle.boxes.specs.declared.steps.ReachResult.the-variants.{Ended, U
 use Rattle.boxes.specs.declared.steps.ReachResult.the-variants as result
 use Rattle.boxes_spec.specs.Step.{Result, ok, failed, unsafe, andThen, Step, step, swept}
 use Rattle.boxes_spec.specs.Reach.{Reached, testedStep, steps, reach}
-use Rattle.boxes.specs.ReachResult.{resultOf, testedStepOf, reachedOf}
+use Rattle.boxes.specs.ReachResult.{resultOf, testedStepOf, reachedOf, isEnded}
+use Rattle.boxes.proofs.steps.ReachResult.{the-type}
+use Rattle.machine_spec.proofs.Box.{differ}
 
 -- ---- a tested step
 
@@ -105,3 +109,15 @@ module _ {l : Bool} {a : ℕ} {m : Machine} {clear : List ℤ → Bool} {w : ℕ
           ∙ ap (λ (B : List ℤ). steps l a m clear w (h .fuel) E B (left - t) i) (sym (x ∙ ap (hull (m .n) W) p))
           ∙ ap (λ (j : ℕ). steps l a m clear w j E X (left - t) i) (suc-of (h .fuel) (omega (arith, h .enough)));
     }
+
+-- ---- a result that is not `Ended`, by its tag
+
+pub not-ended : {r : ReachResult} → (tagOf the-type r ≡ 1) ⊎ ((tagOf the-type r ≡ 2) ⊎ (tagOf the-type r ≡ 3)) → (t d : ℕ) → r ≡ Ended t d → ⊥
+not-ended {r} k t d q = let z : tagOf the-type r ≡ 0 = ap (tagOf the-type) q in ⊎-elim (λ o. omega arith) (⊎-elim (λ o. omega arith) (λ o. omega arith)) k
+
+pub ended-not : (r : ReachResult) → ((t d : ℕ) → r ≡ Ended t d → ⊥) → isEnded r ≡ true → ⊥
+unfolding isEnded
+ended-not (Ended t d) n e = n t d refl
+ended-not (result.Unsettled d) n e = differ e refl
+ended-not (Unsafe t d) n e = differ e refl
+ended-not (result.Exhausted d) n e = differ e refl

@@ -1,3 +1,4 @@
+pub mod ReachPlan
 pub mod ReachResult
-pub mod Limits
 pub mod ReachAnswer
+pub mod Limits

@@ -9,6 +9,7 @@ ghost use Rattle.boxes.specs.ReachAnswer.{answerOf};
 
 pub mod steps;
 
+use crate::steps::ReachPlan;
 use crate::steps::ReachResult;
 use crate::steps::plant;
 use boxes_refusals::reach_refusal;
@@ -60,17 +61,13 @@ pub fn reach_of(
         limited: false,
         allowance: 0,
     };
-    let r = steps::reach(
-        free,
-        p,
-        sheet,
-        0,
-        width as usize,
-        ticks as usize,
-        0,
-        &mut end,
-        &mut swept,
-    );
+    let plan = ReachPlan {
+        budget: free,
+        plant: p,
+        boxes: 0,
+        width: width as usize,
+    };
+    let r = steps::reach(plan, sheet, ticks as usize, 0, &mut end, &mut swept);
     let ReachResult::Ended { ticks: _, count } = r else {
         return refused(0);
     };

@@ -1,19 +1,13 @@
-// A reach over many ticks: lifted steps in a row, each one's swept box tested against the no-go boxes. The reach, the recovery
-// check and the decision are made of reaches. Boxes and the sheet's value are lent. The definitions are in boxes_spec/specs/Reach;
-// specs/ReachResult says what an answer of the code means in their terms.
+// A reach over many ticks: lifted steps in a row, each one's swept box tested against the no-go boxes. The public reach, the
+// recovery check and the decision are made of such reaches. Boxes and the sheet's value are lent. The definitions are in
+// boxes_spec/specs/Reach; specs/ReachPlan and specs/ReachResult say what is asked and answered in their terms.
+ghost use Prim.Native.Nat.{min};
 ghost use mathlib.Core.Path.{_≡_};
-ghost use mathlib.Core.Bool.{true};
-ghost use Prim.Native.Nat.{_+_, _*_, _≤_, _<_, min};
-ghost use Rattle.sheet_spec.specs.Slots as slots;
 ghost use Rattle.sheet_spec.specs.Valid.{Valid};
-ghost use Rattle.machine_spec.specs.Box as spec;
-ghost use Rattle.machine_spec.specs.Machine.{machine, lawOf};
-ghost use Rattle.boxes_arithmetic.specs.Limits.{SidesWithin};
-ghost use Rattle.boxes_rates.specs.Plant.{Usable, machineOf};
-ghost use Rattle.boxes_spec.specs.Reach.{clear, testedStep, reach};
-ghost use Rattle.boxes_step.specs.Limits.{countLimit, stepLimit};
-ghost use Rattle.boxes.specs.ReachResult.{isEnded, testedStepOf, reachedOf};
-ghost use Rattle.boxes.specs.Limits.{reachLimit};
+ghost use Rattle.machine_spec.specs.Machine.{lawOf, machine};
+ghost use Rattle.boxes_rates.specs.Plant.{machineOf};
+ghost use Rattle.boxes.specs.Limits.{ReachAsked, TestedAsked};
+ghost use Rattle.boxes.specs.ReachResult.{ReachDone, TestedDone};
 use boxes_rates::Plant;
 use boxes_shape::compare::meets_unsafe;
 use boxes_shape::motion::arrive;
@@ -44,9 +38,17 @@ pub fn plant(sheet: &[i32; SLOTS], baseline: bool, command: i32) -> Plant
     }
 }
 
+// How a reach goes: a budget of rounds, the machine, the number of no-go boxes that are tested, the width.
+pub struct ReachPlan {
+    pub budget: Budget,
+    pub plant: Plant,
+    pub boxes: usize,
+    pub width: usize,
+}
+
 // What a tested step or a reach came to, with the count of rounds after it. The boxes are lent beside it.
 pub enum ReachResult {
-    // it covers so many ticks
+    // the ticks that it covers
     Ended { ticks: usize, count: u32 },
     // no length settled; it does not happen
     Unsettled { count: u32 },
@@ -62,95 +64,90 @@ fn smaller(a: usize, b: usize) -> usize
     if a < b { a } else { b }
 }
 
-// A step from `at` with `left` ticks left, and the test of its swept box against the first `boxes` no-go boxes. The working box
-// e is `at` at first. Where the step settles, `at` and e become its end box, and `swept` its swept box.
+// A step from `at` with `left` ticks left, and the test of its swept box against the no-go boxes. The working box is `at` at
+// first. If the step settles, `at` and `work` become its end box, and `swept` its swept box.
 fn tested_step(
-    b: Budget,
-    p: Plant,
+    plan: ReachPlan,
     sheet: &[i32; SLOTS],
-    boxes: usize,
-    width: usize,
     left: usize,
     count: u32,
     at: &mut [i64; BOX_SIZE],
-    e: &mut [i64; BOX_SIZE],
+    work: &mut [i64; BOX_SIZE],
     swept: &mut [i64; BOX_SIZE],
 ) -> ReachResult
-    requires { ⌜ Usable (machineOf p (now sheet)) × (boxes ≤ slots.maxBoxes) ⌝ }
-    requires { ⌜ ((0 < width) × (width ≤ 1000)) × ((0 < left) × (SidesWithin stepLimit (now at) × (count + 8 * width ≤ countLimit))) ⌝ }
-    requires { ⌜ (now e ≡ now at) × ((spec.trim (p .n) (now at) ≡ now at) × (spec.trim (p .n) (now swept) ≡ now swept)) ⌝ }
-    ensures { λ r. ⌜ testedStepOf (now (at .exit)) (now (swept .exit)) r ≡ testedStep (b .limited) (b .allowance) (machineOf p (now (sheet .entry))) (clear (p .n) (now (sheet .entry)) boxes) width (now (at .entry)) left count ⌝ }
-    ensures { λ r. ⌜ (isEnded r ≡ true → (now (e .exit) ≡ now (at .exit)) × (now (swept .exit) ≡ spec.hull (p .n) (now (at .entry)) (now (at .exit)))) ⌝ }
-    ensures { λ r. ⌜ spec.trim (p .n) (now (at .exit)) ≡ now (at .exit) ⌝ }
+    requires { ⌜ TestedAsked plan (now sheet) left count (now at) (now work) (now swept) ⌝ }
+    ensures { λ r. ⌜ TestedDone plan (now (sheet .entry)) left count (now (at .entry)) r (now (at .exit)) (now (work .exit)) (now (swept .exit)) ⌝ }
 {
+    let budget = plan.budget;
+    let plant = plan.plant;
     let mut rates: [i64; BOX_SIZE] = [0; BOX_SIZE];
-    let r = step(b, p, sheet, at, smaller(width, left), count, e, &mut rates);
+    let r = step(
+        budget,
+        plant,
+        sheet,
+        at,
+        smaller(plan.width, left),
+        count,
+        work,
+        &mut rates,
+    );
     match r {
-        StepResult::Settled { ticks, count: c } => {
-            arrive(p.n, ticks, &rates, e, at, swept);
-            if meets_unsafe(p.n, swept, sheet, boxes) {
+        StepResult::Settled {
+            ticks,
+            count: after,
+        } => {
+            arrive(plant.n, ticks, &rates, work, at, swept);
+            if meets_unsafe(plant.n, swept, sheet, plan.boxes) {
                 return ReachResult::Unsafe {
                     left: left,
-                    count: c,
+                    count: after,
                 };
             }
             ReachResult::Ended {
                 ticks: ticks,
-                count: c,
+                count: after,
             }
         }
-        StepResult::Unsettled { count: c } => ReachResult::Unsettled { count: c },
-        StepResult::Exhausted { count: c } => ReachResult::Exhausted { count: c },
+        StepResult::Unsettled { count: after } => ReachResult::Unsettled { count: after },
+        StepResult::Exhausted { count: after } => ReachResult::Exhausted { count: after },
     }
 }
 
-// Steps of at most `width` ticks from `end`, after `count` rounds, until `ticks` ticks are covered. `end` becomes the last end
+// Steps of at most the plan's width from `end`, after `count` rounds, until `ticks` ticks are covered. `end` becomes the last end
 // box and `swept` the hull of the swept boxes, or that of the step that failed.
 pub fn reach(
-    b: Budget,
-    p: Plant,
+    plan: ReachPlan,
     sheet: &[i32; SLOTS],
-    boxes: usize,
-    width: usize,
     ticks: usize,
     count: u32,
     end: &mut [i64; BOX_SIZE],
     swept: &mut [i64; BOX_SIZE],
 ) -> ReachResult
-    requires { ⌜ Usable (machineOf p (now sheet)) × (boxes ≤ slots.maxBoxes) ⌝ }
-    requires { ⌜ ((0 < width) × (width ≤ 1000)) × ((ticks ≤ 1000) × (SidesWithin reachLimit (now end) × (count + 73 * ticks + 8 * width ≤ countLimit))) ⌝ }
-    requires { ⌜ spec.trim (p .n) (now end) ≡ now end ⌝ }
-    ensures { λ r. ⌜ reachedOf (now (end .exit)) (now (swept .exit)) r ≡ reach (b .limited) (b .allowance) (machineOf p (now (sheet .entry))) (clear (p .n) (now (sheet .entry)) boxes) width (now (end .entry)) ticks count ⌝ }
-    ensures { λ r. ⌜ spec.trim (p .n) (now (end .exit)) ≡ now (end .exit) ⌝ }
+    requires { ⌜ ReachAsked plan (now sheet) ticks count (now end) ⌝ }
+    ensures { λ r. ⌜ ReachDone plan (now (sheet .entry)) ticks count (now (end .entry)) r (now (end .exit)) (now (swept .exit)) ⌝ }
 {
+    let plant = plan.plant;
     *swept = *end;
     let mut work = *end;
     let mut path = *end;
     let mut left = ticks;
-    let mut c = count;
+    let mut counted = count;
     while left > 0 {
-        let r = tested_step(
-            b,
-            p,
-            sheet,
-            boxes,
-            width,
-            left,
-            c,
-            end,
-            &mut work,
-            &mut path,
-        );
-        let ReachResult::Ended { ticks: t, count: d } = r else {
+        let r = tested_step(plan, sheet, left, counted, end, &mut work, &mut path);
+        let ReachResult::Ended {
+            ticks: covered,
+            count: after,
+        } = r
+        else {
             *swept = path;
             return r;
         };
-        join(p.n, &path, swept);
-        left -= t;
-        c = d;
+        join(plant.n, &path, swept);
+        left -= covered;
+        counted = after;
     }
     ReachResult::Ended {
         ticks: ticks,
-        count: c,
+        count: counted,
     }
 }

@@ -10,6 +10,7 @@ ghost use Rattle.machine_spec.specs.Box.{hi, lo};
 ghost use Rattle.machine_spec.specs.Machine.{bandMeets, cap, greatest, least};
 ghost use Rattle.machine_spec.specs.Rate.{bandRate, faceRate, neighborhood, neutral, outer, rate, rates};
 ghost use Rattle.boxes_arithmetic.specs.Limits.{SidesWithin, limit, word};
+ghost use Rattle.boxes_rates.specs.Limits.{RatesAsked};
 ghost use Rattle.boxes_rates.specs.Plant.{Usable, cutAt, machineOf};
 use crate::Plant;
 use crate::row::bound;
@@ -168,8 +169,7 @@ fn face_rate(
     e: &mut [i64; BOX_SIZE],
     i: usize,
 ) -> i64
-    requires { ⌜ Usable (machineOf p (now sheet)) × (SidesWithin limit (now s) × SidesWithin limit (now e)) ⌝ }
-    requires { ⌜ (i < p .n) × (k ≤ 1000) ⌝ }
+    requires { ⌜ RatesAsked (machineOf p (now sheet)) (now s) k (now e) × (i < p .n) ⌝ }
     ensures { λ r. ⌜ r ≡ faceRate up (machineOf p (now (sheet .entry))) (now (s .entry)) k (now (e .entry)) i ⌝ }
     ensures { λ r. ⌜ now (e .exit) ≡ now (e .entry) ⌝ }
 {
@@ -193,8 +193,7 @@ pub fn rates(
     e: &mut [i64; BOX_SIZE],
     r: &mut [i64; BOX_SIZE],
 )
-    requires { ⌜ Usable (machineOf p (now sheet)) × (SidesWithin limit (now s) × SidesWithin limit (now e)) ⌝ }
-    requires { ⌜ k ≤ 1000 ⌝ }
+    requires { ⌜ RatesAsked (machineOf p (now sheet)) (now s) k (now e) ⌝ }
     ensures { λ _. ⌜ now (r .exit) ≡ rates (machineOf p (now (sheet .entry))) (now (s .entry)) k (now (e .entry)) ⌝ }
     ensures { λ _. ⌜ now (e .exit) ≡ now (e .entry) ⌝ }
 {

@@ -7,7 +7,8 @@ ghost use lib.IntN.{pos, _+ℤ_, _*ℤ_};
 ghost use Rattle.integers.specs.Bound.{Bound};
 ghost use Rattle.sheet_spec.specs.Slots as slots;
 ghost use Rattle.machine_spec.specs.Box.{hull, moved, trim, within};
-ghost use Rattle.boxes_arithmetic.specs.Limits.{SidesWithin, limit};
+ghost use Rattle.boxes_arithmetic.specs.Limits.{limit};
+ghost use Rattle.boxes_shape.specs.Limits.{Movable, Trimmed};
 use boxes_arithmetic::both_le;
 use boxes_arithmetic::max;
 use boxes_arithmetic::min;
@@ -29,8 +30,7 @@ pub fn grow(
     rates: &[i64; BOX_SIZE],
     e: &mut [i64; BOX_SIZE],
 ) -> bool
-    requires { ⌜ (n ≤ slots.N) × (k ≤ 1000) ⌝ }
-    requires { ⌜ SidesWithin limit (now a) × (SidesWithin 1000 (now rates) × (trim n (now e) ≡ now e)) ⌝ }
+    requires { ⌜ Movable n (now a) k (now rates) × (trim n (now e) ≡ now e) ⌝ }
     ensures { λ r. ⌜ r ≡ within n (hull n (now (a .entry)) (moved n (now (a .entry)) k (now (rates .entry)))) (now (e .entry)) ⌝ }
     ensures { λ r. ⌜ now (e .exit) ≡ hull n (now (e .entry)) (hull n (now (a .entry)) (moved n (now (a .entry)) k (now (rates .entry)))) ⌝ }
 {
@@ -57,9 +57,7 @@ pub fn arrive(
     at: &mut [i64; BOX_SIZE],
     path: &mut [i64; BOX_SIZE],
 )
-    requires { ⌜ (n ≤ slots.N) × (k ≤ 1000) ⌝ }
-    requires { ⌜ SidesWithin limit (now at) × SidesWithin 1000 (now rates) ⌝ }
-    requires { ⌜ (trim n (now e) ≡ now e) × ((trim n (now at) ≡ now at) × (trim n (now path) ≡ now path)) ⌝ }
+    requires { ⌜ Movable n (now at) k (now rates) × Trimmed n (now e) (now at) (now path) ⌝ }
     ensures { λ _. ⌜ now (at .exit) ≡ moved n (now (at .entry)) k (now (rates .entry)) ⌝ }
     ensures { λ _. ⌜ now (e .exit) ≡ now (at .exit) ⌝ }
     ensures { λ _. ⌜ now (path .exit) ≡ hull n (now (at .entry)) (now (at .exit)) ⌝ }

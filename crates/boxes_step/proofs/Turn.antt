@@ -61,9 +61,9 @@ module _ {l : Bool} {a : ℕ} {m : Machine} {S : List ℤ} {k c left : ℕ} {E :
     turn : rounds l a m S k 8 S c ≡ rounds l a m S k (suc (left - 1)) E d
     turn = h .same ∙ ap (λ (j : ℕ). rounds l a m S k j E d) (suc-of left some)
 
-    pub rounding-out : (R : List ℤ) → t ≡ true → stepOf (m .n) S R (Exhausted d) ≡ rounds l a m S k 8 S c
+    pub rounding-exhausted : (R : List ℤ) → t ≡ true → stepOf (m .n) S R (Exhausted d) ≡ rounds l a m S k 8 S c
     unfolding rounds stepOf
-    rounding-out R e = sym (turn ∙ pick-yes (isExhausted l a d) _ _ (sym o ∙ e))
+    rounding-exhausted R e = sym (turn ∙ pick-yes (isExhausted l a d) _ _ (sym o ∙ e))
 
     -- the round has settled where u is true
     module _ (due : t ≡ false) (u : Bool) (q : u ≡ settles m S k E) where

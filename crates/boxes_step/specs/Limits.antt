@@ -1,5 +1,12 @@
--- How far the numbers go that the code is given.
-use Prim.Native.Nat.{ℕ}
+-- How far the numbers go that the code is given, and what it asks of its caller.
+use mathlib.Core.Path.{_≡_}
+use mathlib.Core.List.{List}
+use Prim.Native.Nat.{ℕ, _+_, _≤_, _<_}
+use lib.IntN.{ℤ}
+use Rattle.machine_spec.specs.Box.{trim}
+use Rattle.machine_spec.specs.Machine.{Machine}
+use Rattle.boxes_arithmetic.specs.Limits.{SidesWithin, limit}
+use Rattle.boxes_rates.specs.Plant.{Usable}
 
 -- how far the sides of a step's start box go
 abbrev pub stepLimit : ℕ
@@ -8,3 +15,24 @@ stepLimit = 4000000
 -- a count fits 32 bits: a reach adds at most 73 rounds a tick, and a step at most 8 times its width
 abbrev pub countLimit : ℕ
 countLimit = 4294967295
+
+-- a round of k ticks from the box S with the working box E
+pub record RoundAsked (m : Machine) (S : List ℤ) (k : ℕ) (E : List ℤ) : Type 0 where
+  pub usable : Usable m
+  pub some : 0 < k
+  pub most : k ≤ 1000
+  pub start : SidesWithin limit S
+  pub work : SidesWithin limit E
+  pub trimmed : trim (m .n) E ≡ E
+  pub first : k ≡ 1 → E ≡ S
+
+-- rounds of at most k ticks from the box S, at most `more` of them after c rounds; E is the working box and R the rates, both lent
+pub record StepAsked (m : Machine) (S : List ℤ) (k c more : ℕ) (E R : List ℤ) : Type 0 where
+  pub usable : Usable m
+  pub some : 0 < k
+  pub most : k ≤ 1000
+  pub counts : c + more ≤ countLimit
+  pub start : SidesWithin stepLimit S
+  pub trimmed : trim (m .n) S ≡ S
+  pub work : E ≡ S
+  pub rates : SidesWithin 1000 R

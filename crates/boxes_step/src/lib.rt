@@ -1,16 +1,12 @@
 // One lifted step (document 01, "One lifted step"): rounds of a length until the working box settles, and half the length
-// where it does not within eight. Boxes are lent, and written where they stand. The definitions are in boxes_spec/specs/Step;
+// if it does not within eight. Boxes are lent, and changed in place. The definitions are in boxes_spec/specs/Step;
 // specs/StepResult says what an answer of the code means in their terms.
+ghost use Prim.Native.Nat.{_*_};
 ghost use mathlib.Core.Path.{_≡_};
-ghost use mathlib.Core.Bool.{false};
-ghost use Prim.Native.Nat.{_+_, _*_, _≤_, _<_};
-ghost use Rattle.machine_spec.specs.Box.{trim};
-ghost use Rattle.machine_spec.specs.Rate.{rates};
-ghost use Rattle.boxes_arithmetic.specs.Limits.{SidesWithin, limit};
-ghost use Rattle.boxes_rates.specs.Plant.{Usable, machineOf};
-ghost use Rattle.boxes_spec.specs.Step.{grown, isExhausted, rounds, settles, step};
-ghost use Rattle.boxes_step.specs.Limits.{countLimit, stepLimit};
-ghost use Rattle.boxes_step.specs.StepResult.{stepOf};
+ghost use Rattle.boxes_rates.specs.Plant.{machineOf};
+ghost use Rattle.boxes_spec.specs.Step.{isExhausted, rounds, step};
+ghost use Rattle.boxes_step.specs.Limits.{RoundAsked, StepAsked};
+ghost use Rattle.boxes_step.specs.StepResult.{RoundDone, StepDone};
 use boxes_rates::Plant;
 use boxes_rates::rate::rates;
 use boxes_shape::motion::grow;
@@ -25,109 +21,111 @@ pub struct Budget {
 
 // What rounds or a step came to, with the count of rounds after them. The rates of the last round are lent beside it.
 pub enum StepResult {
-    // it covers so many ticks
+    // the ticks that it covers
     Settled { ticks: usize, count: u32 },
     Unsettled { count: u32 },
     // a round was due and none was left
     Exhausted { count: u32 },
 }
 
-// One round of length k with the working box e: whether it settles. `r` becomes its rates, and where it does not settle e
-// becomes the next working box.
+// One round of so many ticks with the working box: whether it settles. `face_rates` becomes its rates, and if it does not settle
+// `work` becomes the next working box.
 fn round(
-    p: Plant,
+    plant: Plant,
     sheet: &[i32; SLOTS],
     start: &[i64; BOX_SIZE],
-    k: usize,
-    e: &mut [i64; BOX_SIZE],
-    r: &mut [i64; BOX_SIZE],
+    ticks: usize,
+    work: &mut [i64; BOX_SIZE],
+    face_rates: &mut [i64; BOX_SIZE],
 ) -> bool
-    requires { ⌜ Usable (machineOf p (now sheet)) ⌝ }
-    requires { ⌜ ((0 < k) × (k ≤ 1000)) × (SidesWithin limit (now start) × (SidesWithin limit (now e) × (trim (p .n) (now e) ≡ now e))) ⌝ }
-    requires { ⌜ (k ≡ 1 → now e ≡ now start) ⌝ }
-    ensures { λ s. ⌜ s ≡ settles (machineOf p (now (sheet .entry))) (now (start .entry)) k (now (e .entry)) ⌝ }
-    ensures { λ s. ⌜ now (r .exit) ≡ rates (machineOf p (now (sheet .entry))) (now (start .entry)) k (now (e .entry)) ⌝ }
-    ensures { λ s. ⌜ (s ≡ false → now (e .exit) ≡ grown (machineOf p (now (sheet .entry))) (now (start .entry)) k (now (e .entry))) ⌝ }
-    ensures { λ s. ⌜ trim (p .n) (now (e .exit)) ≡ now (e .exit) ⌝ }
+    requires { ⌜ RoundAsked (machineOf plant (now sheet)) (now start) ticks (now work) ⌝ }
+    ensures { λ r. ⌜ RoundDone (machineOf plant (now (sheet .entry))) (now (start .entry)) ticks (now (work .entry)) r (now (work .exit)) (now («face_rates» .exit)) ⌝ }
 {
-    rates(p, sheet, start, k, e, r);
+    rates(plant, sheet, start, ticks, work, face_rates);
     // A step of one tick settles in its first round: there is nothing to test.
-    k == 1 || grow(p.n, start, k - 1, r, e)
+    ticks == 1 || grow(plant.n, start, ticks - 1, face_rates, work)
 }
 
-fn is_exhausted(b: Budget, count: u32) -> bool
-    ensures { λ r. ⌜ r ≡ isExhausted (b .limited) (b .allowance) count ⌝ }
+fn is_exhausted(budget: Budget, count: u32) -> bool
+    ensures { λ r. ⌜ r ≡ isExhausted (budget .limited) (budget .allowance) count ⌝ }
 {
-    if b.limited {
-        count == b.allowance
+    if budget.limited {
+        count == budget.allowance
     } else {
         false
     }
 }
 
-// Up to eight rounds of length k. The first working box is `start`, which e is at first. `r` becomes the rates of the last.
+// Up to eight rounds of so many ticks. The first working box is `start`, which `work` is at first. `face_rates` becomes the rates of
+// the last round.
 fn rounds(
-    b: Budget,
-    p: Plant,
+    budget: Budget,
+    plant: Plant,
     sheet: &[i32; SLOTS],
     start: &[i64; BOX_SIZE],
-    k: usize,
+    ticks: usize,
     count: u32,
-    e: &mut [i64; BOX_SIZE],
-    r: &mut [i64; BOX_SIZE],
+    work: &mut [i64; BOX_SIZE],
+    face_rates: &mut [i64; BOX_SIZE],
 ) -> StepResult
-    requires { ⌜ Usable (machineOf p (now sheet)) ⌝ }
-    requires { ⌜ ((0 < k) × (k ≤ 1000)) × (SidesWithin stepLimit (now start) × (count + 8 ≤ countLimit)) ⌝ }
-    requires { ⌜ (now e ≡ now start) × ((trim (p .n) (now start) ≡ now start) × SidesWithin 1000 (now r)) ⌝ }
-    ensures { λ s. ⌜ stepOf (p .n) (now (start .entry)) (now (r .exit)) s ≡ rounds (b .limited) (b .allowance) (machineOf p (now (sheet .entry))) (now (start .entry)) k 8 (now (start .entry)) count ⌝ }
-    ensures { λ s. ⌜ (trim (p .n) (now (e .exit)) ≡ now (e .exit)) × SidesWithin 1000 (now (r .exit)) ⌝ }
+    requires { ⌜ StepAsked (machineOf plant (now sheet)) (now start) ticks count 8 (now work) (now «face_rates») ⌝ }
+    ensures { λ r. ⌜ StepDone (plant .n) (now (start .entry)) (rounds (budget .limited) (budget .allowance) (machineOf plant (now (sheet .entry))) (now (start .entry)) ticks 8 (now (start .entry)) count) r (now (work .exit)) (now («face_rates» .exit)) ⌝ }
 {
-    let mut c = count;
+    let mut counted = count;
     let mut left: usize = 8;
     while left > 0 {
-        if is_exhausted(b, c) {
-            return StepResult::Exhausted { count: c };
+        if is_exhausted(budget, counted) {
+            return StepResult::Exhausted { count: counted };
         }
-        let settled = round(p, sheet, start, k, e, r);
-        c += 1;
+        let settled = round(plant, sheet, start, ticks, work, face_rates);
+        counted += 1;
         if settled {
-            return StepResult::Settled { ticks: k, count: c };
+            return StepResult::Settled {
+                ticks: ticks,
+                count: counted,
+            };
         }
         left -= 1;
     }
-    StepResult::Unsettled { count: c }
+    StepResult::Unsettled { count: counted }
 }
 
-// A step of at most `width` ticks from `start`, after `count` rounds. The working box e is `start` at first; where the step
-// settles, its end box is `start` moved by the rates `r`.
+// A step of at most `width` ticks from `start`, after `count` rounds. The working box is `start` at first; if the step
+// settles, its end box is `start` moved by `face_rates`.
 pub fn step(
-    b: Budget,
-    p: Plant,
+    budget: Budget,
+    plant: Plant,
     sheet: &[i32; SLOTS],
     start: &[i64; BOX_SIZE],
     width: usize,
     count: u32,
-    e: &mut [i64; BOX_SIZE],
-    r: &mut [i64; BOX_SIZE],
+    work: &mut [i64; BOX_SIZE],
+    face_rates: &mut [i64; BOX_SIZE],
 ) -> StepResult
-    requires { ⌜ Usable (machineOf p (now sheet)) ⌝ }
-    requires { ⌜ ((0 < width) × (width ≤ 1000)) × (SidesWithin stepLimit (now start) × (count + 8 * width ≤ countLimit)) ⌝ }
-    requires { ⌜ (now e ≡ now start) × ((trim (p .n) (now start) ≡ now start) × SidesWithin 1000 (now r)) ⌝ }
-    ensures { λ s. ⌜ stepOf (p .n) (now (start .entry)) (now (r .exit)) s ≡ step (b .limited) (b .allowance) (machineOf p (now (sheet .entry))) (now (start .entry)) width count ⌝ }
-    ensures { λ s. ⌜ (trim (p .n) (now (e .exit)) ≡ now (e .exit)) × SidesWithin 1000 (now (r .exit)) ⌝ }
+    requires { ⌜ StepAsked (machineOf plant (now sheet)) (now start) width count (8 * width) (now work) (now «face_rates») ⌝ }
+    ensures { λ r. ⌜ StepDone (plant .n) (now (start .entry)) (step (budget .limited) (budget .allowance) (machineOf plant (now (sheet .entry))) (now (start .entry)) width count) r (now (work .exit)) (now («face_rates» .exit)) ⌝ }
 {
-    let mut k = width;
-    let mut c = count;
+    let mut ticks = width;
+    let mut counted = count;
     loop {
-        let s = rounds(b, p, sheet, start, k, c, e, r);
-        let StepResult::Unsettled { count: d } = s else {
-            return s;
+        let r = rounds(
+            budget,
+            plant,
+            sheet,
+            start,
+            ticks,
+            counted,
+            work,
+            face_rates,
+        );
+        let StepResult::Unsettled { count: after } = r else {
+            return r;
         };
-        if k <= 1 {
-            return s;
+        if ticks <= 1 {
+            return r;
         }
-        *e = *start;
-        k = k / 2;
-        c = d;
+        *work = *start;
+        ticks = ticks / 2;
+        counted = after;
     }
 }

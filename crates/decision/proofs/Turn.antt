@@ -77,7 +77,7 @@ module _ (l : Bool) (a : ℕ) (v : List ℤ) (w : ℕ) where
   abbrev recovers : List ℤ → ℕ → Result (List ℤ)
   recovers E c = elim (within (vars v) E (recoveryBox v)) [ true ↦ ok E c | false ↦ failed unrecovered c ]
 
-  -- a phase of p from S after c rounds outcomeOf to r, with the end box E and the swept box W
+  -- a phase of p from S after c rounds came to r, with the end box E and the swept box W
   module _ (p : Phase) (ps : List Phase) (S : List ℤ) (c : ℕ) (r : ReachResult) (E W : List ℤ)
       (e : reachedOf E W r ≡ reached l a v w p S c) where
     abbrev rest : Result Reached → Result (List ℤ)
@@ -150,7 +150,7 @@ outcome-is (ok E c) w next = refl
 outcome-is (failed why c) w next = refl
 outcome-is (exhausted c) w next = refl
 
--- the attempt outcomeOf to r
+-- the attempt came to r
 module _ {at : ℕ → ℕ → Result (List ℤ)} {w k d : ℕ} (h : Attempting at w k d) (r : AttemptResult) (e : r ≡ summary (at k d)) where
   abbrev next : ℕ → Reply
   next c = attempts at (h .fuel - 1) (k / 2) c

@@ -1,6 +1,29 @@
--- How far the numbers go that the code is given.
-use Prim.Native.Nat.{ℕ}
+-- How far the numbers go that the code is given, and what it asks of its caller.
+use mathlib.Core.Path.{_≡_}
+use mathlib.Core.List.{List}
+use Prim.Native.Nat.{ℕ, _+_, _*_, _≤_, _<_}
+use lib.IntN.{ℤ}
+use Rattle.sheet_spec.specs.Slots.{vars}
+use Rattle.sheet_spec.specs.Valid.{Valid}
+use Rattle.machine_spec.specs.Box.{trim}
+use Rattle.boxes_arithmetic.specs.Limits.{SidesWithin}
+use Rattle.boxes_step.specs.Limits.{countLimit}
+use Rattle.decision.specs.declared.attempt.AttemptPlan.{AttemptPlan}
 
 -- how far the sides of an attempt's start box go
 abbrev pub startLimit : ℕ
 startLimit = 1000000
+
+-- attempts of the plan on the sheet v from the box S, at the width w and below
+pub record AttemptsAsked (p : AttemptPlan) (v S : List ℤ) (w : ℕ) : Type 0 where
+  pub sheet : Valid v
+  pub start : SidesWithin startLimit S
+  pub trimmed : trim (vars v) S ≡ S
+  pub ticks : p .first + p .then ≤ 1000
+  pub some : 0 < w
+  pub most : w ≤ 1000
+
+-- one attempt at the width w, after c rounds
+pub record AttemptAsked (p : AttemptPlan) (v S : List ℤ) (w c : ℕ) : Type 0 where
+  pub attempts : AttemptsAsked p v S w
+  pub counts : c + 73 * (p .first + p .then) + 8 * w ≤ countLimit

@@ -1,21 +1,16 @@
 // Attempts (document 01, "The decision"): reaches under the command and then under the plain law, at a width, and at ever
 // smaller widths until one attempt ends in the recovery box. The recovery check is made of them too. The definitions are in
-// decision_spec/specs/Decision.
+// decision_spec/specs/Decision; specs/AttemptPlan and specs/AttemptResult say what is asked and answered in their terms.
 ghost use mathlib.Core.Path.{_≡_};
 ghost use mathlib.Core.List.{List};
-ghost use Prim.Native.Nat.{_+_, _*_, _≤_, _<_};
 ghost use lib.IntN.{ℤ};
-ghost use Rattle.sheet_spec.specs.Slots.{vars};
-ghost use Rattle.sheet_spec.specs.Valid.{Valid};
-ghost use Rattle.machine_spec.specs.Box.{trim};
-ghost use Rattle.boxes_arithmetic.specs.Limits.{SidesWithin};
-ghost use Rattle.boxes_step.specs.Limits.{countLimit};
 ghost use Rattle.boxes.specs.ReachResult.{reachedOf};
 ghost use Rattle.decision_spec.specs.Decision.{attempts};
 ghost use Rattle.decision_answers.specs.Decision.{replyOf};
 ghost use Rattle.decision.specs.AttemptPlan.{attemptOf};
-ghost use Rattle.decision.specs.Limits.{startLimit};
 ghost use Rattle.decision.specs.AttemptResult.{summary};
+ghost use Rattle.decision.specs.Limits.{AttemptAsked, AttemptsAsked};
+use boxes::steps::ReachPlan;
 use boxes::steps::ReachResult;
 use boxes::steps::plant;
 use boxes::steps::reach;
@@ -28,7 +23,7 @@ use sheet_spec::slots::BOXES;
 use sheet_spec::slots::RECOVERY;
 use sheet_spec::slots::SLOTS;
 
-// What is tried: `first` ticks under the command, then `then` ticks under the baseline, within a budget of rounds.
+// What is attempted: `first` ticks under the command, then `then` ticks under the baseline, within a budget of rounds.
 pub struct AttemptPlan {
     pub budget: Budget,
     pub command: i32,
@@ -36,7 +31,7 @@ pub struct AttemptPlan {
     pub then: usize,
 }
 
-// What an attempt outcomeOf to, with the count of rounds after it.
+// What an attempt came to, with the count of rounds after it.
 pub enum AttemptResult {
     Succeeded { count: u32 },
     Failed { count: u32 },
@@ -58,46 +53,37 @@ fn summary_of(r: ReachResult) -> AttemptResult
 
 // An attempt at a width from the box `start`, after `count` rounds.
 fn attempt(
-    t: AttemptPlan,
+    plan: AttemptPlan,
     sheet: &[i32; SLOTS],
     start: &[i64; BOX_SIZE],
     width: usize,
     count: u32,
 ) -> AttemptResult
-    requires { ⌜ Valid (now sheet) × (SidesWithin startLimit (now start) × (trim (vars (now sheet)) (now start) ≡ now start)) ⌝ }
-    requires { ⌜ (t .first + t .then ≤ 1000) × ((0 < width) × ((width ≤ 1000) × (count + 73 * (t .first + t .then) + 8 * width ≤ countLimit))) ⌝ }
-    ensures { λ r. ⌜ r ≡ summary (attemptOf t (now (sheet .entry)) (now (start .entry)) width count) ⌝ }
+    requires { ⌜ AttemptAsked plan (now sheet) (now start) width count ⌝ }
+    ensures { λ r. ⌜ r ≡ summary (attemptOf plan (now (sheet .entry)) (now (start .entry)) width count) ⌝ }
 {
-    let b = t.budget;
-    let p = plant(sheet, false, t.command);
+    let budget = plan.budget;
+    let p = plant(sheet, false, plan.command);
     let boxes = sheet_encoding::count(sheet, BOXES);
     let mut end = *start;
     let mut swept = end;
-    let r = reach(
-        b,
-        p,
-        sheet,
-        boxes,
-        width,
-        t.first,
-        count,
-        &mut end,
-        &mut swept,
-    );
+    let commanded = ReachPlan {
+        budget: budget,
+        plant: p,
+        boxes: boxes,
+        width: width,
+    };
+    let r = reach(commanded, sheet, plan.first, count, &mut end, &mut swept);
     let ReachResult::Ended { ticks: _, count: c } = r else {
         return summary_of(r);
     };
-    let q = reach(
-        b,
-        plant(sheet, true, t.command),
-        sheet,
-        boxes,
-        width,
-        t.then,
-        c,
-        &mut end,
-        &mut swept,
-    );
+    let plain = ReachPlan {
+        budget: budget,
+        plant: plant(sheet, true, plan.command),
+        boxes: boxes,
+        width: width,
+    };
+    let q = reach(plain, sheet, plan.then, c, &mut end, &mut swept);
     let ReachResult::Ended { ticks: _, count: d } = q else {
         return summary_of(q);
     };
@@ -112,19 +98,18 @@ fn attempt(
 
 // Attempts at a width, then at half of it, and so on to 1.
 pub fn attempts(
-    t: AttemptPlan,
+    plan: AttemptPlan,
     sheet: &[i32; SLOTS],
     start: &[i64; BOX_SIZE],
     width: usize,
 ) -> Decision
-    requires { ⌜ Valid (now sheet) × (SidesWithin startLimit (now start) × (trim (vars (now sheet)) (now start) ≡ now start)) ⌝ }
-    requires { ⌜ (t .first + t .then ≤ 1000) × ((0 < width) × (width ≤ 1000)) ⌝ }
-    ensures { λ r. ⌜ replyOf r ≡ attempts (attemptOf t (now (sheet .entry)) (now (start .entry))) width width 0 ⌝ }
+    requires { ⌜ AttemptsAsked plan (now sheet) (now start) width ⌝ }
+    ensures { λ r. ⌜ replyOf r ≡ attempts (attemptOf plan (now (sheet .entry)) (now (start .entry))) width width 0 ⌝ }
 {
     let mut w = width;
-    let mut c: u32 = 0;
+    let mut counted: u32 = 0;
     loop {
-        let a = attempt(t, sheet, start, w, c);
+        let a = attempt(plan, sheet, start, w, counted);
         match a {
             AttemptResult::Succeeded { count } => return Decision::Keep {
                 width: w as u32,
@@ -142,7 +127,7 @@ pub fn attempts(
                     };
                 }
                 w = w / 2;
-                c = count;
+                counted = count;
             }
         }
     }

@@ -52,13 +52,13 @@ fn decide_on(sheet: &[i32; SLOTS], g: &[u8]) -> Decision
         limited: true,
         allowance: decision_question::allowance(g),
     };
-    let t = AttemptPlan {
+    let plan = AttemptPlan {
         budget: budget,
         command: decision_question::command(g),
         first: first,
         then: then,
     };
-    attempts(t, sheet, &start, larger(first, then))
+    attempts(plan, sheet, &start, larger(first, then))
 }
 
 // The decision on a sheet's and a question's bytes.
@@ -85,13 +85,13 @@ fn check_on(sheet: &[i32; SLOTS]) -> Recovery
         limited: false,
         allowance: 0,
     };
-    let t = AttemptPlan {
+    let plan = AttemptPlan {
         budget: budget,
         command: 0,
         first: 0,
         then: ticks,
     };
-    recovery_of(attempts(t, sheet, &recovery, ticks))
+    recovery_of(attempts(plan, sheet, &recovery, ticks))
 }
 
 // The recovery check of a sheet's bytes.

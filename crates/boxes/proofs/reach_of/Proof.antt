@@ -1,71 +1,82 @@
 -- `reach_of` answers what the definition does of an accepted sheet's value. Assumes nothing.
 use mathlib.Core.Path.{_≡_, sym, ap, _∙_, subst}
-use mathlib.Core.Logic.{⊎-elim}
 use native.Mathlib.Omega.{arith}
 use lib.IntN.{ℤ}
 use mir.Facts.{toZ-ofZ}
 use borrow.Author.Needs.{needs}
-use denote.Enum.Declared.{tagOf}
 use Rattle.machine_spec.specs.Machine.{Law, Machine, machine, lawOf}
-use Rattle.boxes_rates.specs.Plant.{Usable, machineOf}
 use Rattle.machine_spec.proofs.InPlace.{trim-trim, trim-as}
-use Rattle.boxes_rates.proofs.Rates.{usable}
+use Rattle.boxes_rates.specs.Plant.{Usable, machineOf}
 use Rattle.boxes_rates.proofs.Bounds.{wider}
+use Rattle.boxes_rates.proofs.Rates.{usable}
 use Rattle.boxes.proofs.Answer.{Refusal, reach-refused, reachable, reach-ended, reach-failed}
-use Rattle.boxes.proofs.steps.ReachResult.{the-type}
+use Rattle.boxes.proofs.Turn.{not-ended}
 use Rattle.boxes.proofs.reach_of.Statement.{statement}
 use Rattle.boxes.proofs.reach_of.Tie as tie
 
 abbrev law : tie.Start → Law
 law s = lawOf (s .args .baseline) (s .args .command)
 
-module _ (c : tie.After-plant) where
-  plant-is : machineOf (c .plant .result) (c .before .args .sheet .now) ≡ machine (c .before .args .sheet .now) (law (c .before))
-  plant-is = c .plant .ensures ∙ ap (λ (u : ℤ). machine (c .before .args .sheet .now) (lawOf (c .before .args .baseline) u)) (toZ-ofZ (c .before .fits .command))
+module _ (at-plant : tie.After-plant) where
+  abbrev at-start : tie.Start
+  at-start = at-plant .before
 
-  works : Usable (machineOf (c .plant .result) (c .before .args .sheet .now))
-  works = subst Usable (sym plant-is) (usable (law (c .before)) (c .before .pre))
+  plant-is : machineOf (at-plant .plant .result) (at-start .args .sheet .now) ≡ machine (at-start .args .sheet .now) (law at-start)
+  plant-is = at-plant .plant .ensures ∙ ap (λ (u : ℤ). machine (at-start .args .sheet .now) (lawOf (at-start .args .baseline) u)) (toZ-ofZ (at-start .fits .command))
 
-refusal-is : (c : tie.After-reach-refusal)
-    → let s = c .before .before in Refusal (s .args .sheet .now) (s .args .ticks) (s .args .width) (law s) (s .args .start .now) (c .reach-refusal .result)
-refusal-is c =
-    let s = c .before .before in
-    subst (λ (u : ℤ). Refusal (s .args .sheet .now) (s .args .ticks) (s .args .width) (lawOf (s .args .baseline) u) (s .args .start .now) (c .reach-refusal .result)) (toZ-ofZ (s .fits .command)) (record { is = c .reach-refusal .ensures })
+  works : Usable (machineOf (at-plant .plant .result) (at-start .args .sheet .now))
+  works = subst Usable (sym plant-is) (usable (law at-start) (at-start .pre))
+
+-- the code's refusal is the definition's
+refusal-is : (at-refusal : tie.After-reach-refusal)
+    → let s = at-refusal .before .before in Refusal (s .args .sheet .now) (s .args .ticks) (s .args .width) (law s) (s .args .start .now) (at-refusal .reach-refusal .result)
+refusal-is at-refusal =
+    let s = at-refusal .before .before in
+    subst (λ (u : ℤ). Refusal (s .args .sheet .now) (s .args .ticks) (s .args .width) (lawOf (s .args .baseline) u) (s .args .start .now) (at-refusal .reach-refusal .result)) (toZ-ofZ (s .fits .command)) (record { is = at-refusal .reach-refusal .ensures })
 
 reach-refusal-requires : tie.Need-reach-refusal-requires
-reach-refusal-requires c κs = (ap (λ (m : Machine). m .n) (plant-is c), works c .vars)
+reach-refusal-requires at-plant κs = (ap (λ (m : Machine). m .n) (plant-is at-plant), works at-plant .vars)
 
+-- refused
 returns : tie.Need-returns
-returns c = c .refused .ensures ∙ reach-refused (refusal-is (c .before .before)) (c .before .if1 .taken)
+returns at-return = at-return .refused .ensures ∙ reach-refused (refusal-is (at-return .before .before)) (at-return .before .if1 .taken)
 
 reach-requires : tie.Need-reach-requires
 reach-requires c κs =
-    let t = c .before .before in
-    let r = t .before .before in
-    let w = reachable (refusal-is r) (t .before .if1 .left) (plant-is (r .before)) (t .trim .ensures) in (
-      (works (r .before), omega arith),
-      (
-        (w .0, (w .1 .0, (wider (omega arith) (w .1 .1), omega (arith, w .0, w .1 .0)))),
-        trim-as (r .before .plant .result .n) (t .trim .ensures) (trim-trim (r .before .plant .result .n) (works (r .before) .vars) (r .before .before .args .start .now)),
-      ),
-    )
+    let at-trim = c .before .before in
+    let at-refusal = at-trim .before .before in
+    let at-plant = at-refusal .before in
+    let n = at-plant .plant .result .n in
+    let accepted = reachable (refusal-is at-refusal) (at-trim .before .if1 .left) (plant-is at-plant) (at-trim .trim .ensures) in
+    record {
+      plan = record { usable = works at-plant; boxes = omega arith; some = accepted .some; most = accepted .most };
+      ticks = accepted .ticks;
+      counts = omega (arith, accepted .ticks, accepted .most);
+      start = wider (omega arith) (accepted .start);
+      trimmed = trim-as n (at-trim .trim .ensures) (trim-trim n (works at-plant .vars) (at-start at-plant .args .start .now));
+    }
 
+-- what the reach came to is what the definition answers
+module _ (at-reach : tie.After-reach) where
+  abbrev at-trim : tie.After-trim
+  at-trim = at-reach .before .before .before
+
+  abbrev at-refusal : tie.After-reach-refusal
+  at-refusal = at-trim .before .before
+
+-- it did not end
 returns-2 : tie.Need-returns-2
-returns-2 c =
-    let w = c .before .before in
-    let t = w .before .before .before in
-    let r = t .before .before in
-    c .refused2 .ensures
-    ∙ reach-failed (refusal-is r) (t .before .if1 .left) (plant-is (r .before)) (t .trim .ensures) (w .reach .result) _ _ (w .reach .ensures .0)
-    (λ i j q. let z : tagOf the-type (w .reach .result) ≡ 0 = ap (tagOf the-type) q in ⊎-elim (λ o. omega arith) (⊎-elim (λ o. omega arith) (λ o. omega arith)) (c .before .match .keys2))
+returns-2 at-return =
+    let r = at-return .before .before in
+    at-return .refused2 .ensures
+    ∙ reach-failed (refusal-is (at-refusal r)) (at-trim r .before .if1 .left) (plant-is (at-refusal r .before)) (at-trim r .trim .ensures) (r .reach .result) _ _ (r .reach .ensures .same) (not-ended (at-return .before .match .keys2))
 
+-- it ended
 returns-3 : tie.Need-returns-3
-returns-3 c =
-    let k = c .before in
-    let w = k .before .before in
-    let t = w .before .before .before in
-    let r = t .before .before in
-    reach-ended (refusal-is r) (t .before .if1 .left) (plant-is (r .before)) (t .trim .ensures) (w .reach .result) _ _ (w .reach .ensures .0) (k .r .given .0 .0) (k .r .given .0 .1 .0) (k .r .given .1)
+returns-3 at-return =
+    let ended = at-return .before in
+    let r = ended .before .before in
+    reach-ended (refusal-is (at-refusal r)) (at-trim r .before .if1 .left) (plant-is (at-refusal r .before)) (at-trim r .trim .ensures) (r .reach .result) _ _ (r .reach .ensures .same) (ended .r .given .0 .0) (ended .r .given .0 .1 .0) (ended .r .given .1)
 
 pub reach-of-spec : {M : Type 1} → statement M
 reach-of-spec =

@@ -1,91 +1,133 @@
--- `rounds` does what eight rounds of the definition do. Assumes nothing.
+-- `rounds` does what eight rounds of the definition do. Invariant: what is left to do of the definition's rounds, from the working
+-- box and the count that the loop has. Measure: the rounds left. Assumes nothing.
 use mathlib.Core.Path.{_≡_, sym, _∙_, subst}
 use mathlib.Core.Bool.{true}
-use Prim.Native.Nat.{_≤_, _+_, _*_}
+use mathlib.Core.List.{List}
+use Prim.Native.Nat.{ℕ, _≤_, _+_, _*_}
 use native.Mathlib.Omega.{arith}
+use lib.IntN.{ℤ}
 use Rattle.machine_spec.specs.Box.{trim}
+use Rattle.machine_spec.specs.Machine.{Machine}
 use Rattle.machine_spec.proofs.Box.{differ}
+use Rattle.machine_spec.proofs.InPlace.{trim-as}
 use Rattle.boxes_arithmetic.specs.Limits.{SidesWithin}
 use Rattle.boxes_rates.specs.Plant.{machineOf}
 use Rattle.boxes_rates.proofs.Bounds.{wider, rates-bound}
+use Rattle.boxes_step.specs.declared.Budget.{Budget}
 use Rattle.boxes_step.specs.Limits.{stepLimit}
 use Rattle.boxes_step.proofs.Bounds.{grown-bound}
-use Rattle.machine_spec.proofs.InPlace.{trim-as}
-use Rattle.boxes_step.proofs.Turn.{settles-first, Rounding, rounding-starts, rounding-ends, rounding-out, rounding-settles, rounding-on}
+use Rattle.boxes_step.proofs.Turn.{settles-first, Rounding, rounding-starts, rounding-ends, rounding-exhausted, rounding-settles, rounding-on}
 use Rattle.boxes_step.proofs.rounds.Statement.{statement}
 use Rattle.boxes_step.proofs.rounds.Tie as tie
 
+-- after d rounds, with `left` of eight left, the working box E and the rates R
+record Invariant (b : Budget) (m : Machine) (S : List ℤ) (k c : ℕ) (E R : List ℤ) (d left : ℕ) : Type 0 where
+  counts : d + left ≤ c + 8
+  trimmed : trim (m .n) E ≡ E
+  rates : SidesWithin 1000 R
+  near : SidesWithin (stepLimit + k * 1000) E
+  rounding : Rounding (b .limited) (b .allowance) m S k c left E d
+  first : k ≡ 1 → E ≡ S
+
 abbrev Inv-loop : tie.InvT-loop
-Inv-loop b p sheet start k count e₀ r₀ c₀ left₀ e r c left =
-    ((c + left ≤ count + 8) × ((trim (p .n) e ≡ e) × SidesWithin 1000 r)) × (SidesWithin (stepLimit + k * 1000) e
-    × (Rounding (b .limited) (b .allowance) (machineOf p sheet) start k count left e c
-    × (k ≡ 1 → e ≡ start)))
+Inv-loop budget plant sheet start ticks count work₀ rates₀ counted₀ left₀ work rates counted left =
+    Invariant budget (machineOf plant sheet) start ticks count work rates counted left
 
 abbrev μ-loop : tie.MeasureT-loop
-μ-loop b p sheet start k count e₀ r₀ c₀ left₀ e r c left = left
+μ-loop budget plant sheet start ticks count work₀ rates₀ counted₀ left₀ work rates counted left = left
 
 loop-holds : tie.Need-loop-holds Inv-loop μ-loop
-loop-holds c =
-    let p = c .pre .1 in
-    let e = p .1 .0 in (
-      (omega arith, (trim-as (c .args .p .n) e (p .1 .1 .0), p .1 .1 .1)),
-      (subst (SidesWithin (stepLimit + c .args .k * 1000)) (sym e) (wider (omega arith) (p .0 .1 .0)), (rounding-starts (c .args .b .limited) (c .args .b .allowance) _ (c .args .k) (c .args .count) e, λ one. e)),
-    )
+loop-holds at-start =
+    let asked = at-start .pre in
+    let a = at-start .args in
+    record {
+      counts = omega arith;
+      trimmed = trim-as (a .plant .n) (asked .work) (asked .trimmed);
+      rates = asked .rates;
+      near = subst (SidesWithin (stepLimit + a .ticks * 1000)) (sym (asked .work)) (wider (omega arith) (asked .start));
+      rounding = rounding-starts (a .budget .limited) (a .budget .allowance) _ (a .ticks) (a .count) (asked .work);
+      first = λ one. asked .work;
+    }
 
+-- no round is left
 returns : tie.Need-returns Inv-loop μ-loop
-returns c =
-    let i = c .before .before .before .loop .inv in
-    (rounding-out (i .1 .1 .0) (omega arith) _ (c .before .is-exhausted .ensures) _ (c .if1 .taken), i .0 .1)
+returns at-return =
+    let inv = at-return .before .before .before .loop .inv in
+    record { same = rounding-exhausted (inv .rounding) (omega arith) _ (at-return .before .is-exhausted .ensures) _ (at-return .if1 .taken); trimmed = inv .trimmed; rates = inv .rates }
 
 round-requires : tie.Need-round-requires Inv-loop μ-loop
 round-requires c κs =
-    let d = c .before .before .before .before .before in
-    let p = d .before .pre in
-    (p .0, ((p .1 .0 .0, (wider (omega arith) (p .1 .0 .1 .0), (wider (omega (arith, p .1 .0 .0)) (d .loop .inv .1 .0), d .loop .inv .0 .1 .0))), d .loop .inv .1 .1 .1))
+    let at-loop = c .before .before .before .before .before in
+    let asked = at-loop .before .pre in
+    let inv = at-loop .loop .inv in
+    record {
+      usable = asked .usable;
+      some = asked .some;
+      most = asked .most;
+      start = wider (omega arith) (asked .start);
+      work = wider (omega (arith, asked .most)) (inv .near);
+      trimmed = inv .trimmed;
+      first = inv .first;
+    }
 
--- behind a round
-module _ (r : tie.After-round Inv-loop μ-loop) where
-  abbrev f : tie.Else1 Inv-loop μ-loop
-  f = r .before .before .before
+-- after a round
+module _ (at-round : tie.After-round Inv-loop μ-loop) where
+  abbrev at-due : tie.Else1 Inv-loop μ-loop
+  at-due = at-round .before .before .before
 
-  abbrev d : tie.At-loop Inv-loop μ-loop
-  d = f .before .before .before
+  abbrev at-loop : tie.At-loop Inv-loop μ-loop
+  at-loop = at-due .before .before .before
 
-  abbrev s : tie.Start Inv-loop μ-loop
-  s = d .before
+  abbrev at-start : tie.Start Inv-loop μ-loop
+  at-start = at-loop .before
+
+  abbrev S : List ℤ
+  S = at-start .args .start .now
+
+  abbrev k : ℕ
+  k = at-start .args .ticks
 
   -- a rate is at most 1,000
-  slow : SidesWithin 1000 (r .round .last .1 .1 .1 .1 .1 .0)
-  slow = rw (r .round .ensures .1 .0) (rates-bound (s .pre .0) (s .args .start .now) (s .args .k) (d .loop .e))
+  slow : SidesWithin 1000 (at-round .round .last .1 .1 .1 .1 .1 .0)
+  slow = rw (at-round .round .ensures .rated) (rates-bound (at-start .pre .usable) S k (at-loop .loop .work))
 
-  one-tick : s .args .k ≡ 1 → r .round .result ≡ true
-  one-tick one = r .round .ensures .0 ∙ settles-first _ (s .args .start .now) (s .args .k) (s .pre .0 .vars) one (d .loop .inv .1 .1 .1 one)
+  one-tick : k ≡ 1 → at-round .round .result ≡ true
+  one-tick one = at-round .round .ensures .settled ∙ settles-first _ S k (at-start .pre .usable .vars) one (at-loop .loop .inv .first one)
 
+-- the round settled
 returns-2 : tie.Need-returns-2 Inv-loop μ-loop
-returns-2 c =
-    let r = c .before in
-    let e = r .round .ensures in
-    (rounding-settles (d r .loop .inv .1 .1 .0) (omega arith) _ (f r .before .is-exhausted .ensures) (f r .if1 .left) _ (e .0) _ (e .1 .0) (c .if2 .taken), (e .1 .1 .1, slow r))
+returns-2 at-return =
+    let at-round = at-return .before in
+    let done = at-round .round .ensures in
+    let due = at-due at-round in
+    record {
+      same = rounding-settles (at-loop at-round .loop .inv .rounding) (omega arith) _ (due .before .is-exhausted .ensures) (due .if1 .left) _ (done .settled) _ (done .rated) (at-return .if2 .taken);
+      trimmed = done .trimmed;
+      rates = slow at-round;
+    }
 
 loop-again : tie.Need-loop-again Inv-loop μ-loop
 loop-again c =
-    let r = c .before in
-    let p = s r .pre in
-    let e = r .round .ensures in
-    let grew = e .1 .1 .0 (c .if2 .left) in
-    let near = grown-bound (p .0) (s r .args .start .now) (s r .args .k) stepLimit (p .1 .0 .1 .0) (d r .loop .e) (d r .loop .inv .1 .0) in (
-      (omega arith, (e .1 .1 .1, slow r)),
-      (
-        rw grew near,
-        (
-          rounding-on (d r .loop .inv .1 .1 .0) (omega arith) _ (f r .before .is-exhausted .ensures) (f r .if1 .left) _ (e .0) _ grew (c .if2 .left),
-          λ one. absurd (differ (one-tick r one) (c .if2 .left)),
-        ),
-      ),
-    )
+    let at-round = c .before in
+    let done = at-round .round .ensures in
+    let due = at-due at-round in
+    let asked = at-start at-round .pre in
+    let inv = at-loop at-round .loop .inv in
+    let grew = done .grew (c .if2 .left) in
+    record {
+      counts = omega (arith, inv .counts);
+      trimmed = done .trimmed;
+      rates = slow at-round;
+      near = rw grew (grown-bound (asked .usable) (S at-round) (k at-round) stepLimit (asked .start) (at-loop at-round .loop .work) (inv .near));
+      rounding = rounding-on (inv .rounding) (omega arith) _ (due .before .is-exhausted .ensures) (due .if1 .left) _ (done .settled) _ grew (c .if2 .left);
+      first = λ one. absurd (differ (one-tick at-round one) (c .if2 .left));
+    }
 
+-- eight rounds did not settle
 returns-3 : tie.Need-returns-3 Inv-loop μ-loop
-returns-3 c = let i = c .before .loop .inv in (rounding-ends (i .1 .1 .0) _ (omega arith), i .0 .1)
+returns-3 at-return =
+    let inv = at-return .before .loop .inv in
+    record { same = rounding-ends (inv .rounding) _ (omega arith); trimmed = inv .trimmed; rates = inv .rates }
 
 pub rounds-spec : {M : Type 1} → statement M
 rounds-spec =
@@ -97,7 +139,7 @@ rounds-spec =
     (λ c κs. tt)
     returns
     round-requires
-    (λ c. omega arith)
+    (λ at-round. omega (arith, at-start at-round .pre .counts, at-loop at-round .loop .inv .counts))
     returns-2
     (λ c. omega arith)
     (λ c. omega arith)

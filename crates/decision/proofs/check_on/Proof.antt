@@ -1,7 +1,9 @@
 -- `check_on` is the recovery check of the definitions on an accepted sheet's value. Assumes nothing.
 use mathlib.Core.Path.{_≡_, sym, ap, _∙_, subst}
+use mathlib.Core.List.{List}
 use Prim.Native.Nat.{ℕ}
 use native.Mathlib.Omega.{arith}
+use lib.IntN.{ℤ}
 use Rattle.sheet_spec.specs.Slots.{vars, recoveryBox}
 use Rattle.machine_spec.specs.Box.{trim}
 use Rattle.boxes_arithmetic.specs.Limits.{SidesWithin}
@@ -16,16 +18,23 @@ use Rattle.decision.proofs.check_on.Statement.{statement}
 use Rattle.decision.proofs.check_on.Tie as tie
 
 -- the start box
-recovery : (c : tie.After-box-at) → c .box-at .result ≡ trim (vars (c .before .before .args .sheet .now)) (recoveryBox (c .before .before .args .sheet .now))
-recovery c = c .box-at .ensures ∙ ap (λ (n : ℕ). trim n (recoveryBox (c .before .before .args .sheet .now))) (c .before .count .ensures)
+module _ (at-box : tie.After-box-at) where
+  abbrev at-start : tie.Start
+  at-start = at-box .before .before
 
--- behind the attempts
-module _ (c : tie.After-attempts) where
-  abbrev b : tie.After-box-at
-  b = c .before .before .before
+  abbrev v : List ℤ
+  v = at-start .args .sheet .now
 
-  tried : replyOf (c .attempts .result) ≡ recoveryOf (b .before .before .args .sheet .now)
-  tried = c .attempts .ensures ∙ plan-checks (b .before .before .args .sheet .now) _ (recovery b ∙ b .before .before .pre .1) (c .before .before .count2 .ensures)
+  start : at-box .box-at .result ≡ trim (vars v) (recoveryBox v)
+  start = at-box .box-at .ensures ∙ ap (λ (n : ℕ). trim n (recoveryBox v)) (at-box .before .count .ensures)
+
+-- after the attempts
+module _ (at-attempts : tie.After-attempts) where
+  abbrev at-box : tie.After-box-at
+  at-box = at-attempts .before .before .before
+
+  answered : replyOf (at-attempts .attempts .result) ≡ recoveryOf (v at-box)
+  answered = at-attempts .attempts .ensures ∙ plan-checks (v at-box) _ (start at-box ∙ at-start at-box .pre .1) (at-attempts .before .before .count2 .ensures)
 
 count-requires : tie.Need-count-requires
 count-requires c κs = (omega arith, c .pre .0 .head 0 (omega arith))
@@ -34,15 +43,22 @@ box-at-requires : tie.Need-box-at-requires
 box-at-requires c κs = (omega (arith, c .count .ensures, c .before .pre .0 .vars-high), omega arith)
 
 count-requires-2 : tie.Need-count-requires-2
-count-requires-2 c κs = (omega arith, c .before .before .pre .0 .head 6 (omega arith))
+count-requires-2 at-box κs = (omega arith, at-start at-box .pre .0 .head 6 (omega arith))
 
 attempts-requires : tie.Need-attempts-requires
 attempts-requires c κs =
-    let b = c .before .before in
-    let wf = b .before .before .pre .0 in
-    let e = c .before .count2 .ensures in
-    let t = b .before .before .pre .1 in
-    ((wf, (subst (SidesWithin startLimit) (sym (recovery b)) (recovery-near wf), trim-as _ (recovery b ∙ t) t)), (omega (arith, e, wf .ρ-high), (omega (arith, e, wf .ρ-low), omega (arith, e, wf .ρ-high))))
+    let at-box = c .before .before in
+    let wf = at-start at-box .pre .0 in
+    let trimmed = at-start at-box .pre .1 in
+    let ρ-is = c .before .count2 .ensures in
+    record {
+      sheet = wf;
+      start = subst (SidesWithin startLimit) (sym (start at-box)) (recovery-near wf);
+      trimmed = trim-as _ (start at-box ∙ trimmed) trimmed;
+      ticks = omega (arith, ρ-is, wf .ρ-high);
+      some = omega (arith, ρ-is, wf .ρ-low);
+      most = omega (arith, ρ-is, wf .ρ-high);
+    }
 
 pub check-on-spec : {M : Type 1} → statement M
 check-on-spec =
@@ -52,5 +68,5 @@ check-on-spec =
     box-at-requires
     count-requires-2
     attempts-requires
-    (λ c κs w d e. recoveryOf-unspent (b c .before .before .pre .0) (sym (tried c) ∙ e))
-    (λ c. c .recovery-of .ensures ∙ tried (c .before)))
+    (λ c κs w d e. recoveryOf-unspent (at-start (at-box c) .pre .0) (sym (answered c) ∙ e))
+    (λ c. c .recovery-of .ensures ∙ answered (c .before)))

@@ -20,87 +20,97 @@ use Rattle.decision.proofs.Answer.{unless-refused, unless-passed, plan-
 use Rattle.decision.proofs.decide_on.Statement.{statement}
 use Rattle.decision.proofs.decide_on.Tie as tie
 
--- behind the count of variables
-module _ (c : tie.After-count) where
-  abbrev s : tie.Start
-  s = c .before .before
+-- after the count of variables
+module _ (at-count : tie.After-count) where
+  abbrev at-start : tie.Start
+  at-start = at-count .before .before
 
   abbrev v : List ℤ
-  v = s .args .sheet .now
+  v = at-start .args .sheet .now
 
   abbrev g : List ℕ
-  g = s .args .g .now
+  g = at-start .args .g .now
 
   room : vars v ≤ N
-  room = omega (arith, s .pre .vars-high)
+  room = omega (arith, at-start .pre .vars-high)
 
--- behind the refusals
-module _ (c : tie.Else1) where
-  abbrev n : tie.After-count
-  n = c .before .before
+-- after the refusals
+module _ (accepted : tie.Else1) where
+  abbrev at-count : tie.After-count
+  at-count = accepted .before .before
 
-  passed : questionRefusal (v n) (g n) ≡ 0
-  passed = sym (c .before .refusal .ensures) ∙ c .if1 .left
+  passed : questionRefusal (v at-count) (g at-count) ≡ 0
+  passed = sym (accepted .before .refusal .ensures) ∙ accepted .if1 .left
 
-  long : length (g n) ≡ questionLength (n .count .result)
-  long = asked-length (v n) (g n) passed ∙ ap questionLength (sym (n .count .ensures))
+  long : length (g at-count) ≡ questionLength (at-count .count .result)
+  long = asked-length (v at-count) (g at-count) passed ∙ ap questionLength (sym (at-count .count .ensures))
 
 -- the start box
-module _ (c : tie.After-measured) where
-  abbrev e : tie.Else1
-  e = c .before
+module _ (at-box : tie.After-measured) where
+  abbrev accepted : tie.Else1
+  accepted = at-box .before
 
-  start : c .measured .result ≡ measured (vars (v (n e))) (g (n e))
-  start = c .measured .ensures ∙ ap (λ (i : ℕ). measured i (g (n e))) (n e .count .ensures)
+  abbrev counted : tie.After-count
+  counted = at-count accepted
+
+  start : at-box .measured .result ≡ measured (vars (v counted)) (g counted)
+  start = at-box .measured .ensures ∙ ap (λ (i : ℕ). measured i (g counted)) (counted .count .ensures)
 
 count-requires : tie.Need-count-requires
 count-requires c κs = (omega arith, c .before .pre .head 0 (omega arith))
 
 refusal-requires : tie.Need-refusal-requires
-refusal-requires c κs = (c .count .ensures, omega (arith, c .count .ensures, room c))
+refusal-requires at-count κs = (at-count .count .ensures, omega (arith, at-count .count .ensures, room at-count))
 
+-- refused
 returns : tie.Need-returns
 unfolding replyOf
-returns c = unless-refused _ _ (c .before .refusal .ensures) (c .if1 .taken)
+returns at-return = unless-refused _ _ (at-return .before .refusal .ensures) (at-return .if1 .taken)
 
 measured-requires : tie.Need-measured-requires
-measured-requires c κs = (omega (arith, n c .count .ensures, room (n c)), omega (arith, long c))
+measured-requires accepted κs = let c = at-count accepted in (omega (arith, c .count .ensures, room c), omega (arith, long accepted))
 
 count-requires-2 : tie.Need-count-requires-2
-count-requires-2 c κs = (omega arith, s (n (e c)) .pre .head 4 (omega arith))
+count-requires-2 at-box κs = (omega arith, at-start (counted at-box) .pre .head 4 (omega arith))
 
 count-requires-3 : tie.Need-count-requires-3
-count-requires-3 c κs = (omega arith, s (n (e (c .before))) .pre .head 5 (omega arith))
+count-requires-3 c κs = (omega arith, at-start (counted (c .before)) .pre .head 5 (omega arith))
 
 allowance-requires : tie.Need-allowance-requires
-allowance-requires c κs = omega (arith, long (e (c .before .before)))
+allowance-requires c κs = omega (arith, long (accepted (c .before .before)))
 
 command-requires : tie.Need-command-requires
-command-requires c κs = omega (arith, long (e (c .before .before .before)))
+command-requires c κs = omega (arith, long (accepted (c .before .before .before)))
 
 attempts-requires : tie.Need-attempts-requires
 attempts-requires c κs =
-    let t = c .before .before .before .before in
-    let m = t .before .before in
-    let x = n (e m) in
-    let wf = s x .pre in
-    let d = t .before .count2 .ensures in
-    let a = t .count3 .ensures in
-    let w = c .larger .ensures in (
-      (wf, (subst (SidesWithin startLimit) (sym (start m)) (measured-near (v x) (g x) (passed (e m)) (room x)), trim-as (vars (v x)) (start m) (measured-trimmed (vars (v x)) (g x) (room x)))),
-      (omega (arith, d, a, wf .sum-high), (omega (arith, d, a, w, wf .δ-low), omega (arith, d, a, w, wf .sum-high))),
-    )
+    let at-plain = c .before .before .before .before in
+    let at-box = at-plain .before .before in
+    let n = counted at-box in
+    let wf = at-start n .pre in
+    let δ-is = at-plain .before .count2 .ensures in
+    let α-is = at-plain .count3 .ensures in
+    let width-is = c .larger .ensures in
+    record {
+      sheet = wf;
+      start = subst (SidesWithin startLimit) (sym (start at-box)) (measured-near (v n) (g n) (passed (accepted at-box)) (room n));
+      trimmed = trim-as (vars (v n)) (start at-box) (measured-trimmed (vars (v n)) (g n) (room n));
+      ticks = omega (arith, δ-is, α-is, wf .sum-high);
+      some = omega (arith, δ-is, α-is, width-is, wf .δ-low);
+      most = omega (arith, δ-is, α-is, width-is, wf .sum-high);
+    }
 
+-- decided
 returns-2 : tie.Need-returns-2
-returns-2 c =
-    let l = c .before in
-    let u = l .before .before in
-    let t = u .before .before in
-    let m = t .before .before in
-    let f : SFits w32 (u .command .result) = search needs in
-    c .attempts .ensures
-    ∙ plan-decides (v (n (e m))) (start m) (toZ-ofZ f ∙ u .command .ensures) (u .before .allowance .ensures) (t .before .count2 .ensures) (t .count3 .ensures) (l .larger .ensures)
-    ∙ unless-passed _ _ (e m .before .refusal .ensures) (e m .if1 .left)
+returns-2 at-return =
+    let at-width = at-return .before in
+    let at-command = at-width .before .before in
+    let at-plain = at-command .before .before in
+    let at-box = at-plain .before .before in
+    let f : SFits w32 (at-command .command .result) = search needs in
+    at-return .attempts .ensures
+    ∙ plan-decides (v (counted at-box)) (start at-box) (toZ-ofZ f ∙ at-command .command .ensures) (at-command .before .allowance .ensures) (at-plain .before .count2 .ensures) (at-plain .count3 .ensures) (at-width .larger .ensures)
+    ∙ unless-passed _ _ (accepted at-box .before .refusal .ensures) (accepted at-box .if1 .left)
 
 pub decide-on-spec : {M : Type 1} → statement M
 decide-on-spec =

@@ -1,129 +1,159 @@
--- `reach` does what the definition's reach does. Assumes nothing.
+-- `reach` does what the definition's reach does. Invariant: what is left to do of the definition's steps, from the box, the ticks
+-- left and the count that the loop has; the working box is the end box so far. Measure: the ticks left. Assumes nothing.
 use mathlib.Core.Path.{_≡_, refl, ap}
-use mathlib.Core.Logic.{⊎-elim}
 use mathlib.Core.List.{List}
 use Prim.Native.Nat.{ℕ, _≤_, _-_, _+_, _*_}
 use native.Mathlib.Omega.{arith}
 use lib.IntN.{ℤ}
 use borrow.Author.Needs.{needs}
-use denote.Enum.Declared.{tagOf}
-use Rattle.machine_spec.specs.Box.{hull, trim}
-use Rattle.boxes_arithmetic.specs.Limits.{SidesWithin}
-use Rattle.boxes_rates.specs.Plant.{machineOf}
-use Rattle.boxes_rates.proofs.Bounds.{wider}
-use Rattle.boxes_spec.specs.Reach.{clear}
-use Rattle.boxes.specs.Limits.{reachLimit}
-use Rattle.boxes.specs.ReachResult.{isEnded}
-use Rattle.boxes.proofs.Bounds.{StepBounds, tested-bounds}
+use Rattle.machine_spec.specs.Box.{trim}
 use Rattle.machine_spec.proofs.InPlace.{trim-as-hull}
-use Rattle.boxes.proofs.Turn.{Reaching, reaching-starts, reaching-ends, reaching-stops, reaching-on}
-use Rattle.boxes.proofs.steps.ReachResult.{the-type}
+use Rattle.boxes_arithmetic.specs.Limits.{SidesWithin}
+use Rattle.boxes_rates.proofs.Bounds.{wider}
+use Rattle.boxes.specs.declared.steps.ReachPlan.{ReachPlan}
+use Rattle.boxes.specs.Limits.{reachLimit}
+use Rattle.boxes.specs.ReachPlan.{machineOn, clearOn}
+use Rattle.boxes.specs.ReachResult.{isEnded, ticksOf, Arrived}
+use Rattle.boxes.proofs.Bounds.{StepBounds, tested-bounds}
+use Rattle.boxes.proofs.Turn.{Reaching, reaching-starts, reaching-ends, reaching-stops, reaching-on, not-ended, ended-not}
 use Rattle.boxes.proofs.steps.reach.Statement.{statement}
 use Rattle.boxes.proofs.steps.reach.Tie as tie
 
+-- at the end box E with `left` ticks left after d rounds; W is swept so far, F the working box and P the last step's swept box
+record Invariant (p : ReachPlan) (v : List ℤ) (T c : ℕ) (A E W F P : List ℤ) (left d : ℕ) : Type 0 where
+  fewer : left ≤ T
+  counts : d + 73 * left ≤ c + 73 * T
+  work : F ≡ E
+  trimmed : trim (p .plant .n) E ≡ E
+  swept : trim (p .plant .n) W ≡ W
+  path : trim (p .plant .n) P ≡ P
+  near : SidesWithin (reachLimit + (T - left) * 1000) E
+  reaching : Reaching (p .budget .limited) (p .budget .allowance) (machineOn p v) (clearOn p v) (p .width) A T c E W left d
+
 abbrev Inv-loop : tie.InvT-loop
-Inv-loop b p sheet boxes width ticks count end₀ swept₀ work₀ path₀ left₀ c₀ end swept work path left c =
-    ((left ≤ ticks) × (c + 73 * left ≤ count + 73 * ticks)) × (((work ≡ end) × ((trim (p .n) end ≡ end) × ((trim (p .n) swept ≡ swept) × (trim (p .n) path ≡ path))))
-    × (SidesWithin (reachLimit + (ticks - left) * 1000) end
-    × Reaching (b .limited) (b .allowance) (machineOf p sheet) (clear (p .n) sheet boxes) width end₀ ticks count end swept left c))
+Inv-loop plan sheet ticks count end₀ swept₀ plant work₀ path₀ left₀ counted₀ end swept work path left counted =
+    Invariant plan sheet ticks count end₀ end swept work path left counted
 
 abbrev μ-loop : tie.MeasureT-loop
-μ-loop b p sheet boxes width ticks count end₀ swept₀ work₀ path₀ left₀ c₀ end swept work path left c = left
+μ-loop plan sheet ticks count end₀ swept₀ plant work₀ path₀ left₀ counted₀ end swept work path left counted = left
 
--- behind a tested step
-module _ (g : tie.After-tested-step Inv-loop μ-loop) where
-  abbrev d : tie.At-loop Inv-loop μ-loop
-  d = g .before .before .before .before .before
+-- after a tested step
+module _ (at-step : tie.After-tested-step Inv-loop μ-loop) where
+  abbrev at-loop : tie.At-loop Inv-loop μ-loop
+  at-loop = at-step .before .before .before .before .before
 
-  abbrev s : tie.Start Inv-loop μ-loop
-  s = d .before .before .before .before
+  abbrev at-start : tie.Start Inv-loop μ-loop
+  at-start = at-loop .before .before .before .before .before
 
+  -- the number of variables
+  abbrev n : ℕ
+  n = at-start .args .plan .plant .n
+
+  -- the step's end box and swept box
   abbrev E : List ℤ
-  E = g .tested-step .last .1 .1 .1 .1 .1 .1 .1 .0
+  E = at-step .tested-step .last .1 .1 .1 .1 .0
 
   abbrev P : List ℤ
-  P = g .tested-step .last .1 .1 .1 .1 .1 .1 .1 .1 .1 .0
+  P = at-step .tested-step .last .1 .1 .1 .1 .1 .1 .0
 
-  trimmed : trim (s .args .p .n) E ≡ E
-  trimmed = g .tested-step .ensures .1 .1
+-- after a tested step that ended, whose swept box was joined
+module _ (at-join : tie.After-join Inv-loop μ-loop) where
+  abbrev ended : tie.After-r Inv-loop μ-loop
+  ended = at-join .before .before .before .before
 
--- behind a tested step that ended
-module _ (c : tie.After-join Inv-loop μ-loop) where
-  abbrev k : tie.After-r Inv-loop μ-loop
-  k = c .before .before .before .before
+  abbrev at-step : tie.After-tested-step Inv-loop μ-loop
+  at-step = ended .before .before
 
-  abbrev came : tie.After-tested-step Inv-loop μ-loop
-  came = k .before .before
-
-  -- where the tested step arrived
-  arrived : (came .tested-step .last .1 .1 .1 .1 .1 .1 .1 .1 .0 ≡ E came) × (P came ≡ hull (s came .args .p .n) (d came .loop .end) (E came))
-  unfolding isEnded
-  arrived = came .tested-step .ensures .1 .0 (ap isEnded (k .r .given .1))
-
-  -- the ticks it covers, the count behind it
+  -- the ticks that it covers, and the count after it
   abbrev t : ℕ
-  t = k .r .given .0 .0
+  t = ended .r .given .0 .0
 
-  abbrev i : ℕ
-  i = k .r .given .0 .1 .0
+  abbrev d : ℕ
+  d = ended .r .given .0 .1 .0
 
-  covers : StepBounds (reachLimit + (s came .args .ticks - d came .loop .left) * 1000) (d came .loop .left) t (E came) × (i ≤ d came .loop .c + 73)
-  covers =
-      let p = s came .pre in
-      let v = d came .loop .inv .1 .1 in
-      tested-bounds (v .1) (p .0 .0) (p .1 .0 .0 .0) (p .1 .0 .0 .1) (v .0) (omega arith) (came .tested-step .result) _ (P came) (came .tested-step .ensures .0) t i (k .r .given .1)
+  arrived : Arrived (n at-step) (at-loop at-step .loop .end) (E at-step) (at-step .tested-step .last .1 .1 .1 .1 .1 .0) (P at-step)
+  unfolding isEnded
+  arrived = at-step .tested-step .ensures .arrived (ap isEnded (ended .r .given .1))
+
+  bounds : StepBounds (reachLimit + (at-start at-step .args .ticks - at-loop at-step .loop .left) * 1000) (at-loop at-step .loop .left) t (E at-step) × (d ≤ at-loop at-step .loop .counted + 73)
+  bounds =
+      let plan = at-start at-step .pre .plan in
+      let inv = at-loop at-step .loop .inv in
+      tested-bounds (inv .reaching) (plan .usable) (plan .some) (plan .most) (inv .near) (omega arith) (at-step .tested-step .result) _ (P at-step) (at-step .tested-step .ensures .same) t d (ended .r .given .1)
 
 loop-holds : tie.Need-loop-holds Inv-loop μ-loop
 loop-holds c =
-    let s = c .before .before .before in
-    let p = s .pre .1 in (
-      (omega arith, omega arith),
-      (
-        (refl, (p .1, (p .1, p .1))),
-        (wider (omega arith) (p .0 .1 .1 .0), reaching-starts (s .args .b .limited) (s .args .b .allowance) _ _ (s .args .width) _ (s .args .ticks) (s .args .count)),
-      ),
-    )
+    let at-start = c .before .before .before .before in
+    let asked = at-start .pre in
+    let a = at-start .args in
+    record {
+      fewer = omega arith;
+      counts = omega arith;
+      work = refl;
+      trimmed = asked .trimmed;
+      swept = asked .trimmed;
+      path = asked .trimmed;
+      near = wider (omega arith) (asked .start);
+      reaching = reaching-starts (a .plan .budget .limited) (a .plan .budget .allowance) _ _ (a .plan .width) _ (a .ticks) (a .count);
+    }
 
 tested-step-requires : tie.Need-tested-step-requires Inv-loop μ-loop
 tested-step-requires c κs =
-    let d = c .before .before .before .before in
-    let p = d .before .before .before .before .pre in
-    let q = p .1 .0 in
-    let v = d .loop .inv in
-    (p .0, ((q .0, (omega arith, (wider (omega (arith, q .1 .0)) (v .1 .1 .0), omega (arith, v .0, q .1)))), (v .1 .0 .0, (v .1 .0 .1 .0, v .1 .0 .1 .1 .1))))
+    let at-loop = c .before .before .before .before in
+    let asked = at-loop .before .before .before .before .before .pre in
+    let inv = at-loop .loop .inv in
+    record {
+      plan = asked .plan;
+      due = omega arith;
+      counts = omega (arith, inv .counts, asked .counts);
+      start = wider (omega (arith, asked .ticks)) (inv .near);
+      trimmed = inv .trimmed;
+      work = inv .work;
+      swept = inv .path;
+    }
 
+-- a step did not end
 returns : tie.Need-returns Inv-loop μ-loop
-returns c =
-    let g = c .before in (
-      reaching-stops (d g .loop .inv .1 .1 .1) (g .tested-step .result) _ _ (omega arith) (g .tested-step .ensures .0) _
-          (λ t i q. let z : tagOf the-type (g .tested-step .result) ≡ 0 = ap (tagOf the-type) q in ⊎-elim (λ o. omega arith) (⊎-elim (λ o. omega arith) (λ o. omega arith)) (c .match .keys2)),
-      trimmed g,
-    )
+returns at-return =
+    let at-step = at-return .before in
+    let done = at-step .tested-step .ensures in
+    let stopped = not-ended (at-return .match .keys2) in
+    record {
+      same = reaching-stops (at-loop at-step .loop .inv .reaching) (at-step .tested-step .result) _ _ (omega arith) (done .same) _ stopped;
+      covered = λ yes. absurd (ended-not (at-step .tested-step .result) stopped yes);
+      trimmed = done .trimmed;
+    }
 
 join-requires : tie.Need-join-requires Inv-loop μ-loop
 join-requires c κs =
-    let g = c .before .before .before .before .before in
-    (s g .pre .0 .0 .vars, d g .loop .inv .1 .0 .1 .1 .0)
+    let at-step = c .before .before .before .before .before in
+    (at-start at-step .pre .plan .usable .vars, at-loop at-step .loop .inv .swept)
 
 loop-again : tie.Need-loop-again Inv-loop μ-loop
 loop-again c =
-    let n = covers c in
-    let g = came c in
-    let m = s g .args .p .n in
-    let room = s g .pre .0 .0 .vars in
-    let v = d g .loop .inv in (
-      (omega (arith, v .0), omega (arith, v .0, n .1, n .0 .some, n .0 .most)),
-      (
-        (arrived c .0, (trimmed g, (trim-as-hull m (d g .loop .swept) (P g) room (c .join .ensures), trim-as-hull m (d g .loop .end) (E g) room (arrived c .1)))),
-        (
-          wider (omega (arith, n .0 .some, n .0 .most, v .0)) (n .0 .sides),
-          reaching-on (v .1 .1 .1) (g .tested-step .result) _ (P g) (omega arith) (g .tested-step .ensures .0) (t c) (i c) (k c .r .given .1) (n .0 .some) (n .0 .most) (arrived c .1) _ (c .join .ensures),
-        ),
-      ),
-    )
+    let s = at-step c in
+    let room = at-start s .pre .plan .usable .vars in
+    let at = at-loop s .loop in
+    let inv = at .inv in
+    let b = bounds c in
+    record {
+      fewer = omega (arith, inv .fewer);
+      counts = omega (arith, inv .counts, b .1, b .0 .some, b .0 .most);
+      work = arrived c .work;
+      trimmed = s .tested-step .ensures .trimmed;
+      swept = trim-as-hull (n s) (at .swept) (P s) room (c .join .ensures);
+      path = trim-as-hull (n s) (at .end) (E s) room (arrived c .swept);
+      near = wider (omega (arith, b .0 .some, b .0 .most, inv .fewer)) (b .0 .sides);
+      reaching =
+          reaching-on (inv .reaching) (s .tested-step .result) _ (P s) (omega arith) (s .tested-step .ensures .same) (t c) (d c) (ended c .r .given .1) (b .0 .some) (b .0 .most) (arrived c .swept) _ (c .join .ensures);
+    }
 
+-- no ticks are left
 returns-2 : tie.Need-returns-2 Inv-loop μ-loop
-returns-2 c = let v = c .before .loop .inv .1 in (reaching-ends (v .1 .1) (omega arith), v .0 .1 .0)
+unfolding ticksOf
+returns-2 at-return =
+    let inv = at-return .before .loop .inv in
+    record { same = reaching-ends (inv .reaching) (omega arith); covered = λ yes. refl; trimmed = inv .trimmed }
 
 pub reach-spec : {M : Type 1} → statement M
 reach-spec =
@@ -136,7 +166,7 @@ reach-spec =
     (λ c. search needs)
     returns
     join-requires
-    (λ c. covers c .0 .most)
-    (λ c. omega (arith, covers c .0 .some, covers c .0 .most))
+    (λ c. bounds c .0 .most)
+    (λ c. omega (arith, bounds c .0 .some, bounds c .0 .most))
     loop-again
     returns-2)

@@ -8,112 +8,148 @@ use lib.IntN.{ℤ}
 use borrow.Author.Needs.{needs}
 use Rattle.sheet_spec.specs.Slots.{unsafeBox}
 use Rattle.machine_spec.specs.Box.{any, meets, trim}
-use Rattle.machine_spec.specs.Machine.{Machine}
 use Rattle.machine_spec.proofs.Box.{differ}
-use Rattle.boxes_rates.specs.Plant.{machineOf}
-use Rattle.boxes_rates.proofs.Bounds.{wider}
 use Rattle.machine_spec.proofs.InPlace.{trim-moved, trim-as}
+use Rattle.boxes_rates.proofs.Bounds.{wider}
 use Rattle.boxes_spec.specs.Step.{step}
 use Rattle.boxes_spec.specs.Reach.{clear}
+use Rattle.boxes.specs.declared.steps.ReachPlan.{ReachPlan}
+use Rattle.boxes.specs.ReachPlan.{machineOn, clearOn}
 use Rattle.boxes.specs.ReachResult.{isEnded}
 use Rattle.boxes.proofs.Bounds.{step-ticks, zero-bound}
 use Rattle.boxes.proofs.Turn.{Stepping, tested-unsettled, tested-exhausted, tested-clear, tested-unsafe}
 use Rattle.boxes.proofs.steps.tested_step.Statement.{statement}
 use Rattle.boxes.proofs.steps.tested_step.Tie as tie
 
--- what is known behind the step
-module _ (r : tie.After-step) where
-  abbrev s : tie.Start
-  s = r .before .before .before .before .before
+-- what is known after the step
+module _ (at-step : tie.After-step) where
+  abbrev at-start : tie.Start
+  at-start = at-step .before .before .before .before .before .before .before
 
-  abbrev M : Machine
-  M = machineOf (s .args .p) (s .args .sheet .now)
+  abbrev plan : ReachPlan
+  plan = at-start .args .plan
 
+  -- the number of variables
+  abbrev n : ℕ
+  n = plan .plant .n
+
+  abbrev v : List ℤ
+  v = at-start .args .sheet .now
+
+  -- the start box
   abbrev S : List ℤ
-  S = s .args .at .now
+  S = at-start .args .at .now
 
+  -- the rates of the last round
   abbrev R : List ℤ
-  R = r .step .last .1 .1 .1 .1 .1 .1 .1 .0
-
-  stepping : Stepping (s .args .b .limited) (s .args .b .allowance) M (s .args .width) S (s .args .left) (s .args .count) (r .step .result) R
-  stepping = record { same = r .step .ensures .0 ∙ ap (λ (k : ℕ). step (s .args .b .limited) (s .args .b .allowance) M S k (s .args .count)) (r .before .before .before .smaller .ensures) }
+  R = at-step .step .last .1 .1 .1 .1 .1 .1 .1 .0
 
   abbrev free : List ℤ → Bool
-  free = clear (s .args .p .n) (s .args .sheet .now) (s .args .boxes)
+  free = clearOn plan v
+
+  stepping : Stepping (plan .budget .limited) (plan .budget .allowance) (machineOn plan v) (plan .width) S (at-start .args .left) (at-start .args .count) (at-step .step .result) R
+  stepping = record {
+    same = at-step .step .ensures .same
+        ∙ ap (λ (k : ℕ). step (plan .budget .limited) (plan .budget .allowance) (machineOn plan v) S k (at-start .args .count)) (at-step .before .before .before .smaller .ensures);
+  }
 
 -- what is known once the swept box is there
-module _ (c : tie.After-arrive) where
-  abbrev k : tie.After-r
-  k = c .before .before .before .before .before .before
+module _ (at-arrival : tie.After-arrive) where
+  abbrev settled : tie.After-r
+  settled = at-arrival .before .before .before .before .before .before
 
-  abbrev came : tie.After-step
-  came = k .before .before
+  abbrev stepped : tie.After-step
+  stepped = settled .before .before
 
-  -- the ticks the step covers, the count behind it
+  -- the ticks that the step covers, and the count after it
   abbrev t : ℕ
-  t = k .r .given .0 .0
+  t = settled .r .given .0 .0
 
-  abbrev i : ℕ
-  i = k .r .given .0 .1 .0
+  abbrev d : ℕ
+  d = settled .r .given .0 .1 .0
 
+  -- the end box and the swept box
   abbrev E : List ℤ
-  E = c .arrive .last .1 .1 .1 .1 .0
+  E = at-arrival .arrive .last .1 .1 .1 .1 .0
 
   abbrev P : List ℤ
-  P = c .arrive .last .1 .1 .1 .1 .1 .0
+  P = at-arrival .arrive .last .1 .1 .1 .1 .1 .0
 
   -- the swept box shares a state with a no-go box
   abbrev met : Bool
-  met = any (s came .args .boxes) (λ j. meets (s came .args .p .n) P (unsafeBox (s came .args .sheet .now) j))
+  met = any (plan stepped .boxes) (λ j. meets (n stepped) P (unsafeBox (v stepped) j))
 
-  trimmed : trim (s came .args .p .n) E ≡ E
-  trimmed = trim-as (s came .args .p .n) (c .arrive .ensures .0) (trim-moved (s came .args .p .n) (s came .pre .0 .0 .vars) (S came) t (R came))
+  trimmed : trim (n stepped) E ≡ E
+  trimmed = trim-as (n stepped) (at-arrival .arrive .ensures .0) (trim-moved (n stepped) (at-start stepped .pre .plan .usable .vars) (S stepped) t (R stepped))
 
 step-requires : tie.Need-step-requires
 step-requires c κs =
-    let p = c .before .before .before .before .pre in
-    let q = c .before .before .smaller .ensures in
-    let i = p .1 .0 in
-    (p .0 .0, (((omega (arith, q, i), omega (arith, q, i)), (i .1 .1 .0, omega (arith, q, i .1 .1 .1))), (p .1 .1 .0, (p .1 .1 .1 .0, zero-bound))))
+    let asked = c .before .before .before .before .before .before .pre in
+    let length = c .before .before .smaller .ensures in
+    record {
+      usable = asked .plan .usable;
+      some = omega (arith, length, asked .plan .some, asked .due);
+      most = omega (arith, length, asked .plan .most);
+      counts = omega (arith, length, asked .counts);
+      start = asked .start;
+      trimmed = asked .trimmed;
+      work = asked .work;
+      rates = zero-bound;
+    }
 
 arrive-requires : tie.Need-arrive-requires
 arrive-requires c κs =
-    let k = c .before .before .before .before .before in
-    let r = k .before .before in
-    let p = s r .pre in
-    let q = p .1 .0 in
-    let most = step-ticks (stepping r) (p .0 .0 .vars) (q .0 .0) (q .0 .1) (q .1 .0) (k .r .given .0 .0) (k .r .given .0 .1 .0) (k .r .given .1) in
-    ((p .0 .0 .vars, omega (arith, most, q .0)), ((wider (omega arith) (q .1 .1 .0), r .step .ensures .1 .1), (r .step .ensures .1 .0, p .1 .1 .1)))
+    let settled = c .before .before .before .before .before in
+    let at-step = settled .before .before in
+    let asked = at-start at-step .pre in
+    let done = at-step .step .ensures in
+    let plan = asked .plan in
+    let most = step-ticks (stepping at-step) (plan .usable .vars) (plan .some) (plan .most) (asked .due) (settled .r .given .0 .0) (settled .r .given .0 .1 .0) (settled .r .given .1) in (
+      record { room = plan .usable .vars; ticks = omega (arith, most, plan .most); start = wider (omega arith) (asked .start); rates = done .rates },
+      record { work = done .trimmed; at = asked .trimmed; path = asked .swept },
+    )
 
+-- the swept box is not clear
 returns : tie.Need-returns
 unfolding clear isEnded
-returns c =
-    let u = c .before in
-    let h = u .before .before in
-    let e = h .arrive .ensures in
-    (tested-unsafe (stepping (came h)) (free (came h)) (t h) (i h) (k h .r .given .1) (e .0) (e .1 .1) {x = met h} (u .meets-unsafe .ensures) refl (c .if1 .taken), ((λ no. absurd (differ no refl)), trimmed h))
+returns at-return =
+    let at-test = at-return .before in
+    let a = at-test .before .before in
+    let moved = a .arrive .ensures in
+    record {
+      same = tested-unsafe (stepping (stepped a)) (free (stepped a)) (t a) (d a) (settled a .r .given .1) (moved .0) (moved .1 .1) {x = met a} (at-test .meets-unsafe .ensures) refl (at-return .if1 .taken);
+      arrived = λ no. absurd (differ no refl);
+      trimmed = trimmed a;
+    }
 
+-- it is clear
 returns-2 : tie.Need-returns-2
 unfolding clear
-returns-2 c =
-    let u = c .before in
-    let h = u .before .before in
-    let e = h .arrive .ensures in
-    (tested-clear (stepping (came h)) (free (came h)) (t h) (i h) (k h .r .given .1) (e .0) (e .1 .1) {x = met h} (u .meets-unsafe .ensures) refl (c .if1 .left), ((λ yes. (e .1 .0, e .1 .1)), trimmed h))
+returns-2 at-return =
+    let at-test = at-return .before in
+    let a = at-test .before .before in
+    let moved = a .arrive .ensures in
+    record {
+      same = tested-clear (stepping (stepped a)) (free (stepped a)) (t a) (d a) (settled a .r .given .1) (moved .0) (moved .1 .1) {x = met a} (at-test .meets-unsafe .ensures) refl (at-return .if1 .left);
+      arrived = λ yes. record { work = moved .1 .0; swept = moved .1 .1 };
+      trimmed = trimmed a;
+    }
 
+-- no length settled
 returns-3 : tie.Need-returns-3
 unfolding isEnded
-returns-3 c =
-    let k = c .before in
-    let r = k .before .before in
-    (tested-unsettled (stepping r) (free r) _ _ (k .r2 .given .0 .0) (k .r2 .given .1), ((λ no. absurd (differ no refl)), s r .pre .1 .1 .1 .0))
+returns-3 at-return =
+    let k = at-return .before in
+    let s = k .before .before in
+    record { same = tested-unsettled (stepping s) (free s) _ _ (k .r2 .given .0 .0) (k .r2 .given .1); arrived = λ no. absurd (differ no refl); trimmed = at-start s .pre .trimmed }
 
+-- no round was left
 returns-4 : tie.Need-returns-4
 unfolding isEnded
-returns-4 c =
-    let k = c .before in
-    let r = k .before .before in
-    (tested-exhausted (stepping r) (free r) _ _ (k .r3 .given .0 .0) (k .r3 .given .1), ((λ no. absurd (differ no refl)), s r .pre .1 .1 .1 .0))
+returns-4 at-return =
+    let k = at-return .before in
+    let s = k .before .before in
+    record { same = tested-exhausted (stepping s) (free s) _ _ (k .r3 .given .0 .0) (k .r3 .given .1); arrived = λ no. absurd (differ no refl); trimmed = at-start s .pre .trimmed }
 
 pub tested-step-spec : {M : Type 1} → statement M
 tested-step-spec =

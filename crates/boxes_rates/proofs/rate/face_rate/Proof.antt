@@ -24,13 +24,13 @@ module _ (c : tie.Start) where
   reach = pos (c .args .k + 1) *ℤ cap (c .args .sheet .now) (c .args .i)
 
   reach-bound : Bound reach 1001000
-  reach-bound = bound-mul {B = 1001} (bound-less (bound-lit (pos (c .args .k + 1))) (omega (arith, c .pre .1 .1))) (cap-bound (c .pre .0 .0) (c .pre .1 .0))
+  reach-bound = bound-mul {B = 1001} (bound-less (bound-lit (pos (c .args .k + 1))) (omega (arith, c .pre .0 .ticks))) (cap-bound (c .pre .0 .usable) (c .pre .1))
 
   reach-low : pos 0 ≤ℤ reach
-  reach-low = times-low (c .args .k + 1) (cap (c .args .sheet .now) (c .args .i)) (omega (ints, c .pre .0 .0 .caps (c .args .i) (c .pre .1 .0) .low))
+  reach-low = times-low (c .args .k + 1) (cap (c .args .sheet .now) (c .args .i)) (omega (ints, c .pre .0 .usable .caps (c .args .i) (c .pre .1) .low))
 
   ticks-is : toZ w64 (c .args .k + 1) ≡ pos (c .args .k + 1)
-  ticks-is = toZ-pos w64 (omega (arith, c .pre .1 .1))
+  ticks-is = toZ-pos w64 (omega (arith, c .pre .0 .ticks))
 
 -- the reach, as the code has it
 reach-is : (c : tie.After-reach) → let s = c .before in toZ w64 (ofZ w64 (toZ w64 (s .args .k + 1) *ℤ cap (s .args .sheet .now) (s .args .i))) ≡ reach s
@@ -43,13 +43,13 @@ mul-reach-2 c = simp (wide, c .reach .given, ticks-is (c .before)) (fits64 (reac
 side-below : (c : tie.After-cut-at) → c .cut-at .result < boxSize
 side-below c =
     let s = c .before .before in
-    rw (c .cut-at .ensures) (cut-below (s .args .up) (s .args .i) (omega (arith, s .pre .0 .0 .vars, s .pre .1 .0)))
+    rw (c .cut-at .ensures) (cut-below (s .args .up) (s .args .i) (omega (arith, s .pre .0 .usable .vars, s .pre .1)))
 
 narrow-requires : tie.Need-narrow-requires
 narrow-requires c κs =
     let d = c .before .before .before in
     let s = d .before in
-    ((omega (arith, s .pre .0 .0 .vars, s .pre .1 .0), simp (wide, d .reach .given, reach-is d) (reach-bound s)), s .pre .0 .1 .0)
+    ((omega (arith, s .pre .0 .usable .vars, s .pre .1), simp (wide, d .reach .given, reach-is d) (reach-bound s)), s .pre .0 .start)
 
 -- the narrowed box, and that it is the working box again with the saved side
 module _ (c : tie.After-narrow) where
@@ -70,7 +70,7 @@ rate-requires c κs =
     let e = c .before in
     let a = s e .args in
     let p = s e .pre in
-    ((p .0 .0, rw (box-is e) (neighborhood-bound (a .up) (a .s .now) _ (a .e .now) (a .i) (reach-low (s e)) (p .0 .1 .0) (p .0 .1 .1))), p .1 .0)
+    ((p .0 .usable, rw (box-is e) (neighborhood-bound (a .up) (a .s .now) _ (a .e .now) (a .i) (reach-low (s e)) (p .0 .start) (p .0 .work))), p .1)
 
 returns : tie.Need-returns
 unfolding faceRate

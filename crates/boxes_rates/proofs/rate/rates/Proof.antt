@@ -25,13 +25,13 @@ abbrev μ-loop : tie.MeasureT-loop
 
 loop-holds : tie.Need-loop-holds Inv-loop μ-loop
 unfolding boxOf
-loop-holds c = (omega arith, (c .before .pre .0 .0 .vars, (refl, refl)))
+loop-holds c = (omega arith, (c .before .pre .usable .vars, (refl, refl)))
 
 face-rate-requires : tie.Need-face-rate-requires Inv-loop μ-loop
 face-rate-requires c κs =
     let d = c .before .before .before in
     let p = d .before .before .pre in
-    ((p .0 .0, (p .0 .1 .0, rw (d .loop .inv .1 .1 .0) (p .0 .1 .1))), (omega arith, p .1))
+    (record { usable = p .usable; ticks = p .ticks; start = p .start; work = rw (d .loop .inv .1 .1 .0) (p .work) }, omega arith)
 
 -- the working box after the first call
 same : (c : tie.After-face-rate Inv-loop μ-loop) → c .face-rate .last .1 .1 .1 .1 .1 .0 ≡ c .before .before .before .before .before .before .args .e .now
@@ -40,7 +40,7 @@ same c = c .face-rate .ensures .1 ∙ c .before .before .before .before .loop .i
 face-rate-requires-2 : tie.Need-face-rate-requires-2 Inv-loop μ-loop
 face-rate-requires-2 c κs =
     let p = c .before .before .before .before .before .before .before .pre in
-    ((p .0 .0, (p .0 .1 .0, rw (same (c .before)) (p .0 .1 .1))), (omega arith, p .1))
+    (record { usable = p .usable; ticks = p .ticks; start = p .start; work = rw (same (c .before)) (p .work) }, omega arith)
 
 loop-again : tie.Need-loop-again Inv-loop μ-loop
 loop-again c =

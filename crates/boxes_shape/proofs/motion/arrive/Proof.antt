@@ -57,15 +57,15 @@ along-requires : tie.Need-along-requires Inv-loop μ-loop
 along-requires c κs =
     let l = c .before .before .before in
     let s = l .before in
-    let b : Bound (lo (l .loop .at) (l .loop .i)) limit = subst (λ (x : ℤ). Bound x limit) (sym (was-low l (omega arith))) (s .pre .1 .0 .0 .at (l .loop .i)) in
-    (bound-read (sfits-of (c .before .along-arg .given)) b, (bound-read (sfits-of (c .along-arg2 .given)) (s .pre .1 .0 .1 .at (l .loop .i)), s .pre .0 .1))
+    let b : Bound (lo (l .loop .at) (l .loop .i)) limit = subst (λ (x : ℤ). Bound x limit) (sym (was-low l (omega arith))) (s .pre .0 .start .at (l .loop .i)) in
+    (bound-read (sfits-of (c .before .along-arg .given)) b, (bound-read (sfits-of (c .along-arg2 .given)) (s .pre .0 .rates .at (l .loop .i)), s .pre .0 .ticks))
 
 along-requires-2 : tie.Need-along-requires-2 Inv-loop μ-loop
 along-requires-2 c κs =
     let l = c .before .before .before .before .before .before in
     let s = l .before in
-    let b : Bound (hi (l .loop .at) (l .loop .i)) limit = subst (λ (x : ℤ). Bound x limit) (sym (was-high l)) (s .pre .1 .0 .0 .at (l .loop .i + N)) in
-    (bound-read (sfits-of (c .before .along-arg3 .given)) b, (bound-read (sfits-of (c .along-arg4 .given)) (s .pre .1 .0 .1 .at (l .loop .i + N)), s .pre .0 .1))
+    let b : Bound (hi (l .loop .at) (l .loop .i)) limit = subst (λ (x : ℤ). Bound x limit) (sym (was-high l)) (s .pre .0 .start .at (l .loop .i + N)) in
+    (bound-read (sfits-of (c .before .along-arg3 .given)) b, (bound-read (sfits-of (c .along-arg4 .given)) (s .pre .0 .rates .at (l .loop .i + N)), s .pre .0 .ticks))
 
 module _ (c : tie.After-along Inv-loop μ-loop) where
   abbrev at-low : tie.At-loop Inv-loop μ-loop
@@ -119,14 +119,14 @@ returns c =
     let l = c .before in
     let s = l .before in
     let e : l .loop .i ≡ s .args .n = omega arith in
-    let t = s .pre .1 .1 in
-    let room = s .pre .0 .0 in
+    let t = s .pre .1 in
+    let room = s .pre .0 .room in
     let v = l .loop .inv .1 in
-    let m = (rw e at (v .0)) ∙ filled-sides _ _ (s .args .n) _ room (t .1 .0) in (
+    let m = (rw e at (v .0)) ∙ filled-sides _ _ (s .args .n) _ room (t .at) in (
       m,
       (
-        (rw e at (v .1 .0)) ∙ (filled-sides _ _ (s .args .n) _ room (t .0) ∙ sym m),
-        hull-moved (s .args .n) room (s .args .at .now) (s .args .k) (s .args .rates .now) (rw e at (v .1 .1)) (t .1 .1) ∙ ap (hull (s .args .n) (s .args .at .now)) (sym m),
+        (rw e at (v .1 .0)) ∙ (filled-sides _ _ (s .args .n) _ room (t .work) ∙ sym m),
+        hull-moved (s .args .n) room (s .args .at .now) (s .args .k) (s .args .rates .now) (rw e at (v .1 .1)) (t .path) ∙ ap (hull (s .args .n) (s .args .at .now)) (sym m),
       ),
     )
 

@@ -41,14 +41,14 @@ along-requires : tie.Need-along-requires Inv-loop μ-loop
 along-requires c κs =
     let s = c .before .before .before .before .before in
     let i = c .before .before .before .before .loop .i in
-    (bound-read (sfits-of (c .before .along-arg .given)) (s .pre .1 .0 .at i), (bound-read (sfits-of (c .along-arg2 .given)) (s .pre .1 .1 .0 .at i), s .pre .0 .1))
+    (bound-read (sfits-of (c .before .along-arg .given)) (s .pre .0 .start .at i), (bound-read (sfits-of (c .along-arg2 .given)) (s .pre .0 .rates .at i), s .pre .0 .ticks))
 
 along-requires-2 : tie.Need-along-requires-2 Inv-loop μ-loop
 along-requires-2 c κs =
     let l = c .before .before .before .before .before .before .before .before .before in
     let h = l .loop .i + N in
     let s = l .before in
-    (bound-read (sfits-of (c .before .along-arg3 .given)) (s .pre .1 .0 .at h), (bound-read (sfits-of (c .along-arg4 .given)) (s .pre .1 .1 .0 .at h), s .pre .0 .1))
+    (bound-read (sfits-of (c .before .along-arg3 .given)) (s .pre .0 .start .at h), (bound-read (sfits-of (c .along-arg4 .given)) (s .pre .0 .rates .at h), s .pre .0 .ticks))
 
 module _ (l : tie.At-loop Inv-loop μ-loop) where
   abbrev box : List ℤ
@@ -75,7 +75,7 @@ module _ (c : tie.After-min Inv-loop μ-loop) where
       ∙ (ap₂ minZ
       (simp (told, d .before .before .before .min-arg .given))
       (toZ-ofZ g ∙ (d .along .ensures ∙ simp (told, d .before .along-arg2 .given, d .before .before .along-arg .given)))
-      ∙ sym (swept-lo (s .args .n) (at-min .loop .i) (s .pre .0 .0) turns (s .args .a .now) (s .args .k) (s .args .rates .now))))
+      ∙ sym (swept-lo (s .args .n) (at-min .loop .i) (s .pre .0 .room) turns (s .args .a .now) (s .args .k) (s .args .rates .now))))
 
 module _ (c : tie.After-max Inv-loop μ-loop) where
   abbrev after-min : tie.After-min Inv-loop μ-loop
@@ -95,7 +95,7 @@ module _ (c : tie.After-max Inv-loop μ-loop) where
       ∙ (ap₂ maxZ
       (simp (told, d .before .before .before .max-arg .given))
       (toZ-ofZ g ∙ (d .along2 .ensures ∙ simp (told, d .before .along-arg4 .given, d .before .before .along-arg3 .given)))
-      ∙ sym (swept-hi (s .args .n) (at-max .loop .i) (s .pre .0 .0) (turns after-min) (s .args .a .now) (s .args .k) (s .args .rates .now))))
+      ∙ sym (swept-hi (s .args .n) (at-max .loop .i) (s .pre .0 .room) (turns after-min) (s .args .a .now) (s .args .k) (s .args .rates .now))))
 
   -- e's lower side as it was
   low-was : lo (at-max .loop .e) (at-max .loop .i) ≡ lo (old at-max) (at-max .loop .i)
@@ -154,7 +154,7 @@ returns c =
     let s = c .before .before in
     let l = c .before .loop in
     let e : l .i ≡ s .args .n = omega arith in
-    (rw e at (l .inv .1 .0), (rw e at (l .inv .1 .1)) ∙ filled-sides _ _ (s .args .n) _ (s .pre .0 .0) (s .pre .1 .1 .1))
+    (rw e at (l .inv .1 .0), (rw e at (l .inv .1 .1)) ∙ filled-sides _ _ (s .args .n) _ (s .pre .0 .room) (s .pre .1))
 
 pub grow-spec : {M : Type 1} → statement M
 grow-spec =

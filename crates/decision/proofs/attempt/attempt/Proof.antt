@@ -1,6 +1,6 @@
--- `attempt` does what the definition's attempt does, but for the box and why it fails. Assumes nothing.
+-- `attempt` does what the definition's attempt does, but for the box and why it fails: one phase after another, then the test
+-- against the recovery box. Assumes nothing.
 use mathlib.Core.Path.{_≡_, sym, ap, _∙_}
-use mathlib.Core.Logic.{_⊎_, ⊎-elim}
 use mathlib.Core.Bool.{Bool}
 use mathlib.Core.List.{List, [], _∷_}
 use Prim.Native.Nat.{ℕ, _+_, _*_, _≤_}
@@ -10,187 +10,220 @@ use mir.Syntax.{w32}
 use mir.Val.{SFits}
 use mir.Facts.{toZ-ofZ}
 use borrow.Author.Needs.{needs}
-use denote.Enum.Declared.{tagOf}
 use Rattle.sheet_spec.specs.Slots.{vars, recoveryBox}
 use Rattle.machine_spec.specs.Box.{trim, within}
 use Rattle.machine_spec.specs.Machine.{baseline, command, machine, lawOf}
 use Rattle.boxes_arithmetic.specs.Limits.{SidesWithin}
 use Rattle.boxes_rates.specs.Plant.{machineOf}
 use Rattle.boxes_rates.proofs.Bounds.{wider}
-use Rattle.boxes.specs.declared.steps.ReachResult.{ReachResult}
-use Rattle.boxes.specs.declared.steps.ReachResult.the-variants.{Ended}
 use Rattle.boxes_spec.specs.Step.{Result}
+use Rattle.boxes_spec.specs.Reach.{Reached}
 use Rattle.boxes.specs.ReachResult.{reachedOf}
-use Rattle.boxes.proofs.steps.ReachResult.{the-type}
+use Rattle.boxes.proofs.Turn.{not-ended}
 use Rattle.decision_spec.specs.Decision.{Phase, phase, attempt}
+use Rattle.decision.specs.declared.attempt.AttemptPlan.{AttemptPlan}
 use Rattle.decision.specs.AttemptResult.{summary}
 use Rattle.decision.specs.Limits.{startLimit}
 use Rattle.decision.proofs.Turn.{reached, plant-usable, plant-vars, plant-trimmed, vars-trimmed, plant-reach, phase-near, phase-on, phase-stops, attempt-succeeds, attempt-fails, within-trim}
 use Rattle.decision.proofs.attempt.attempt.Statement.{statement}
 use Rattle.decision.proofs.attempt.attempt.Tie as tie
 
-not-ended : {r : ReachResult} → (tagOf the-type r ≡ 1) ⊎ ((tagOf the-type r ≡ 2) ⊎ (tagOf the-type r ≡ 3)) → (t d : ℕ) → r ≡ Ended t d → ⊥
-not-ended {r} k t d q = let z : tagOf the-type r ≡ 0 = ap (tagOf the-type) q in ⊎-elim (λ o. omega arith) (⊎-elim (λ o. omega arith) (λ o. omega arith)) k
+-- after the plant
+module _ (at-plant : tie.After-plant) where
+  abbrev at-start : tie.Start
+  at-start = at-plant .before .before .before
 
--- behind the plant
-module _ (c : tie.After-plant) where
-  abbrev s : tie.Start
-  s = c .before .before .before
+  abbrev plan : AttemptPlan
+  plan = at-start .args .plan
 
   abbrev v : List ℤ
-  v = s .args .sheet .now
+  v = at-start .args .sheet .now
 
-  abbrev l : Bool
-  l = s .args .t .budget .limited
+  abbrev w : ℕ
+  w = at-start .args .width
 
-  abbrev a : ℕ
-  a = s .args .t .budget .allowance
+  -- the two phases
+  abbrev commanded : Phase
+  commanded = phase (command (plan .command)) (plan .first)
 
-  abbrev first : Phase
-  first = phase (command (s .args .t .command)) (s .args .t .first)
+  abbrev plain : Phase
+  plain = phase baseline (plan .then)
 
-  abbrev last : Phase
-  last = phase baseline (s .args .t .then)
+  -- a phase's reach, and an attempt of some phases, within the plan's budget
+  abbrev reaches : Phase → List ℤ → ℕ → Result Reached
+  reaches = reached (plan .budget .limited) (plan .budget .allowance) v w
 
-  abbrev tried : List Phase → List ℤ → ℕ → Result (List ℤ)
-  tried = attempt l a v (s .args .width)
+  abbrev attempted : List Phase → List ℤ → ℕ → Result (List ℤ)
+  attempted = attempt (plan .budget .limited) (plan .budget .allowance) v w
 
-  under : machineOf (c .plant .result) v ≡ machine v (first .law)
+  -- the machine under the command
+  under : machineOf (at-plant .plant .result) v ≡ machine v (commanded .law)
   unfolding lawOf
-  under = let f : SFits w32 (s .args .t .command) = search needs in c .plant .ensures ∙ ap (λ (u : ℤ). machine v (command u)) (toZ-ofZ f)
+  under = let f : SFits w32 (plan .command) = search needs in at-plant .plant .ensures ∙ ap (λ (u : ℤ). machine v (command u)) (toZ-ofZ f)
 
--- behind the first reach
-module _ (c : tie.After-reach) where
-  abbrev p : tie.After-plant
-  p = c .before .before .before .before .before
+-- after the reach under the command
+module _ (at-reach : tie.After-reach) where
+  abbrev at-count : tie.After-count
+  at-count = at-reach .before .before .before .before
 
+  abbrev at-plant : tie.After-plant
+  at-plant = at-count .before
+
+  -- its end box and its swept box
   abbrev E : List ℤ
-  E = c .reach .last .1 .1 .1 .1 .1 .1 .1 .0
+  E = at-reach .reach .last .1 .1 .1 .1 .0
 
   abbrev W : List ℤ
-  W = c .reach .last .1 .1 .1 .1 .1 .1 .1 .1 .0
+  W = at-reach .reach .last .1 .1 .1 .1 .1 .0
 
-  reach-first : reachedOf E W (c .reach .result) ≡ reached (l p) (a p) (v p) (s p .args .width) (first p) (s p .args .start .now) (s p .args .count)
-  reach-first = c .reach .ensures .0 ∙ plant-reach (p .plant .result) _ (under p) _ _ _ _ _ _ _ (c .before .before .before .before .count .ensures)
+  first-reach : reachedOf E W (at-reach .reach .result) ≡ reaches at-plant (commanded at-plant) (at-start at-plant .args .start .now) (at-start at-plant .args .count)
+  first-reach = at-reach .reach .ensures .same ∙ plant-reach (at-plant .plant .result) _ (under at-plant) _ _ _ _ _ _ _ (at-count .count .ensures)
 
-  trimmed : trim (vars (v p)) E ≡ E
-  trimmed = vars-trimmed (p .plant .result) _ (under p) (c .reach .ensures .1)
+  trimmed : trim (vars (v at-plant)) E ≡ E
+  trimmed = vars-trimmed (at-plant .plant .result) _ (under at-plant) (at-reach .reach .ensures .trimmed)
 
--- where it ended
-module _ (c : tie.After-r) where
-  abbrev g : tie.After-reach
-  g = c .before .before
+-- if it ended: the start of the next phase
+module _ (first-ended : tie.After-r) where
+  abbrev at-reach : tie.After-reach
+  at-reach = first-ended .before .before
 
-  abbrev t : ℕ
-  t = c .r .given .0 .0
+  abbrev before-first : tie.After-plant
+  before-first = at-plant at-reach
 
+  abbrev asked : tie.Start
+  asked = at-start before-first
+
+  -- the count after it
   abbrev d : ℕ
-  d = c .r .given .0 .1 .0
+  d = first-ended .r .given .0 .1 .0
 
-  near : SidesWithin (startLimit + s (p g) .args .t .first * 1000) (E g) × (d ≤ s (p g) .args .count + 73 * s (p g) .args .t .first)
-  near = phase-near _ _ _ _ (first (p g)) [] _ _ _ (E g) (W g) (reach-first g) t d (c .r .given .1) (s (p g) .pre .0 .0) (s (p g) .pre .1 .1 .0) (s (p g) .pre .1 .1 .1 .0) (s (p g) .pre .0 .1 .0)
+  near : SidesWithin (startLimit + plan before-first .first * 1000) (E at-reach) × (d ≤ asked .args .count + 73 * plan before-first .first)
+  near =
+      let p = asked .pre .attempts in
+      phase-near _ _ _ _ (commanded before-first) [] _ _ _ (E at-reach) (W at-reach) (first-reach at-reach) (first-ended .r .given .0 .0) d (first-ended .r .given .1) (p .sheet) (p .some) (p .most) (p .start)
 
-  first-on : tried (p g) (first (p g) ∷ last (p g) ∷ []) (s (p g) .args .start .now) (s (p g) .args .count) ≡ tried (p g) (last (p g) ∷ []) (E g) d
-  first-on = phase-on _ _ _ _ (first (p g)) _ _ _ _ (E g) (W g) (reach-first g) t d (c .r .given .1)
+  first-on : attempted before-first (commanded before-first ∷ plain before-first ∷ []) (asked .args .start .now) (asked .args .count) ≡ attempted before-first (plain before-first ∷ []) (E at-reach) d
+  first-on = phase-on _ _ _ _ (commanded before-first) _ _ _ _ (E at-reach) (W at-reach) (first-reach at-reach) (first-ended .r .given .0 .0) d (first-ended .r .given .1)
 
--- behind the second reach
-module _ (c : tie.After-reach2) where
-  abbrev k : tie.After-r
-  k = c .before .before .before .before .before .before
+-- after the reach under the plain law
+module _ (at-last : tie.After-reach2) where
+  abbrev at-plain : tie.After-plant2
+  at-plain = at-last .before .before .before
 
-  abbrev h : tie.After-plant
-  h = p (g k)
+  abbrev first-ended : tie.After-r
+  first-ended = at-plain .before .before .before
+
+  abbrev before : tie.After-plant
+  before = before-first first-ended
 
   abbrev F : List ℤ
-  F = c .reach2 .last .1 .1 .1 .1 .1 .1 .1 .0
+  F = at-last .reach2 .last .1 .1 .1 .1 .0
 
   abbrev X : List ℤ
-  X = c .reach2 .last .1 .1 .1 .1 .1 .1 .1 .1 .0
+  X = at-last .reach2 .last .1 .1 .1 .1 .1 .0
 
-  reach-last : reachedOf F X (c .reach2 .result) ≡ reached (l h) (a h) (v h) (s h .args .width) (last h) (E (g k)) (d k)
+  last-reach : reachedOf F X (at-last .reach2 .result) ≡ reaches before (plain before) (E (at-reach first-ended)) (d first-ended)
   unfolding lawOf
-  reach-last = c .reach2 .ensures .0 ∙ plant-reach (c .before .before .before .plant2 .result) _ (c .before .before .before .plant2 .ensures) _ _ _ _ _ _ _ (g k .before .before .before .before .count .ensures)
+  last-reach = at-last .reach2 .ensures .same ∙ plant-reach (at-plain .plant2 .result) _ (at-plain .plant2 .ensures) _ _ _ _ _ _ _ (at-count (at-reach first-ended) .count .ensures)
 
--- where it ended
-module _ (c : tie.After-q) where
-  abbrev j : tie.After-reach2
-  j = c .before .before
+-- if it ended
+module _ (last-ended : tie.After-q) where
+  abbrev at-last : tie.After-reach2
+  at-last = last-ended .before .before
 
-  abbrev m : tie.After-r
-  m = k j
-
+  -- the count after it
   abbrev i : ℕ
-  i = c .q .given .0 .1 .0
+  i = last-ended .q .given .0 .1 .0
 
-  both-on : tried (h j) (first (h j) ∷ last (h j) ∷ []) (s (h j) .args .start .now) (s (h j) .args .count) ≡ tried (h j) [] (F j) i
-  both-on = first-on m ∙ phase-on _ _ _ _ (last (h j)) [] _ _ _ (F j) (X j) (reach-last j) (c .q .given .0 .0) i (c .q .given .1)
+  both-on : let p = before at-last in let s = at-start p in attempted p (commanded p ∷ plain p ∷ []) (s .args .start .now) (s .args .count) ≡ attempted p [] (F at-last) i
+  both-on = first-on (first-ended at-last) ∙ phase-on _ _ _ _ (plain (before at-last)) [] _ _ _ (F at-last) (X at-last) (last-reach at-last) (last-ended .q .given .0 .0) i (last-ended .q .given .1)
 
 -- the test against the recovery box
-module _ (c : tie.After-within) where
-  abbrev o : tie.After-q
-  o = c .before .before .before .before .before
+module _ (at-test : tie.After-within) where
+  abbrev ended : tie.After-q
+  ended = at-test .before .before .before .before .before
 
-  abbrev r : tie.After-plant
-  r = h (j o)
+  abbrev p : tie.After-plant
+  p = before (at-last ended)
 
-  recovered : c .within .result ≡ within (vars (v r)) (F (j o)) (recoveryBox (v r))
+  recovered : at-test .within .result ≡ within (vars (v p)) (F (at-last ended)) (recoveryBox (v p))
   recovered =
-      let e = plant-vars (r .plant .result) _ (under r) in
-      c .within .ensures ∙ ap (within (r .plant .result .n) (F (j o))) (c .before .before .before .box-at .ensures)
-      ∙ within-trim _ (F (j o)) (recoveryBox (v r)) (omega (arith, e, s r .pre .0 .0 .vars-high)) ∙ ap (λ (n : ℕ). within n (F (j o)) (recoveryBox (v r))) e
+      let E = F (at-last ended) in
+      let same = plant-vars (p .plant .result) _ (under p) in
+      at-test .within .ensures ∙ ap (within (p .plant .result .n) E) (at-test .before .before .before .box-at .ensures)
+      ∙ within-trim _ E (recoveryBox (v p)) (omega (arith, same, at-start p .pre .attempts .sheet .vars-high)) ∙ ap (λ (n : ℕ). within n E (recoveryBox (v p))) same
 
 count-requires : tie.Need-count-requires
-count-requires c κs = let q = s c .pre .0 .0 in (omega arith, q .head 2 (omega arith))
+count-requires at-plant κs = (omega arith, at-start at-plant .pre .attempts .sheet .head 2 (omega arith))
 
 reach-requires : tie.Need-reach-requires
 reach-requires c κs =
-    let b = c .before .before .before in
-    let r = b .before in
-    let q = s r .pre in (
-      (plant-usable (r .plant .result) _ (under r) (q .0 .0), omega (arith, b .count .ensures, q .0 .0 .boxes-high)),
-      (
-        ((q .1 .1 .0, q .1 .1 .1 .0), (omega (arith, q .1 .0), (wider (omega arith) (q .0 .1 .0), omega (arith, q .1 .1 .1 .1)))),
-        plant-trimmed (r .plant .result) _ (under r) (q .0 .1 .1),
-      ),
-    )
+    let at-count = c .before .before .before in
+    let at-plant = at-count .before in
+    let asked = at-start at-plant .pre in
+    let all = asked .attempts in
+    record {
+      plan = record { usable = plant-usable (at-plant .plant .result) _ (under at-plant) (all .sheet); boxes = omega (arith, at-count .count .ensures, all .sheet .boxes-high); some = all .some; most = all .most };
+      ticks = omega (arith, all .ticks);
+      counts = omega (arith, asked .counts);
+      start = wider (omega arith) (all .start);
+      trimmed = plant-trimmed (at-plant .plant .result) _ (under at-plant) (all .trimmed);
+    }
 
+-- the reach under the command did not end
 returns : tie.Need-returns
-returns c =
-    let y = c .before .before in
-    c .summary-of .ensures (E y) (W y) ∙ phase-stops _ _ _ _ (first (p y)) (last (p y) ∷ []) _ _ _ (E y) (W y) (reach-first y) (not-ended (c .before .match .keys2))
+returns at-return =
+    let r = at-return .before .before in
+    let p = at-plant r in
+    at-return .summary-of .ensures (E r) (W r) ∙ phase-stops _ _ _ _ (commanded p) (plain p ∷ []) _ _ _ (E r) (W r) (first-reach r) (not-ended (at-return .before .match .keys2))
 
 reach-requires-2 : tie.Need-reach-requires-2
 reach-requires-2 c κs =
-    let z = c .before .before .before .before .before in
-    let q = s (p (g z)) .pre in
-    let n = near z in (
-      (plant-usable (c .before .before .plant2 .result) _ (c .before .before .plant2 .ensures) (q .0 .0), omega (arith, g z .before .before .before .before .count .ensures, q .0 .0 .boxes-high)),
-      (
-        ((q .1 .1 .0, q .1 .1 .1 .0), (omega (arith, q .1 .0), (wider (omega (arith, q .1 .0)) (n .0), omega (arith, q .1 .1 .1 .1, q .1 .0, n .1)))),
-        plant-trimmed (c .before .before .plant2 .result) _ (c .before .before .plant2 .ensures) (trimmed (g z)),
-      ),
-    )
+    let at-plain = c .before .before in
+    let ended = at-plain .before .before .before in
+    let r = at-reach ended in
+    let asked = at-start (before-first ended) .pre in
+    let all = asked .attempts in
+    let n = near ended in
+    record {
+      plan = record {
+        usable = plant-usable (at-plain .plant2 .result) _ (at-plain .plant2 .ensures) (all .sheet);
+        boxes = omega (arith, at-count r .count .ensures, all .sheet .boxes-high);
+        some = all .some;
+        most = all .most;
+      };
+      ticks = omega (arith, all .ticks);
+      counts = omega (arith, asked .counts, all .ticks, n .1);
+      start = wider (omega (arith, all .ticks)) (n .0);
+      trimmed = plant-trimmed (at-plain .plant2 .result) _ (at-plain .plant2 .ensures) (trimmed r);
+    }
 
+-- the reach under the plain law did not end
 returns-2 : tie.Need-returns-2
-returns-2 c =
-    let y = c .before .before in
-    c .summary-of2 .ensures (F y) (X y) ∙ phase-stops _ _ _ _ (last (h y)) [] _ _ _ (F y) (X y) (reach-last y) (not-ended (c .before .match2 .keys2)) ∙ ap summary (sym (first-on (k y)))
+returns-2 at-return =
+    let q = at-return .before .before in
+    at-return .summary-of2 .ensures (F q) (X q) ∙ phase-stops _ _ _ _ (plain (before q)) [] _ _ _ (F q) (X q) (last-reach q) (not-ended (at-return .before .match2 .keys2))
+    ∙ ap summary (sym (first-on (first-ended q)))
 
 box-at-requires : tie.Need-box-at-requires
-box-at-requires c κs = let r = h (j (c .before)) in (omega (arith, plant-vars (r .plant .result) _ (under r), s r .pre .0 .0 .vars-high), omega arith)
+box-at-requires c κs = let p = before (at-last (c .before)) in (omega (arith, plant-vars (p .plant .result) _ (under p), at-start p .pre .attempts .sheet .vars-high), omega arith)
 
 within-requires : tie.Need-within-requires
-within-requires c κs = let r = h (j (c .before .before .before .before)) in omega (arith, plant-vars (r .plant .result) _ (under r), s r .pre .0 .0 .vars-high)
+within-requires c κs = let p = before (at-last (c .before .before .before .before)) in omega (arith, plant-vars (p .plant .result) _ (under p), at-start p .pre .attempts .sheet .vars-high)
 
+-- in the recovery box
 returns-3 : tie.Need-returns-3
-returns-3 c =
-    let y = o (c .before) in
-    attempt-succeeds _ _ _ _ (F (j y)) (i y) (sym (recovered (c .before)) ∙ c .if1 .taken) ∙ ap summary (sym (both-on y))
+returns-3 at-return =
+    let at-test = at-return .before in
+    let e = ended at-test in
+    attempt-succeeds _ _ _ _ (F (at-last e)) (i e) (sym (recovered at-test) ∙ at-return .if1 .taken) ∙ ap summary (sym (both-on e))
 
+-- not in it
 returns-4 : tie.Need-returns-4
-returns-4 c =
-    let y = o (c .before) in
-    attempt-fails _ _ _ _ (F (j y)) (i y) (sym (recovered (c .before)) ∙ c .if1 .left) ∙ ap summary (sym (both-on y))
+returns-4 at-return =
+    let at-test = at-return .before in
+    let e = ended at-test in
+    attempt-fails _ _ _ _ (F (at-last e)) (i e) (sym (recovered at-test) ∙ at-return .if1 .left) ∙ ap summary (sym (both-on e))
 
 pub attempt-spec : {M : Type 1} → statement M
 attempt-spec =

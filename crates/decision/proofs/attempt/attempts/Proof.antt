@@ -1,51 +1,82 @@
--- `attempts` does what the definition's attempts do. Assumes nothing.
+-- `attempts` does what the definition's attempts do. Invariant: what is left to do of the definition's attempts, from the width and
+-- the count that the loop has. Measure: the width. Assumes nothing.
 use mathlib.Core.Path.{sym, _∙_}
-use Prim.Native.Nat.{_+_, _*_, _≤_}
+use mathlib.Core.List.{List}
+use Prim.Native.Nat.{ℕ, _+_, _*_, _≤_}
 use native.Mathlib.Omega.{arith}
+use lib.IntN.{ℤ}
 use borrow.Author.Needs.{needs}
+use Rattle.decision.specs.declared.attempt.AttemptPlan.{AttemptPlan}
 use Rattle.decision.specs.AttemptPlan.{attemptOf}
 use Rattle.decision.proofs.Turn.{failed-count, Attempting, attempting-starts, attempting-keeps, attempting-spent, attempting-finest, attempting-on}
 use Rattle.decision.proofs.attempt.attempts.Statement.{statement}
 use Rattle.decision.proofs.attempt.attempts.Tie as tie
 
+-- at the width w after c rounds, from the width W on
+record Invariant (p : AttemptPlan) (v S : List ℤ) (W w c : ℕ) : Type 0 where
+  narrower : w ≤ W
+  counts : c + 73000 * w ≤ 73000 * W
+  attempting : Attempting (attemptOf p v S) W w c
+
 abbrev Inv-loop : tie.InvT-loop
-Inv-loop t sheet start width w₀ c₀ w c = ((w ≤ width) × (c + 73000 * w ≤ 73000 * width)) × Attempting (attemptOf t sheet start) width w c
+Inv-loop plan sheet start width w₀ counted₀ w counted = Invariant plan sheet start width w counted
 
 abbrev μ-loop : tie.MeasureT-loop
-μ-loop t sheet start width w₀ c₀ w c = w
+μ-loop plan sheet start width w₀ counted₀ w counted = w
 
 loop-holds : tie.Need-loop-holds Inv-loop μ-loop
-loop-holds c = ((omega arith, omega arith), attempting-starts _ (c .args .width) (c .pre .1 .1 .0))
+loop-holds at-start = record { narrower = omega arith; counts = omega arith; attempting = attempting-starts _ (at-start .args .width) (at-start .pre .some) }
 
 attempt-requires : tie.Need-attempt-requires Inv-loop μ-loop
-attempt-requires c κs =
-    let i = c .loop .inv in
-    let p = c .before .pre in
-    (p .0, (p .1 .0, (i .1 .some, (omega (arith, i .0, p .1 .1), omega (arith, i .0, p .1 .1)))))
+attempt-requires at-loop κs =
+    let inv = at-loop .loop .inv in
+    let asked = at-loop .before .pre in
+    record {
+      attempts = record {
+        sheet = asked .sheet;
+        start = asked .start;
+        trimmed = asked .trimmed;
+        ticks = asked .ticks;
+        some = inv .attempting .some;
+        most = omega (arith, inv .narrower, asked .most);
+      };
+      counts = omega (arith, inv .narrower, inv .counts, asked .ticks, asked .most);
+    }
 
+-- kept
 returns : tie.Need-returns Inv-loop μ-loop
-returns c =
-    let r = c .before .before .before in
-    attempting-keeps (r .before .loop .inv .1) _ (r .attempt .ensures) _ (c .before .a .given .1)
+returns at-return =
+    let at-attempt = at-return .before .before .before in
+    attempting-keeps (at-attempt .before .loop .inv .attempting) _ (at-attempt .attempt .ensures) _ (at-return .before .a .given .1)
 
+-- spent
 returns-2 : tie.Need-returns-2 Inv-loop μ-loop
-returns-2 c =
-    let r = c .before .before .before in
-    attempting-spent (r .before .loop .inv .1) _ (r .attempt .ensures) _ (c .before .a2 .given .1)
+returns-2 at-return =
+    let at-attempt = at-return .before .before .before in
+    attempting-spent (at-attempt .before .loop .inv .attempting) _ (at-attempt .attempt .ensures) _ (at-return .before .a2 .given .1)
 
+-- failed at width 1
 returns-3 : tie.Need-returns-3 Inv-loop μ-loop
-returns-3 c =
-    let r = c .before .before .before .before in
-    attempting-finest (r .before .loop .inv .1) _ (r .attempt .ensures) _ (c .before .before .a3 .given .1) (c .if1 .taken)
+returns-3 at-return =
+    let at-attempt = at-return .before .before .before .before in
+    attempting-finest (at-attempt .before .loop .inv .attempting) _ (at-attempt .attempt .ensures) _ (at-return .before .before .a3 .given .1) (at-return .if1 .taken)
 
 loop-again : tie.Need-loop-again Inv-loop μ-loop
 loop-again c =
-    let r = c .before .before .before .before in
-    let s = r .before .before in
-    let i = r .before .loop .inv in
-    let q = c .before .before .a3 .given .1 in
-    let n = failed-count (s .args .t) (s .args .start .now) (r .before .loop .w) (r .before .loop .c) (s .pre .0 .0) (i .1 .some) (omega (arith, i .0, s .pre .1)) (s .pre .1 .0) (sym (r .attempt .ensures) ∙ q) in
-    ((omega (arith, i .0), omega (arith, i .0, n)), attempting-on (i .1) _ (r .attempt .ensures) _ q (c .if1 .left))
+    let at-attempt = c .before .before .before .before in
+    let at-loop = at-attempt .before in
+    let asked = at-loop .before .pre in
+    let a = at-loop .before .args in
+    let inv = at-loop .loop .inv in
+    let failed = c .before .before .a3 .given .1 in
+    let counted =
+    failed-count (a .plan) (a .start .now) (at-loop .loop .w) (at-loop .loop .counted) (asked .sheet) (inv .attempting .some) (omega (arith, inv .narrower, asked .most)) (asked .ticks)
+    (sym (at-attempt .attempt .ensures) ∙ failed) in
+    record {
+      narrower = omega (arith, inv .narrower);
+      counts = omega (arith, inv .counts, counted);
+      attempting = attempting-on (inv .attempting) _ (at-attempt .attempt .ensures) _ failed (c .if1 .left);
+    }
 
 pub attempts-spec : {M : Type 1} → statement M
 attempts-spec =
@@ -56,10 +87,10 @@ attempts-spec =
     loop-holds
     attempt-requires
     (λ c. search needs)
-    (λ c. omega (arith, c .before .before .before .before .loop .inv .0))
+    (λ c. let l = c .before .before .before .before in omega (arith, l .loop .inv .narrower, l .before .pre .most))
     returns
     (λ c. search needs)
-    (λ c. omega (arith, c .before .before .before .before .loop .inv .0))
+    (λ c. let l = c .before .before .before .before in omega (arith, l .loop .inv .narrower, l .before .pre .most))
     returns-2
     (λ c. search needs)
     (λ c. omega arith)

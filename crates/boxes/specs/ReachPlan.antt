@@ -1,0 +1,25 @@
+-- What a reach of the code is asked, in the terms of the definitions.
+use mathlib.Core.Bool.{Bool}
+use mathlib.Core.List.{List}
+use Prim.Native.Nat.{ℕ}
+use lib.IntN.{ℤ}
+use Rattle.machine_spec.specs.Machine.{Machine}
+use Rattle.boxes_rates.specs.Plant.{machineOf}
+use Rattle.boxes_spec.specs.Step.{Result, Step}
+use Rattle.boxes_spec.specs.Reach.{Reached, clear, testedStep, reach}
+use Rattle.boxes.specs.declared.steps.ReachPlan.{ReachPlan}
+
+-- the plan's machine on the sheet v, and its test of a swept box
+abbrev pub machineOn : ReachPlan → List ℤ → Machine
+machineOn p v = machineOf (p .plant) v
+
+abbrev pub clearOn : ReachPlan → List ℤ → List ℤ → Bool
+clearOn p v = clear (p .plant .n) v (p .boxes)
+
+-- a tested step from S with `left` ticks left, after c rounds
+abbrev pub testedStepOn : ReachPlan → List ℤ → List ℤ → ℕ → ℕ → Result Step
+testedStepOn p v S left c = testedStep (p .budget .limited) (p .budget .allowance) (machineOn p v) (clearOn p v) (p .width) S left c
+
+-- a reach of `ticks` ticks from S, after c rounds
+abbrev pub reachOn : ReachPlan → List ℤ → List ℤ → ℕ → ℕ → Result Reached
+reachOn p v S ticks c = reach (p .budget .limited) (p .budget .allowance) (machineOn p v) (clearOn p v) (p .width) S ticks c
