@@ -15,7 +15,7 @@ use crate::steps::plant;
 use boxes_refusals::reach_refusal;
 use boxes_shape::compare::trim;
 use boxes_step::Budget;
-use sheet::read_into;
+use sheet::read_zeroed;
 use sheet_spec::slots::BOX_SIZE;
 use sheet_spec::slots::SLOTS;
 
@@ -91,7 +91,7 @@ pub fn reach(
     ensures { λ r. ⌜ answerOf r ≡ spec.reachFile (now (f .entry)) ticks width (lawOf baseline command) (now (start .entry)) ⌝ }
 {
     let mut value: [i32; SLOTS] = [0; SLOTS];
-    let refusal = read_into(f, &mut value);
+    let refusal = read_zeroed(f, &mut value);
     if refusal != 0 {
         return refused(refusal);
     }

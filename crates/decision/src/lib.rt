@@ -20,7 +20,7 @@ use boxes_step::Budget;
 use decision_answers::Decision;
 use decision_answers::Recovery;
 use decision_answers::recovery_of;
-use sheet::read_into;
+use sheet::read_zeroed;
 use sheet_encoding::count;
 use sheet_spec::slots::ALPHA;
 use sheet_spec::slots::DELTA;
@@ -67,7 +67,7 @@ pub fn decide(sheet: &[u8], question: &[u8]) -> Decision
     ensures allowed { λ r. ⌜ roundsOf (replyOf r) ≤ allowanceOf (now (question .entry)) ⌝ }
 {
     let mut v = [0i32; SLOTS];
-    let refusal = read_into(sheet, &mut v);
+    let refusal = read_zeroed(sheet, &mut v);
     if refusal != 0 {
         return Decision::Refused { number: refusal };
     }
@@ -99,7 +99,7 @@ pub fn check_recovery(sheet: &[u8]) -> Recovery
     ensures { λ r. ⌜ checkReplyOf r ≡ checkRecovery (now (sheet .entry)) ⌝ }
 {
     let mut v = [0i32; SLOTS];
-    let refusal = read_into(sheet, &mut v);
+    let refusal = read_zeroed(sheet, &mut v);
     if refusal != 0 {
         return Recovery::Refused { number: refusal };
     }

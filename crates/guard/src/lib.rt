@@ -16,7 +16,7 @@ use decision::decide;
 use decision_answers::as_decision;
 use decision_answers::pack_decision;
 use decision_answers::pack_refusal;
-use sheet::read_into;
+use sheet::read_zeroed;
 use sheet::write;
 use sheet_spec::refusals::ROOM;
 use sheet_spec::sizes::I32;
@@ -30,7 +30,7 @@ pub extern "C" fn guard_sheet(sheet: &[u8]) -> u64
     ensures { λ r. ⌜ r ≡ sheetCall (now (sheet .entry)) ⌝ }
 {
     let mut v = [0i32; SLOTS];
-    let refusal = read_into(sheet, &mut v);
+    let refusal = read_zeroed(sheet, &mut v);
     if refusal != 0 {
         return pack_refusal(refusal);
     }
@@ -57,7 +57,7 @@ pub extern "C" fn guard_sheet_read(sheet: &[u8], out: &mut [u8]) -> u64
     ensures { λ _. ⌜ now (out .exit) ≡ readOut (now (sheet .entry)) (now (out .entry)) ⌝ }
 {
     let mut v = [0i32; SLOTS];
-    let refusal = read_into(sheet, &mut v);
+    let refusal = read_zeroed(sheet, &mut v);
     if refusal != 0 {
         return pack_refusal(refusal);
     }

@@ -14,7 +14,7 @@ use boxes::reach_of;
 use decision_answers::pack_refusal;
 use decision_question::PAIR;
 use decision_question::pairs;
-use sheet::read_into;
+use sheet::read_zeroed;
 use sheet_encoding::count;
 use sheet_spec::refusals::ROOM;
 use sheet_spec::slots::BOX_SIZE;
@@ -70,7 +70,7 @@ pub fn reach_call(
     ensures { λ _. ⌜ now (out .exit) ≡ reachOut (now (sheet .entry)) ticks width law command (now (start .entry)) (now (out .entry)) ⌝ }
 {
     let mut v = [0i32; SLOTS];
-    let refusal = read_into(sheet, &mut v);
+    let refusal = read_zeroed(sheet, &mut v);
     if refusal != 0 {
         return pack_refusal(refusal);
     }

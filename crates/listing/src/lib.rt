@@ -20,7 +20,7 @@ use decision_answers::has_passed;
 use decision_question::PAIR;
 use decision_question::SIDES_AT;
 use listing_text::LINE;
-use sheet::read_into;
+use sheet::read_zeroed;
 use sheet_encoding::count;
 use sheet_spec::slots::N;
 use sheet_spec::slots::SLOTS;
@@ -60,6 +60,6 @@ pub fn question_length(sheet: &[u8]) -> usize
     ensures { λ r. ⌜ (r ≡ questionLength (slots.vars (values (now (sheet .entry))))) × (r ≤ questionLength slots.N) ⌝ }
 {
     let mut v = [0i32; SLOTS];
-    read_into(sheet, &mut v);
+    read_zeroed(sheet, &mut v);
     SIDES_AT + PAIR * count(&v, VARS)
 }

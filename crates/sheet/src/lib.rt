@@ -5,7 +5,7 @@ ghost use mathlib.Core.Path.{_≡_};
 ghost use mathlib.Core.Bool.{true, _&&_};
 ghost use lib.Dec.{leb};
 ghost use lib.ListN.{length};
-ghost use Rattle.sheet_spec.specs.Slots.{headSize};
+ghost use Rattle.sheet_spec.specs.Slots.{headSize, slots};
 ghost use Rattle.sheet_spec.specs.Fields.{bad};
 ghost use Rattle.sheet_spec.specs.Sizes.{capsAt};
 ghost use Rattle.sheet_spec.specs.Layout.{head, headFields};
@@ -72,11 +72,11 @@ fn read_cleared(f: &[u8], v: &mut [i32; SLOTS]) -> u8
     read_rest(f, v)
 }
 
-// Reads a sheet into a lent array: its numbers, or zeros where it is refused.
-pub fn read_into(f: &[u8], v: &mut [i32; SLOTS]) -> u8
+// Reads a sheet into an array of zeros, for the crates above: it becomes the sheet's numbers, and stays zeros if the sheet is refused.
+pub fn read_zeroed(f: &[u8], v: &mut [i32; SLOTS]) -> u8
+    requires { ⌜ now v ≡ zeros ⌝ }
     ensures { λ r. ⌜ (r ≡ refusal (now (f .entry))) × (now (v .exit) ≡ values (now (f .entry))) ⌝ }
 {
-    clear(v);
     let x = read_cleared(f, v);
     if x != 0 {
         clear(v);
@@ -89,11 +89,19 @@ pub fn read(f: &[u8]) -> Parsed
     ensures { λ r. ⌜ (r .refusal ≡ refusal (now (f .entry))) × (r .value ≡ values (now (f .entry))) ⌝ }
 {
     let mut value = [0i32; SLOTS];
-    let refusal = read_into(f, &mut value);
+    let refusal = read_zeroed(f, &mut value);
     Parsed {
         refusal: refusal,
         value: value,
     }
+}
+
+// The number of numbers in the array of `sheet_read`, for C.
+#[no_mangle]
+pub extern "C" fn sheet_numbers() -> u64
+    ensures { λ r. ⌜ r ≡ slots ⌝ }
+{
+    SLOTS as u64
 }
 
 // Reads a sheet for C, in the archive of this crate alone (include/sheet.h); a refusal leaves the array as it was.
@@ -103,7 +111,7 @@ pub extern "C" fn sheet_read(f: &[u8], v: &mut [i32; SLOTS]) -> u8
     ensures { λ r. ⌜ (r ≡ 0 → now (v .exit) ≡ values (now (f .entry))) × ((r ≡ 0 → ⊥) → now (v .exit) ≡ now (v .entry)) ⌝ }
 {
     let mut numbers = [0i32; SLOTS];
-    let refused = read_into(f, &mut numbers);
+    let refused = read_zeroed(f, &mut numbers);
     if refused == 0 {
         *v = numbers;
     }

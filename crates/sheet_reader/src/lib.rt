@@ -1,5 +1,5 @@
 // The records of a file, read to the slots of a sheet's value (document 01, "Sheet layout"): head, bands, boxes, each by its
-// fields in the file's order. `sheet::read_into` puts them together; what is read is equal to `filledAll` in
+// fields in the file's order. `sheet::read_zeroed` puts them together; what is read is equal to `filledAll` in
 // sheet_spec/specs/File.
 ghost use mathlib.Core.Path.{_≡_};
 ghost use mathlib.Core.Bool.{true, false};

@@ -6,7 +6,7 @@ use Prim.Native.Nat.{ℕ, zero, suc, _+_, _*_, _≤_, _<_}
 use native.Mathlib.Omega.{arith}
 use lib.IntN.{ℤ, pos, negsuc, natAbs}
 use lib.Signed.{_≤ℤ_}
-use lib.ListN.{length}
+use lib.ListN.{length, replicate}
 use mir.Syntax.{w32}
 use mir.Val.{SFits}
 use Rattle.integers.proofs.Z.{ints, flat}
@@ -187,3 +187,8 @@ module _ (f : List ℕ) where
       let wf = valid f e in
       values-beyond (recoverySlot + i + q * N)
       (λ t. recovery-free (shape (values f)) (record { vars = wf .vars-high; bands = wf .bands-high; boxes = wf .boxes-high }) i q b h k (t .r) (t .below) (t .taken .j) (t .taken .below) (t .taken .is))
+
+-- an array of zeros, as the code makes one
+pub zeros-are : replicate slots (pos 0) ≡ zeros
+unfolding zeros
+zeros-are = refl

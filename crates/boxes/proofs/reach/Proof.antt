@@ -4,7 +4,7 @@ use mathlib.Core.List.{List}
 use lib.IntN.{ℤ}
 use mir.Facts.{toZ-ofZ}
 use Rattle.sheet_spec.specs.Valid.{Valid}
-use Rattle.sheet_spec.proofs.Valid.{valid}
+use Rattle.sheet_spec.proofs.Valid.{valid, zeros-are}
 use Rattle.machine_spec.specs.Machine.{lawOf}
 use Rattle.boxes_spec.specs.Reach.{reachOf, reachFile}
 use Rattle.boxes_spec.proofs.Refusals.{if-refused, if-accepted}
@@ -15,12 +15,12 @@ returns : tie.Need-returns
 unfolding reachFile
 returns c =
     let r = c .before .before in
-    c .refused .ensures ∙ if-refused _ (r .read-into .ensures .0) (c .before .if1 .taken)
+    c .refused .ensures ∙ if-refused _ (r .read-zeroed .ensures .0) (c .before .if1 .taken)
 
 reach-of-requires : tie.Need-reach-of-requires
 reach-of-requires c κs =
     let r = c .before .before in
-    subst Valid (sym (r .read-into .ensures .1)) (valid _ (sym (r .read-into .ensures .0) ∙ c .before .if1 .left))
+    subst Valid (sym (r .read-zeroed .ensures .1)) (valid _ (sym (r .read-zeroed .ensures .0) ∙ c .before .if1 .left))
 
 returns-2 : tie.Need-returns-2
 unfolding reachFile
@@ -29,9 +29,9 @@ returns-2 c =
     let r = e .before in
     let s = r .before .before .before in
     c .reach-of .ensures
-    ∙ ap (λ (u : ℤ). reachOf (r .read-into .last .1 .0) (s .args .ticks) (s .args .width) (lawOf (s .args .baseline) u) (s .args .start .now)) (toZ-ofZ (s .fits .command))
-    ∙ ap (λ (v : List ℤ). reachOf v (s .args .ticks) (s .args .width) (lawOf (s .args .baseline) (s .args .command)) (s .args .start .now)) (r .read-into .ensures .1)
-    ∙ if-accepted _ (r .read-into .ensures .0) (e .if1 .left)
+    ∙ ap (λ (u : ℤ). reachOf (r .read-zeroed .last .1 .0) (s .args .ticks) (s .args .width) (lawOf (s .args .baseline) u) (s .args .start .now)) (toZ-ofZ (s .fits .command))
+    ∙ ap (λ (v : List ℤ). reachOf v (s .args .ticks) (s .args .width) (lawOf (s .args .baseline) (s .args .command)) (s .args .start .now)) (r .read-zeroed .ensures .1)
+    ∙ if-accepted _ (r .read-zeroed .ensures .0) (e .if1 .left)
 
 pub reach-spec : {M : Type 1} → statement M
-reach-spec = tie.close (tie.spec (λ c κs. tt) (λ c κs. tt) returns reach-of-requires returns-2)
+reach-spec = tie.close (tie.spec (λ c κs. zeros-are) (λ c κs. tt) returns reach-of-requires returns-2)

@@ -5,7 +5,7 @@ use lib.IntN.{ℤ}
 use borrow.Author.Needs.{needs}
 use Rattle.sheet_spec.specs.Slots.{vars, recoveryBox}
 use Rattle.sheet_spec.specs.Valid.{Valid}
-use Rattle.sheet_spec.proofs.Valid.{valid}
+use Rattle.sheet_spec.proofs.Valid.{valid, zeros-are}
 use Rattle.machine_spec.specs.Box.{trim}
 use Rattle.decision_spec.specs.Decision.{recoveryOf, checkRecovery}
 use Rattle.decision_answers.specs.Recovery.{checkReplyOf}
@@ -16,19 +16,19 @@ use Rattle.decision.proofs.check_recovery.Tie as tie
 
 returns : tie.Need-returns
 unfolding checkReplyOf checkRecovery
-returns c = unless-refused _ _ (c .before .read-into .ensures .0) (c .if1 .taken)
+returns c = unless-refused _ _ (c .before .read-zeroed .ensures .0) (c .if1 .taken)
 
 check-on-requires : tie.Need-check-on-requires
 check-on-requires c κs =
-    let r = c .before .before .read-into .ensures in
+    let r = c .before .before .read-zeroed .ensures in
     let e = sym (r .0) ∙ c .before .if1 .left in
     subst (λ (v : List ℤ). Valid v × (trim (vars v) (recoveryBox v) ≡ recoveryBox v)) (sym (r .1)) (valid _ e, recovery-trimmed _ e)
 
 returns-2 : tie.Need-returns-2
 unfolding checkRecovery
 returns-2 c =
-    let r = c .before .before .before .read-into .ensures in
+    let r = c .before .before .before .read-zeroed .ensures in
     c .check-on .ensures ∙ ap recoveryOf (r .1) ∙ unless-passed _ _ (r .0) (c .before .before .if1 .left)
 
 pub check-recovery-spec : {M : Type 1} → statement M
-check-recovery-spec = tie.close (tie.spec (λ c κs. search needs) returns check-on-requires returns-2)
+check-recovery-spec = tie.close (tie.spec (λ c κs. zeros-are) returns check-on-requires returns-2)

@@ -3,6 +3,7 @@ use mathlib.Core.Path.{_≡_, _∙_, sym, subst, ap}
 use Prim.Native.Nat.{_≤_}
 use native.Mathlib.Omega.{arith}
 use borrow.Author.Needs.{needs}
+use Rattle.sheet_spec.proofs.Valid.{zeros-are}
 use Rattle.sheet_spec.specs.Slots.{N, vars}
 use Rattle.sheet_spec.specs.Sheet.{values}
 use Rattle.listing.proofs.Vars.{Counted, counted}
@@ -12,7 +13,7 @@ use Rattle.listing.proofs.question_length.Tie as tie
 count-requires : tie.Need-count-requires
 count-requires c κs =
     let r = c .before in
-    (omega arith, subst Counted (sym (r .read-into .ensures .1)) (counted (r .before .before .before .args .sheet .now)) .low)
+    (omega arith, subst Counted (sym (r .read-zeroed .ensures .1)) (counted (r .before .before .before .args .sheet .now)) .low)
 
 -- the number that was read is the file's
 pub record Read (c : tie.After-count) : Type 0 where
@@ -21,7 +22,7 @@ pub record Read (c : tie.After-count) : Type 0 where
 
 read : (c : tie.After-count) → Read c
 read c =
-    let e = c .count .ensures ∙ ap vars (c .before .before .read-into .ensures .1) in
+    let e = c .count .ensures ∙ ap vars (c .before .before .read-zeroed .ensures .1) in
     record { is = e; high = rw e (counted (c .before .before .before .before .before .args .sheet .now) .high) }
 
 mul-result : tie.Need-mul-result
@@ -35,4 +36,4 @@ returns c = (omega (arith, read c .is), omega (arith, read c .high))
 
 pub question-length-spec : {M : Type 1} → statement M
 question-length-spec =
-    tie.close (tie.spec (λ c κs. search needs) count-requires mul-result add-result returns)
+    tie.close (tie.spec (λ c κs. zeros-are) count-requires mul-result add-result returns)

@@ -10,7 +10,7 @@ use borrow.Author.Needs.{needs}
 use Rattle.sheet_spec.specs.Slots.{vars}
 use Rattle.sheet_spec.specs.Sheet.{values}
 use Rattle.sheet_spec.specs.Valid.{Valid}
-use Rattle.sheet_spec.proofs.Valid.{valid}
+use Rattle.sheet_spec.proofs.Valid.{valid, zeros-are}
 use Rattle.boxes_arithmetic.specs.Limits.{SidesWithin}
 use Rattle.machine_spec.specs.Machine.{lawOf}
 use Rattle.boxes_spec.specs.Reach.{Answer, reachOf}
@@ -22,17 +22,17 @@ use Rattle.guard.proofs.reach.reach_call.Statement.{statement}
 use Rattle.guard.proofs.reach.reach_call.Tie as tie
 
 -- behind the reader
-module _ (c : tie.After-read-into) where
+module _ (c : tie.After-read-zeroed) where
   abbrev s : tie.Start
   s = c .before .before .before .before .before
 
   abbrev v : List ℤ
-  v = c .read-into .last .1 .0
+  v = c .read-zeroed .last .1 .0
 
 -- of an accepted sheet
 module _ (c : tie.Else1) where
   accepted : Valid (v (c .before))
-  accepted = let r = c .before .read-into .ensures in subst Valid (sym (r .1)) (valid _ (sym (r .0) ∙ c .if1 .left))
+  accepted = let r = c .before .read-zeroed .ensures in subst Valid (sym (r .1)) (valid _ (sym (r .0) ∙ c .if1 .left))
 
 -- behind the reach
 module _ (c : tie.After-reach-of) where
@@ -45,25 +45,25 @@ module _ (c : tie.After-reach-of) where
   abbrev e : tie.Else1
   e = k .before .before
 
-  abbrev r : tie.After-read-into
+  abbrev r : tie.After-read-zeroed
   r = e .before
 
   n-is : k .count .result ≡ vars (values (s r .args .sheet .now))
-  n-is = k .count .ensures ∙ ap vars (r .read-into .ensures .1)
+  n-is = k .count .ensures ∙ ap vars (r .read-zeroed .ensures .1)
 
   answer-is : answerOf (c .reach-of .result) ≡ reachAnswer (s r .args .sheet .now) (s r .args .ticks) (s r .args .width) (s r .args .law) (s r .args .command) (s r .args .start .now)
   answer-is =
       c .reach-of .ensures
       ∙ ap (λ (u : ℤ). reachOf (v r) (s r .args .ticks) (s r .args .width) (lawOf (eqb (s r .args .law) 0) u) (b .start-box .result)) (toZ-ofZ (s r .fits .command))
-      ∙ file-reached (s r .args .sheet .now) (s r .args .ticks) (s r .args .width) (s r .args .law) (s r .args .command) (s r .args .start .now) (r .read-into .ensures .0) (e .if1 .left)
-      (r .read-into .ensures .1) (b .start-box .ensures ∙ ap (λ (n : ℕ). startBox n (s r .args .start .now)) n-is)
+      ∙ file-reached (s r .args .sheet .now) (s r .args .ticks) (s r .args .width) (s r .args .law) (s r .args .command) (s r .args .start .now) (r .read-zeroed .ensures .0) (e .if1 .left)
+      (r .read-zeroed .ensures .1) (b .start-box .ensures ∙ ap (λ (n : ℕ). startBox n (s r .args .start .now)) n-is)
 
 returns : tie.Need-returns
 unfolding reachCall reachOut reachedRefusal reachedCall reachedOut
 returns c =
     let t = c .before in
     let a = s (t .before) .args in
-    let q = room-stop _ (16 * vars (values (a .sheet .now))) (a .out .now) (file-refused (a .sheet .now) (a .ticks) (a .width) (a .law) (a .command) (a .start .now) (t .before .read-into .ensures .0) (t .if1 .taken)) (t .if1 .taken) in
+    let q = room-stop _ (16 * vars (values (a .sheet .now))) (a .out .now) (file-refused (a .sheet .now) (a .ticks) (a .width) (a .law) (a .command) (a .start .now) (t .before .read-zeroed .ensures .0) (t .if1 .taken)) (t .if1 .taken) in
     (c .pack-refusal .ensures ∙ or-refused _ _ q (t .if1 .taken), or-unchanged _ _ (a .out .now) q (t .if1 .taken))
 
 count-requires : tie.Need-count-requires
@@ -97,7 +97,7 @@ pub reach-call-spec : {M : Type 1} → statement M
 reach-call-spec =
     tie.close
     (tie.spec
-    (λ c κs. search needs)
+    (λ c κs. zeros-are)
     (λ c κs. search needs)
     returns
     count-requires
