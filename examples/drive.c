@@ -159,7 +159,7 @@ static int32_t legs_push(void)
 struct sheet {
     uint8_t bytes[GUARD_LONGEST_SHEET + 1]; /* one more, so that a longer file is seen */
     size_t length;
-    uint8_t numbers[GUARD_NUMBERS_BYTES];
+    int32_t numbers[GUARD_NUMBERS];
 };
 
 static bool load(struct sheet *sheet, const char *path)
@@ -174,18 +174,22 @@ static bool load(struct sheet *sheet, const char *path)
 
 static int32_t number(const struct sheet *sheet, size_t slot)
 {
-    return guard_get(sheet->numbers, slot);
+    return sheet->numbers[slot];
 }
 
 /* Once, before the motor may run: the sheet is accepted, is for this machine, and passes. */
 static bool set_up(struct sheet *sheet)
 {
-    uint64_t answer = guard_sheet(sheet->bytes, sheet->length);
-    if (guard_is_refused(answer)) {
-        printf("sheet refused %u\n", guard_width(answer));
+    if (guard_numbers() != GUARD_NUMBERS) {
+        printf("guard.h is not that of this archive\n");
         return false;
     }
-    guard_sheet_read(sheet->bytes, sheet->length, sheet->numbers, sizeof sheet->numbers);
+    uint64_t answer = guard_sheet(sheet->bytes, sheet->length);
+    if (guard_is_refused(answer)) {
+        printf("sheet refused %u\n", guard_refusal(answer));
+        return false;
+    }
+    guard_sheet_read(sheet->bytes, sheet->length, sheet->numbers);
     if (number(sheet, GUARD_SLOT_N) != VARIABLES) {
         printf("not a sheet for this machine\n");
         return false;

@@ -21,14 +21,14 @@ static uint8_t sheet[GUARD_LONGEST_SHEET + 1];
 static size_t sheet_length;
 static uint8_t asks[ASKS];
 static size_t asks_length;
-static uint8_t numbers[GUARD_NUMBERS_BYTES];
+static int32_t numbers[GUARD_NUMBERS];
 static uint8_t buffer[GUARD_LONGEST_SHEET];
-static uint8_t boxes[16 * GUARD_VARIABLES];
+static uint8_t boxes[GUARD_LONGEST_REACH];
 static const uint8_t *question; /* the one that call_decide asks */
 
 static size_t variables(void)
 {
-    return (size_t)guard_get(numbers, GUARD_SLOT_N);
+    return (size_t)numbers[GUARD_SLOT_N];
 }
 
 static uint64_t call_nothing(void)
@@ -48,25 +48,25 @@ static uint64_t call_recovery(void)
 
 static uint64_t call_decide(void)
 {
-    return guard_decide(sheet, sheet_length, question, 10 + 8 * variables());
+    return guard_decide(sheet, sheet_length, question, guard_question_length(variables()));
 }
 
 static uint64_t call_read(void)
 {
-    return guard_sheet_read(sheet, sheet_length, numbers, sizeof numbers);
+    return guard_sheet_read(sheet, sheet_length, numbers);
 }
 
 static uint64_t call_write(void)
 {
-    return guard_sheet_write(numbers, sizeof numbers, buffer, sizeof buffer, 0);
+    return guard_sheet_write(numbers, buffer, sizeof buffer, 0);
 }
 
 /* rho ticks of the plain law at width 1, from the question's box. */
 static uint64_t call_reach(void)
 {
-    uint32_t ticks = (uint32_t)guard_get(numbers, GUARD_SLOT_RHO);
-    return guard_reach(sheet, sheet_length, ticks, 1, 0, 0, question + 10, 8 * variables(), boxes,
-                       sizeof boxes);
+    uint32_t ticks = (uint32_t)numbers[GUARD_SLOT_RHO];
+    return guard_reach(sheet, sheet_length, ticks, 1, 0, 0, question + GUARD_QUESTION_HEAD,
+                       GUARD_PAIR * variables(), boxes, sizeof boxes);
 }
 
 typedef uint64_t (*call)(void);
@@ -127,7 +127,7 @@ static void row(const char *name, call one)
 /* The decision over all questions: the most stack, the longest time, and the time of a round. */
 static void decide_row(void)
 {
-    size_t length = 10 + 8 * variables();
+    size_t length = guard_question_length(variables());
     size_t most_stack = 0;
     double longest = 0, total = 0, rounds = 0;
     for (size_t at = 0; at + length <= asks_length; at += length) {
@@ -159,7 +159,11 @@ int main(int count, char **words)
         sheet_length = load(sheet, sizeof sheet, words[1]);
         asks_length = load(asks, sizeof asks, words[2]);
     }
-    if (guard_is_refused(call_read()) || asks_length < 10 + 8 * variables()) {
+    if (guard_numbers() != GUARD_NUMBERS) {
+        fprintf(stderr, "guard.h is not that of this archive\n");
+        return EXIT_FAILURE;
+    }
+    if (guard_is_refused(call_read()) || asks_length < guard_question_length(variables())) {
         fprintf(stderr, "usage: measure sheet.bin asks.bin\n");
         return EXIT_FAILURE;
     }

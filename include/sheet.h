@@ -3,6 +3,8 @@
 #ifndef SHEET_H
 #define SHEET_H
 
+#include "guard_format.h"
+
 #include <stddef.h>
 #include <stdint.h>
 
@@ -10,12 +12,17 @@
 extern "C" {
 #endif
 
-/* So many numbers a sheet has, whatever its counts are. */
-enum { SHEET_NUMBERS = 365 };
+/* How many numbers a sheet has, whatever its counts are. */
+enum { SHEET_NUMBERS = GUARD_NUMBERS };
 
-/* Reads the sheet's numbers to their slots, which guard.h names (GUARD_SLOT_..), and answers 0; numbers
- * beyond the sheet's counts are 0. Where the sheet is refused the answer is the number of the refusal,
- * 1 to 11 (GUARD_REFUSED_..), and numbers is as it was. sheet may be NULL where sheet_length is 0. */
+/* The same of this archive. A program whose header may be of another version than its archive compares
+ * the two before it calls sheet_read. */
+uint64_t sheet_numbers(void);
+
+/* Reads the sheet's numbers to their slots, which guard_format.h names (GUARD_SLOT_..), and answers 0;
+ * numbers beyond the sheet's counts are 0. Where the sheet is refused the answer is the number of the
+ * refusal, 1 to 11 (GUARD_REFUSED_.. of guard.h), and numbers is as it was. sheet may be NULL where
+ * sheet_length is 0. */
 uint8_t sheet_read(const uint8_t *sheet, size_t sheet_length, int32_t numbers[SHEET_NUMBERS]);
 
 #ifdef __cplusplus

@@ -1,6 +1,6 @@
 /* The calls of include/guard.h from C, linked with the archive alone: sheet A's answers, every refusal
- * with the lent buffers compared byte for byte, empty, missing, overlong and overlapping slices. The last
- * line is `N passed, M failed`. */
+ * with the lent buffers and arrays compared, empty, missing, overlong and overlapping slices, and the slots
+ * and lengths of include/guard_format.h. The last line is `N passed, M failed`. */
 #include "guard.h"
 
 #include <stdio.h>
@@ -9,8 +9,8 @@
 enum {
     SHEET = 70,               /* the bytes of sheet A */
     QUESTION = 18,            /* of a question of one variable */
-    ROOM = GUARD_NUMBERS_BYTES,
-    BEHIND = 16,              /* bytes behind a buffer's end, which have to remain */
+    ROOM = GUARD_LONGEST_SHEET,
+    BEHIND = 16,              /* bytes or numbers behind a buffer's end, which have to remain */
     FILL = 0xa5
 };
 
@@ -66,6 +66,54 @@ static void expect_refused(const char *what, int number, uint64_t got)
 {
     expect(what, number, got, refusal((uint64_t)number));
     expect_lent(what, number, 0, NULL, 0);
+}
+
+/* ---- a lent array, with numbers behind its end */
+
+static int32_t array[GUARD_NUMBERS + BEHIND];
+
+static void fill_array(void)
+{
+    for (size_t slot = 0; slot < sizeof array / sizeof *array; slot++)
+        array[slot] = FILL;
+}
+
+/* The array has the numbers that are expected, or is as it was where none are. */
+static void expect_array(const char *what, int number, const int32_t *numbers)
+{
+    uint64_t same = 1;
+    for (size_t slot = 0; slot < sizeof array / sizeof *array; slot++)
+        same &= array[slot] == (numbers != NULL && slot < GUARD_NUMBERS ? numbers[slot] : FILL);
+    expect(what, number, same, 1);
+}
+
+static void expect_read(const char *what, const uint8_t *sheet, size_t length, const int32_t *numbers)
+{
+    fill_array();
+    expect(what, 0, guard_sheet_read(sheet, length, array), length);
+    expect_array(what, 0, numbers);
+}
+
+static void expect_unread(const char *what, int number, const uint8_t *sheet, size_t length)
+{
+    fill_array();
+    expect(what, number, guard_sheet_read(sheet, length, array), refusal((uint64_t)number));
+    expect_array(what, number, NULL);
+}
+
+/* ---- what an answer says */
+
+static void answers(void)
+{
+    for (uint32_t number = 1; number <= GUARD_REFUSED_ROOM; number++) {
+        expect("refusal", (int)number, guard_refusal(refusal(number)), number);
+        expect("length of a refusal", (int)number, guard_length(refusal(number)), 0);
+    }
+    for (uint32_t code = GUARD_KEEP; code <= GUARD_SPENT; code++)
+        expect("refusal", 0, guard_refusal(answer(code, 4, 7)), 0);
+    expect("refusal", 0, guard_refusal(SHEET), 0);
+    expect("length", 0, guard_length(SHEET), SHEET);
+    expect("numbers", 0, guard_numbers(), GUARD_NUMBERS);
 }
 
 /* ---- sheet A's lines */
@@ -167,8 +215,7 @@ static void refused_sheets(void)
         expect("fault", number, guard_sheet(sheet, SHEET), refusal((uint64_t)number));
         expect("fault", number, guard_recovery(sheet, SHEET), refusal((uint64_t)number));
         expect("fault", number, guard_decide(sheet, SHEET, question, QUESTION), refusal((uint64_t)number));
-        expect_refused("read", number, guard_sheet_read(sheet, SHEET, lent, ROOM));
-        expect_refused("read", number, guard_sheet_read(sheet, SHEET, NULL, 0));
+        expect_unread("read", number, sheet, SHEET);
         expect_refused("reach", number, guard_reach(sheet, SHEET, 1001, 0, 1, 26, NULL, 0, lent, 0));
         expect_refused("reach", number, guard_reach(sheet, SHEET, 4, 4, 0, 0, start, 8, lent, ROOM));
     }
@@ -176,64 +223,48 @@ static void refused_sheets(void)
 
 /* ---- a sheet's numbers */
 
-static uint8_t numbers[GUARD_NUMBERS_BYTES];
+static int32_t numbers[GUARD_NUMBERS];
 
 static void numbers_of_a(void)
 {
     memset(numbers, 0, sizeof numbers);
     for (size_t slot = 0; slot < 3; slot++)
-        guard_put(numbers, slot, 1);
+        numbers[slot] = 1;
     for (size_t slot = GUARD_SLOT_DELTA; slot <= GUARD_SLOT_RHO; slot++)
-        guard_put(numbers, slot, 4);
-    guard_put(numbers, GUARD_SLOT_LEAST_COMMAND, -25);
-    guard_put(numbers, GUARD_SLOT_GREATEST_COMMAND, 25);
-    guard_put(numbers, GUARD_SLOT_CAPS, 5);
-    guard_put(numbers, guard_slot_band(0), -2000000);
-    guard_put(numbers, guard_slot_row(0, 0), -1);
-    guard_put(numbers, guard_slot_row(0, 0) + GUARD_VARIABLES, 4);
-    guard_put(numbers, guard_slot_row(0, 0) + GUARD_VARIABLES + 3, 20);
-    guard_put(numbers, GUARD_SLOT_RECOVERY, -100);
-    guard_put(numbers, GUARD_SLOT_RECOVERY + GUARD_VARIABLES, 100);
-    guard_put(numbers, guard_slot_unsafe(0), 130);
-    guard_put(numbers, guard_slot_unsafe(0) + GUARD_VARIABLES, 2000000);
+        numbers[slot] = 4;
+    numbers[GUARD_SLOT_LEAST_COMMAND] = -25;
+    numbers[GUARD_SLOT_GREATEST_COMMAND] = 25;
+    numbers[GUARD_SLOT_CAPS] = 5;
+    numbers[guard_slot_band(0)] = -2000000;
+    numbers[guard_slot_row(0, 0)] = -1;
+    numbers[guard_slot_row(0, 0) + GUARD_VARIABLES] = 4;
+    numbers[guard_slot_row(0, 0) + GUARD_VARIABLES + 3] = 20;
+    numbers[GUARD_SLOT_RECOVERY] = -100;
+    numbers[GUARD_SLOT_RECOVERY + GUARD_VARIABLES] = 100;
+    numbers[guard_slot_unsafe(0)] = 130;
+    numbers[guard_slot_unsafe(0) + GUARD_VARIABLES] = 2000000;
 }
 
 static void reads(void)
 {
-    fill();
-    expect_refused("room", 17, guard_sheet_read(sheet_a, SHEET, lent, ROOM - 1));
-    expect_refused("room", 17, guard_sheet_read(sheet_a, SHEET, NULL, 0));
-    expect("read", 0, guard_sheet_read(sheet_a, SHEET, lent, ROOM), SHEET);
-    expect_lent("read", 0, 0, numbers, sizeof numbers);
-    fill();
-    expect("read", 1, guard_sheet_read(sheet_a, SHEET, lent, sizeof lent), SHEET);
-    expect_lent("read", 1, 0, numbers, sizeof numbers);
+    expect_read("read", sheet_a, SHEET, numbers);
+    expect_unread("no sheet", 1, NULL, 0);
+    expect_unread("short", 5, sheet_a, SHEET - 1);
 }
 
 static void writes(void)
 {
-    uint8_t sheet[SHEET];
-    size_t last = 4 * (guard_slot_unsafe(0) + GUARD_VARIABLES + 1);
-    for (size_t place = 0; place <= ROOM - SHEET; place += (ROOM - SHEET) / 5) {
+    for (size_t place = 0; place <= ROOM - SHEET; place += (ROOM - SHEET) / 4) {
         fill();
-        expect("write", (int)place, guard_sheet_write(numbers, sizeof numbers, lent, ROOM, place), SHEET);
+        expect("write", (int)place, guard_sheet_write(numbers, lent, ROOM, place), SHEET);
         expect_lent("write", (int)place, place, sheet_a, SHEET);
     }
     fill();
-    expect_refused("place", 17, guard_sheet_write(numbers, sizeof numbers, lent, ROOM, ROOM - SHEET + 1));
-    expect_refused("place", 17, guard_sheet_write(numbers, sizeof numbers, lent, ROOM, ROOM));
-    expect_refused("place", 17, guard_sheet_write(numbers, sizeof numbers, lent, ROOM, UINT64_MAX));
-    expect_refused("place", 17, guard_sheet_write(numbers, sizeof numbers, lent, SHEET - 1, 0));
-    expect_refused("place", 17, guard_sheet_write(numbers, sizeof numbers, NULL, 0, 0));
-    expect_refused("no numbers", 2, guard_sheet_write(NULL, 0, lent, ROOM, 0));
-    expect("all there are", 0, guard_sheet_write(numbers, last, lent, ROOM, 1), SHEET);
-    expect_lent("all there are", 0, 1, sheet_a, SHEET);
-    /* 2,000,000 is 0x001e8480: without its last byte it is 0x001e8400 */
-    memcpy(sheet, sheet_a, SHEET);
-    sheet[59] = 0;
-    fill();
-    expect("a missing byte", 0, guard_sheet_write(numbers, last - 1, lent, ROOM, 0), SHEET);
-    expect_lent("a missing byte", 0, 0, sheet, SHEET);
+    expect_refused("place", 17, guard_sheet_write(numbers, lent, ROOM, ROOM - SHEET + 1));
+    expect_refused("place", 17, guard_sheet_write(numbers, lent, ROOM, ROOM));
+    expect_refused("place", 17, guard_sheet_write(numbers, lent, ROOM, UINT64_MAX));
+    expect_refused("place", 17, guard_sheet_write(numbers, lent, SHEET - 1, 0));
+    expect_refused("place", 17, guard_sheet_write(numbers, NULL, 0, 0));
 }
 
 /* A number of sheet A is changed; a number beyond the counts is not looked at. */
@@ -251,16 +282,150 @@ static void refused_writes(void)
                    {11, GUARD_SLOT_RECOVERY + GUARD_VARIABLES, -101}};
     fill();
     for (size_t i = 0; i < sizeof changes / sizeof *changes; i++) {
-        int32_t old = guard_get(numbers, changes[i].slot);
-        guard_put(numbers, changes[i].slot, changes[i].value);
-        expect_refused("write", changes[i].number, guard_sheet_write(numbers, sizeof numbers, lent, ROOM, 0));
-        expect_refused("write", changes[i].number, guard_sheet_write(numbers, sizeof numbers, NULL, 0, 0));
-        guard_put(numbers, changes[i].slot, old);
+        int32_t old = numbers[changes[i].slot];
+        numbers[changes[i].slot] = changes[i].value;
+        expect_refused("write", changes[i].number, guard_sheet_write(numbers, lent, ROOM, 0));
+        expect_refused("write", changes[i].number, guard_sheet_write(numbers, NULL, 0, 0));
+        numbers[changes[i].slot] = old;
     }
-    guard_put(numbers, guard_slot_row(0, 1), 7);
-    expect("beyond", 0, guard_sheet_write(numbers, sizeof numbers, lent, ROOM, 0), SHEET);
+    numbers[guard_slot_row(0, 1)] = 7;
+    expect("beyond", 0, guard_sheet_write(numbers, lent, ROOM, 0), SHEET);
     expect_lent("beyond", 0, 0, sheet_a, SHEET);
-    guard_put(numbers, guard_slot_row(0, 1), 0);
+    numbers[guard_slot_row(0, 1)] = 0;
+}
+
+/* ---- the largest sheet: every slot, every length */
+
+static void box_of_largest(size_t slot, int32_t limit, int32_t step)
+{
+    for (size_t i = 0; i < GUARD_VARIABLES; i++) {
+        numbers[slot + i] = -limit + step + (int32_t)i;
+        numbers[slot + GUARD_VARIABLES + i] = limit - step - (int32_t)i;
+    }
+}
+
+static void numbers_of_largest(void)
+{
+    numbers[GUARD_SLOT_N] = GUARD_VARIABLES;
+    numbers[GUARD_SLOT_BANDS] = GUARD_BANDS;
+    numbers[GUARD_SLOT_UNSAFE_BOXES] = GUARD_UNSAFE_BOXES;
+    numbers[GUARD_SLOT_BAND_VARIABLE] = GUARD_VARIABLES - 1;
+    numbers[GUARD_SLOT_DELTA] = 11;
+    numbers[GUARD_SLOT_ALPHA] = 12;
+    numbers[GUARD_SLOT_RHO] = 13;
+    numbers[GUARD_SLOT_LEAST_COMMAND] = -10000;
+    numbers[GUARD_SLOT_GREATEST_COMMAND] = 10000;
+    for (int32_t i = 0; i < GUARD_VARIABLES; i++)
+        numbers[GUARD_SLOT_CAPS + i] = 500 + i;
+    for (int32_t k = 0; k < GUARD_BANDS; k++) {
+        int32_t *band = numbers + guard_slot_band((size_t)k);
+        band[0] = k == 0 ? -2000000 : 1000 * k;
+        band[1] = -9000 + k;
+        band[2] = 9000 - k;
+        for (int32_t i = 0; i < GUARD_VARIABLES; i++) {
+            int32_t *row = numbers + guard_slot_row((size_t)k, (size_t)i), each = 10 * k + i;
+            for (int32_t j = 0; j < GUARD_VARIABLES; j++)
+                row[j] = -900 + 10 * each + j;
+            row[GUARD_VARIABLES] = 900 - each;
+            row[GUARD_VARIABLES + 1] = -90000000 - each;
+            row[GUARD_VARIABLES + 2] = 90000000 + each;
+            row[GUARD_VARIABLES + 3] = 4000 - each;
+        }
+    }
+    for (size_t j = 0; j < GUARD_UNSAFE_BOXES; j++)
+        box_of_largest(guard_slot_unsafe(j), 2000000, 10 * (int32_t)j);
+    box_of_largest(GUARD_SLOT_RECOVERY, 1000000, 90);
+}
+
+static const uint8_t *next; /* the next field of the sheet that was written */
+
+static void expect_mark(const char *mark)
+{
+    expect(mark, 0, next[0] == mark[0] && next[1] == mark[1], 1);
+    next += 2;
+}
+
+/* The next field has so many bytes and the number of a slot. */
+static void expect_field(size_t slot, size_t size)
+{
+    uint64_t bits = 0;
+    for (size_t i = 0; i < size; i++)
+        bits = bits << 8 | *next++;
+    expect("slot", (int)slot, bits, (uint32_t)numbers[slot] & (((uint64_t)1 << 8 * size) - 1));
+}
+
+static void expect_box(const char *mark, size_t slot)
+{
+    expect_mark(mark);
+    for (size_t i = 0; i < GUARD_VARIABLES; i++) {
+        expect_field(slot + i, 4);
+        expect_field(slot + GUARD_VARIABLES + i, 4);
+    }
+}
+
+/* The fields in the order of document 01. */
+static void expect_largest(void)
+{
+    next = lent;
+    expect_mark("SH");
+    for (size_t slot = GUARD_SLOT_N; slot <= GUARD_SLOT_BAND_VARIABLE; slot++)
+        expect_field(slot, 1);
+    for (size_t slot = GUARD_SLOT_DELTA; slot <= GUARD_SLOT_RHO; slot++)
+        expect_field(slot, 2);
+    expect_field(GUARD_SLOT_LEAST_COMMAND, 4);
+    expect_field(GUARD_SLOT_GREATEST_COMMAND, 4);
+    for (size_t i = 0; i < GUARD_VARIABLES; i++)
+        expect_field(GUARD_SLOT_CAPS + i, 2);
+    for (size_t k = 0; k < GUARD_BANDS; k++) {
+        expect_mark("BD");
+        for (size_t i = 0; i < GUARD_BAND_HEAD; i++)
+            expect_field(guard_slot_band(k) + i, 4);
+        for (size_t i = 0; i < GUARD_VARIABLES; i++) {
+            size_t row = guard_slot_row(k, i), rest = row + GUARD_VARIABLES;
+            for (size_t j = 0; j < GUARD_VARIABLES; j++)
+                expect_field(row + j, 2);
+            expect_field(rest, 2);
+            expect_field(rest + 1, 4);
+            expect_field(rest + 2, 4);
+            expect_field(rest + 3, 2);
+        }
+    }
+    for (size_t j = 0; j < GUARD_UNSAFE_BOXES; j++)
+        expect_box("NG", guard_slot_unsafe(j));
+    expect_box("RC", GUARD_SLOT_RECOVERY);
+    expect("longest sheet", 0, (uint64_t)(next - lent), GUARD_LONGEST_SHEET);
+}
+
+static void largest(void)
+{
+    static const size_t counts[] = {GUARD_SLOT_N, GUARD_SLOT_BANDS, GUARD_SLOT_UNSAFE_BOXES};
+    static const int32_t sides[2 * GUARD_VARIABLES] = {0};
+    uint8_t sheet[GUARD_LONGEST_SHEET], question[GUARD_LONGEST_QUESTION + 1] = {0};
+    uint8_t start[GUARD_PAIR * GUARD_VARIABLES] = {0};
+    numbers_of_largest();
+    for (size_t i = 0; i < sizeof counts / sizeof *counts; i++) {
+        numbers[counts[i]]++;
+        fill();
+        expect_refused("too great a count", 2, guard_sheet_write(numbers, lent, ROOM, 0));
+        numbers[counts[i]]--;
+    }
+    expect_refused("longest sheet", 17, guard_sheet_write(numbers, lent, GUARD_LONGEST_SHEET - 1, 0));
+    expect("longest sheet", 0, guard_sheet_write(numbers, lent, ROOM, 0), GUARD_LONGEST_SHEET);
+    expect_largest();
+    memcpy(sheet, lent, sizeof sheet);
+    expect_read("largest", sheet, sizeof sheet, numbers);
+
+    size_t length = guard_question(question, 0, 0, sides, GUARD_VARIABLES);
+    expect("longest question", 0, length, GUARD_LONGEST_QUESTION);
+    for (size_t i = length - 1; i <= length + 1; i++)
+        expect("question's length", (int)i, guard_refusal(guard_decide(sheet, sizeof sheet, question, i)),
+               i == length ? 0 : GUARD_REFUSED_QUESTION);
+    fill();
+    for (size_t room = GUARD_LONGEST_REACH - 1; room <= GUARD_LONGEST_REACH; room++)
+        expect("reach's room", (int)room,
+               guard_reach(sheet, sizeof sheet, 0, 1, 0, 0, start, sizeof start, lent, room),
+               room == GUARD_LONGEST_REACH ? 0 : refusal(17));
+    numbers_of_a();
 }
 
 /* ---- reaches */
@@ -317,15 +482,19 @@ static void reaches(void)
 
 int main(void)
 {
-    numbers_of_a();
-    lines();
-    slices();
-    overlaps();
-    refused_sheets();
-    reads();
-    writes();
-    refused_writes();
-    reaches();
+    answers();
+    if (failed == 0) { /* else an array of another size than the archive's would be handed over */
+        numbers_of_a();
+        lines();
+        slices();
+        overlaps();
+        refused_sheets();
+        reads();
+        writes();
+        refused_writes();
+        largest();
+        reaches();
+    }
     printf("%d passed, %d failed\n", passed, failed);
     return failed != 0;
 }

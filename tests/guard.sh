@@ -12,6 +12,9 @@ build() { # NAME ARCHIVE..
   shift
   gcc -std=c11 -O2 -Wall -Wextra -Werror -I "$root/include" -o "$room/$program" "$root/tests/$program.c" "$@"
 }
+for header in "$root"/include/*.h; do # each by itself
+  gcc -std=c11 -Wall -Wextra -Werror -fsyntax-only -x c "$header"
+done
 build guard "$archives/libguard.a"
 build sheet "$archives/libsheet.a" "$archives/libguard.a"
 "$room/guard"

@@ -1,4 +1,4 @@
-/* The call of include/sheet.h from C, linked with the archive of the crate `sheet` beside that of the
+/* The calls of include/sheet.h from C, linked with the archive of the crate `sheet` beside that of the
  * guard: sheet A's numbers at each slot, and the refusal, with the array as it was, for each shorter file
  * and for each byte of it changed, as guard_sheet and guard_sheet_read answer. The last line is
  * `N passed, M failed`. */
@@ -34,26 +34,32 @@ static void expect(const char *what, size_t number, int64_t got, int64_t want)
 /* Reads a file with both archives: the same refusal, and the same number at each slot, or none written. */
 static void compare(const char *what, size_t number, const uint8_t *sheet, size_t length)
 {
-    static int32_t numbers[SHEET_NUMBERS + 1];
-    static uint8_t bytes[GUARD_NUMBERS_BYTES];
+    static int32_t numbers[SHEET_NUMBERS + 1], others[GUARD_NUMBERS + 1];
     for (size_t i = 0; i <= SHEET_NUMBERS; i++)
-        numbers[i] = FILL;
-    memset(bytes, 0, sizeof bytes);
+        numbers[i] = others[i] = FILL;
     uint8_t refusal = sheet_read(sheet, length, numbers);
     uint64_t answer = guard_sheet(sheet, length);
-    uint64_t read = guard_sheet_read(sheet, length, bytes, sizeof bytes);
-    expect(what, number, refusal, answer == 0 ? 0 : guard_width(answer));
-    expect(what, number, (int64_t)read, answer == 0 ? (int64_t)length : (int64_t)answer);
-    int same = 1;
-    for (size_t slot = 0; slot < SHEET_NUMBERS; slot++)
-        same &= numbers[slot] == (refusal == 0 ? guard_get(bytes, slot) : FILL);
+    uint64_t read = guard_sheet_read(sheet, length, others);
+    expect(what, number, refusal, guard_refusal(answer));
+    expect(what, number, guard_refusal(read), refusal);
+    expect(what, number, (int64_t)guard_length(read), refusal == 0 ? (int64_t)length : 0);
+    int same = 1, kept = 1;
+    for (size_t i = 0; i <= SHEET_NUMBERS; i++) {
+        same &= numbers[i] == others[i];
+        kept &= numbers[i] == FILL;
+    }
     expect(what, number, same, 1);
+    expect(what, number, kept, refusal != 0);
     expect(what, number, numbers[SHEET_NUMBERS], FILL);
 }
 
 int main(void)
 {
     int32_t numbers[SHEET_NUMBERS];
+    if (sheet_numbers() != SHEET_NUMBERS || guard_numbers() != GUARD_NUMBERS) {
+        printf("sheet.h or guard.h is not that of its archive\n0 passed, 1 failed\n");
+        return 1;
+    }
     expect("sheet A", 0, sheet_read(sheet_a, SHEET, numbers), 0);
     expect("variables", 0, numbers[GUARD_SLOT_N], 1);
     expect("least command", 0, numbers[GUARD_SLOT_LEAST_COMMAND], -25);

@@ -1,7 +1,7 @@
 //! Decisions: the question, attempts at ever smaller widths, the recovery check,
 //! and the one number that the drive gets.
 
-use crate::machine::StateBox;
+use crate::boxes::StateBox;
 use crate::reach::{advance, Budget, Face, Law, NoWatch, Step, Stop, Watch};
 use crate::sheet::{self, Fields, Refusal, Sheet, START_LIMIT};
 use std::ops::ControlFlow;

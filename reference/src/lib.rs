@@ -1,6 +1,7 @@
 //! The second guard: document 01 in plain Rust, without any dependency.
 //! No text or code is shared with the proved guard. Both follow the readings in `docs/DECISIONS.md`.
 
+pub mod boxes;
 pub mod decision;
 pub mod listing;
 pub mod machine;

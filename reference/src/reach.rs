@@ -1,7 +1,8 @@
 //! Reach boxes: one step of face lifting, and a reach of several steps at one width.
 //! The engine is generic over a `Watch`, which sees each step and may stop the reach.
 
-use crate::machine::{bands_met, greatest_change, least_change, State, StateBox};
+use crate::boxes::{State, StateBox};
+use crate::machine::{bands_met, greatest_change, least_change};
 use crate::sheet::{Band, Refusal, Row, Sheet, START_LIMIT, TICKS_LIMIT};
 use std::ops::ControlFlow;
 

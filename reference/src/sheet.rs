@@ -1,10 +1,9 @@
 //! Sheets: the values of one machine, the bytes that carry them, and the refusals.
 //! Reader and writer share the tests of the values; the reader adds marks and lengths.
 
-use crate::machine::StateBox;
+use crate::boxes::{StateBox, VARIABLES};
 
-/// The most variables, bands and unsafe boxes that a sheet has.
-pub const VARIABLES: usize = 4;
+/// The most bands and unsafe boxes that a sheet has.
 pub const BANDS: usize = 8;
 pub const UNSAFE_BOXES: usize = 8;
 
@@ -386,6 +385,13 @@ impl Fields<'_> {
             sides.upper[i] = i64::from(self.i32());
         }
         sides
+    }
+}
+
+impl StateBox {
+    /// n pairs of lower and upper side, as in a sheet; another length gives nothing.
+    pub fn from_pairs(bytes: &[u8], n: usize) -> Option<StateBox> {
+        (bytes.len() == 8 * n).then(|| Fields(bytes).sides(n))
     }
 }
 

@@ -1,6 +1,7 @@
 //! The checks of document 01 against the second guard: sheet A and its six lines,
 //! every refusal, the order of refusals, and the round trip of writer and reader.
 
+use second_guard::boxes::StateBox;
 use second_guard::decision::{
     check_recovery, decide, decide_watched, read_question, trace, trace_recovery, Decision, Faults,
     Question, RecoveryCheck,
@@ -8,7 +9,6 @@ use second_guard::decision::{
 use second_guard::listing::listing;
 use second_guard::machine::{
     allowed_change, band_of, bands_met, ceil_div, floor_div, greatest_change, least_change,
-    StateBox,
 };
 use second_guard::reach::{reach, Law, NoWatch, Reach};
 use second_guard::sheet::{self, Refusal, Row, Sheet, NUMBERS};

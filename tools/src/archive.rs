@@ -1,139 +1,25 @@
-//! The guard's archive: the C functions of include/guard.h as safe functions.
+//! The guard's archive: what it reads, writes and reaches, as values of the second guard.
 
-use second_guard::machine::StateBox;
+pub use guard_bindings::{decide, recovery, sheet, Answer};
+
+use guard_bindings::format::{reach_length, LONGEST_REACH, LONGEST_SHEET, NUMBERS, PAIR};
+use guard_bindings::ReachCall;
+use second_guard::boxes::StateBox;
 use second_guard::reach::Law;
-use second_guard::sheet::{Sheet, NUMBERS, VARIABLES};
-
-extern "C" {
-    fn guard_sheet(sheet: *const u8, sheet_length: usize) -> u64;
-    fn guard_recovery(sheet: *const u8, sheet_length: usize) -> u64;
-    fn guard_decide(
-        sheet: *const u8,
-        sheet_length: usize,
-        question: *const u8,
-        question_length: usize,
-    ) -> u64;
-    fn guard_sheet_read(
-        sheet: *const u8,
-        sheet_length: usize,
-        out: *mut u8,
-        out_length: usize,
-    ) -> u64;
-    fn guard_sheet_write(
-        numbers: *const u8,
-        numbers_length: usize,
-        buffer: *mut u8,
-        buffer_length: usize,
-        place: u64,
-    ) -> u64;
-    fn guard_reach(
-        sheet: *const u8,
-        sheet_length: usize,
-        ticks: u32,
-        width: u32,
-        law: u32,
-        command: i32,
-        start: *const u8,
-        start_length: usize,
-        out: *mut u8,
-        out_length: usize,
-    ) -> u64;
-}
-
-/// The longest sheet, in bytes.
-const LONGEST_SHEET: usize = 1_086;
-
-/// An answer: code · 2^48 + width · 2^32 + rounds.
-#[derive(Clone, Copy, Debug, PartialEq, Eq)]
-pub struct Answer(pub u64);
-
-impl Answer {
-    pub fn code(self) -> u64 {
-        self.0 >> 48
-    }
-
-    /// The width, or the number of the refusal.
-    pub fn width(self) -> u32 {
-        (self.0 >> 32) as u32 & 0xffff
-    }
-
-    pub fn rounds(self) -> u32 {
-        self.0 as u32
-    }
-
-    /// Document 01's number where the call was refused.
-    pub fn refusal(self) -> Option<u8> {
-        (self.code() == 3).then_some(self.width() as u8)
-    }
-
-    /// The value of a call that answers one: the low half.
-    fn value(self) -> Result<u32, u8> {
-        match self.refusal() {
-            Some(number) => Err(number),
-            None => Ok(self.rounds()),
-        }
-    }
-}
-
-/// Whether these bytes are a sheet: 0 or a refusal.
-pub fn sheet(sheet: &[u8]) -> Answer {
-    // SAFETY: the pointer and the length are one slice's.
-    Answer(unsafe { guard_sheet(sheet.as_ptr(), sheet.len()) })
-}
-
-/// The recovery check.
-pub fn recovery(sheet: &[u8]) -> Answer {
-    // SAFETY: as above.
-    Answer(unsafe { guard_recovery(sheet.as_ptr(), sheet.len()) })
-}
-
-/// The decision on a question.
-pub fn decide(sheet: &[u8], question: &[u8]) -> Answer {
-    // SAFETY: each pointer and the length behind it are one slice's.
-    Answer(unsafe {
-        guard_decide(
-            sheet.as_ptr(),
-            sheet.len(),
-            question.as_ptr(),
-            question.len(),
-        )
-    })
-}
+use second_guard::sheet::Sheet;
 
 /// The values of a sheet's bytes, or the number of the refusal.
 pub fn read(sheet: &[u8]) -> Result<Sheet, u8> {
-    let mut out = [0; 4 * NUMBERS];
-    // SAFETY: as above, and the call writes to `out` alone.
-    let answer = Answer(unsafe {
-        guard_sheet_read(sheet.as_ptr(), sheet.len(), out.as_mut_ptr(), out.len())
-    });
-    answer.value()?;
     let mut numbers = [0; NUMBERS];
-    for (number, bytes) in numbers.iter_mut().zip(numbers_in(&out)) {
-        *number = bytes;
-    }
+    guard_bindings::sheet_read(sheet, &mut numbers).length()?;
     Ok(Sheet::from_numbers(&numbers))
 }
 
 /// The bytes of a sheet's values, or the number of the refusal.
 pub fn write(sheet: &Sheet) -> Result<Vec<u8>, u8> {
-    let numbers: Vec<u8> = sheet
-        .numbers()
-        .iter()
-        .flat_map(|n| n.to_be_bytes())
-        .collect();
     let mut buffer = vec![0; LONGEST_SHEET];
-    // SAFETY: as above, and the call writes to `buffer` alone.
-    let answer = Answer(unsafe {
-        guard_sheet_write(
-            numbers.as_ptr(),
-            numbers.len(),
-            buffer.as_mut_ptr(),
-            buffer.len(),
-            0,
-        )
-    });
-    buffer.truncate(answer.value()? as usize);
+    let answer = guard_bindings::sheet_write(&sheet.numbers(), &mut buffer, 0);
+    buffer.truncate(answer.length()?);
     Ok(buffer)
 }
 
@@ -150,25 +36,21 @@ pub fn reach(
         Law::Baseline => (0, 0),
         Law::Command(command) => (1, command),
     };
+    let call = ReachCall {
+        ticks,
+        width,
+        law,
+        command,
+    };
     let start = pairs(start, n).ok_or(15)?;
-    let mut out = [0; 16 * VARIABLES];
-    // SAFETY: as above, and the call writes to `out` alone.
-    let answer = Answer(unsafe {
-        guard_reach(
-            sheet.as_ptr(),
-            sheet.len(),
-            ticks,
-            width,
-            law,
-            command,
-            start.as_ptr(),
-            start.len(),
-            out.as_mut_ptr(),
-            out.len(),
-        )
-    });
-    answer.value()?;
-    Ok((box_in(&out[..8 * n]), box_in(&out[8 * n..16 * n])))
+    let mut out = [0; LONGEST_REACH];
+    match guard_bindings::reach(sheet, call, &start, &mut out).refusal() {
+        Some(number) => Err(number),
+        None => {
+            let (end, swept) = out[..reach_length(n)].split_at(PAIR * n);
+            Ok((box_in(end), box_in(swept)))
+        }
+    }
 }
 
 /// n pairs of sides as bytes; nothing where a side does not fit four bytes.

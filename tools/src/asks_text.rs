@@ -1,11 +1,12 @@
 //! Questions as text, one to a line.
 
 use crate::archive::{self, pairs};
+use crate::names::Names;
 use crate::refusal::question_fault;
-use crate::sheet_text::{closed_sides, rewritten, Names};
+use crate::sheet_text::{closed_sides, rewritten};
 use crate::tokens::{Cursor, Fault};
-use second_guard::decision::question_length;
-use second_guard::machine::StateBox;
+use guard_bindings::format::{question_length, PAIR, QUESTION_HEAD};
+use second_guard::boxes::StateBox;
 use second_guard::sheet::Sheet;
 
 const MARK: [u8; 2] = *b"QS";
@@ -224,8 +225,8 @@ impl Ask {
 
 /// One question's bytes, as the program cuts them from its file.
 fn from_bytes(bytes: &[u8], sheet_bytes: &[u8], sheet: &Sheet) -> Ask {
-    let asked = match bytes.split_at_checked(10) {
-        Some((head, sides)) if head[..2] == MARK && sides.len() == 8 * sheet.n() => {
+    let asked = match bytes.split_at_checked(QUESTION_HEAD) {
+        Some((head, sides)) if head[..2] == MARK && sides.len() == PAIR * sheet.n() => {
             let four = |at: usize| head[at..at + 4].try_into().expect("four bytes");
             Asked::Question {
                 allowance: u32::from_be_bytes(four(2)),

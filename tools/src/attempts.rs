@@ -191,7 +191,7 @@ fn compare_step(sheet_bytes: &[u8], sheet: &Sheet, step: &Step) -> Result<(), Fa
 #[cfg(test)]
 mod tests {
     use super::*;
-    use second_guard::machine::StateBox;
+    use second_guard::boxes::StateBox;
     use second_guard::sheet::{Band, CommandRange, Row};
 
     /// Sheet A of document 01 and its first question.

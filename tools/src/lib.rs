@@ -5,9 +5,12 @@
 pub mod archive;
 pub mod asks_text;
 pub mod attempts;
+pub mod causes;
 pub mod listing;
+pub mod names;
 pub mod picture;
 pub mod refusal;
+pub mod sheet_parser;
 pub mod sheet_text;
 pub mod show;
 pub mod svg;

@@ -1,8 +1,8 @@
 //! The floor listing, from the archive's answers: what the program prints for the two files.
 
 use crate::archive::{self, Answer};
-use crate::refusal::cause;
-use second_guard::decision::question_length;
+use crate::causes::cause;
+use guard_bindings::format::question_length;
 
 /// An answer to a question as the listing has it.
 fn words(answer: Answer) -> String {

@@ -6,6 +6,7 @@ use sheet_tool::asks_text::{self, Ask, Asked, AsksText};
 use sheet_tool::attempts::{attempts, Attempt, Attempts, Subject};
 use sheet_tool::listing::{listing, recovery_sentence, sentence};
 use sheet_tool::picture::picture;
+use sheet_tool::sheet_parser;
 use sheet_tool::sheet_text::{self, SheetText};
 use sheet_tool::show::show;
 use sheet_tool::tokens::Fault;
@@ -101,7 +102,7 @@ fn load_sheet(path: &str) -> Result<Loaded, String> {
         let text = sheet_text::from_sheet(&sheet);
         return Ok(Loaded { text, bytes });
     }
-    let text = sheet_text::parse(&read_text(path)?).map_err(in_file(path))?;
+    let text = sheet_parser::parse(&read_text(path)?).map_err(in_file(path))?;
     let bytes = text.bytes().map_err(in_file(path))?;
     Ok(Loaded { text, bytes })
 }

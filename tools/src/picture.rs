@@ -1,12 +1,13 @@
 //! The boxes of an attempt over time: one panel for each variable, one above the other.
 
 use crate::attempts::{Attempt, Attempts, Ending};
-use crate::sheet_text::{range, Named, Names};
+use crate::names::{Named, Names};
+use crate::sheet_text::range;
 use crate::show::{ending, ticks_before, unit_sides};
 use crate::svg::{
     decimal, edged, filled, multiples, nice_step, outlined, Anchor, Area, Scale, Svg,
 };
-use second_guard::machine::StateBox;
+use second_guard::boxes::StateBox;
 use second_guard::reach::{Law, Step};
 use second_guard::sheet::{Sheet, FIRST_EDGE, SIDE_LIMIT};
 

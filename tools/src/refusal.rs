@@ -1,11 +1,11 @@
-//! Document 01's refusals in words, and which number of a sheet or a question is at fault.
+//! Which number of a sheet or a question is at fault, in words.
 //! Every test of a value is a range whose ends are constants or earlier values.
 
-use crate::sheet_text::{Item, Names};
-use second_guard::machine::StateBox;
+use crate::names::{Item, Names};
+use guard_bindings::format::{BANDS, UNSAFE_BOXES, VARIABLES};
+use second_guard::boxes::StateBox;
 use second_guard::sheet::{
-    CommandRange, Row, Sheet, BANDS, FIRST_EDGE, LAST_EDGE, SIDE_LIMIT, START_LIMIT, TICKS_LIMIT,
-    UNSAFE_BOXES, VARIABLES,
+    CommandRange, Row, Sheet, FIRST_EDGE, LAST_EDGE, SIDE_LIMIT, START_LIMIT, TICKS_LIMIT,
 };
 
 const COMMAND_LIMIT: i32 = 10_000;
@@ -14,34 +14,6 @@ const COEFFICIENT_LIMIT: i32 = 1_000;
 const OFFSET_LIMIT: i32 = 100_000_000;
 const DIVISOR_LIMIT: i32 = 4_096;
 const ALLOWANCE_LIMIT: i64 = 1_000_000;
-
-const CAUSES: [&str; 17] = [
-    "under 20 bytes, or mark not SH",
-    "n, a count or band variable out of range",
-    "delta, alpha, rho",
-    "head's commands",
-    "length",
-    "a cap",
-    "later record's mark",
-    "edge",
-    "safety range",
-    "row number",
-    "no-go or recovery side",
-    "question's length or mark",
-    "allowance",
-    "command",
-    "measured or start side",
-    "ticks or width of a reach",
-    "too little buffer from the named place",
-];
-
-/// Document 01's cause for a refusal's number.
-pub fn cause(number: u8) -> &'static str {
-    usize::from(number)
-        .checked_sub(1)
-        .and_then(|at| CAUSES.get(at))
-        .unwrap_or(&"no refusal of document 01")
-}
 
 /// A value that has to lie within two ends.
 pub struct Test<P> {

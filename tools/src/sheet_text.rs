@@ -1,49 +1,12 @@
 //! A sheet as text: what its lines say, and the one form in which the tool writes each of them.
 
 use crate::archive;
+use crate::names::{Item, Named, Names};
 use crate::refusal::sheet_fault;
 use crate::tokens::{split_comment, Fault, Unit};
-use second_guard::machine::StateBox;
+use second_guard::boxes::StateBox;
 use second_guard::sheet::{Band, Row, Sheet, FIRST_EDGE, SIDE_LIMIT};
 use std::fmt::Write;
-
-mod parse;
-
-pub use parse::parse;
-
-/// What a line says.
-#[derive(Clone, Copy, Debug, PartialEq, Eq)]
-pub enum Item {
-    Title,
-    Tick,
-    /// Variable i and its cap.
-    Variable(usize),
-    Command,
-    Times,
-    BandVariable,
-    /// Band k's edge and safety range.
-    Band(usize),
-    /// Band k's row for variable i.
-    Row(usize, usize),
-    Unsafe(usize),
-    Recovery,
-}
-
-#[derive(Clone, Debug, PartialEq)]
-pub struct Named {
-    pub name: String,
-    pub unit: Option<Unit>,
-}
-
-/// What a sheet's bytes do not hold.
-#[derive(Clone, Debug, PartialEq)]
-pub struct Names {
-    pub title: Option<String>,
-    pub tick: Option<Unit>,
-    pub variables: Vec<Named>,
-    pub command: Named,
-    pub unsafe_boxes: Vec<Option<String>>,
-}
 
 /// A line as it was written.
 #[derive(Clone, Debug)]
@@ -58,55 +21,6 @@ pub struct SheetText {
     pub sheet: Sheet,
     pub names: Names,
     pub lines: Vec<SourceLine>,
-}
-
-impl Named {
-    fn plain(name: impl Into<String>) -> Named {
-        Named {
-            name: name.into(),
-            unit: None,
-        }
-    }
-
-    /// The name, and its unit in brackets.
-    pub fn with_unit(&self) -> String {
-        match &self.unit {
-            Some(unit) => format!("{} [{unit}]", self.name),
-            None => self.name.clone(),
-        }
-    }
-}
-
-impl Names {
-    /// Names for a sheet that comes without: x1, x2 and so on, and u for the command.
-    pub fn plain(sheet: &Sheet) -> Names {
-        Names {
-            title: None,
-            tick: None,
-            variables: (1..=sheet.n())
-                .map(|i| Named::plain(format!("x{i}")))
-                .collect(),
-            command: Named::plain("u"),
-            unsafe_boxes: vec![None; sheet.unsafe_boxes().len()],
-        }
-    }
-
-    pub fn variable(&self, i: usize) -> &str {
-        &self.variables[i].name
-    }
-
-    /// `no-go 1 "end stop"` for box 0.
-    pub fn unsafe_box(&self, j: usize) -> String {
-        match &self.unsafe_boxes[j] {
-            Some(name) => format!("no-go {} \"{name}\"", j + 1),
-            None => format!("no-go {}", j + 1),
-        }
-    }
-
-    /// The title, or a word for it.
-    pub fn title(&self) -> &str {
-        self.title.as_deref().unwrap_or("sheet")
-    }
 }
 
 /// A sheet's values with plain names, every line in the tool's own form.

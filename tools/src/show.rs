@@ -1,9 +1,10 @@
 //! A decision in words: the answer, why each width ended, and the boxes of the last one.
 
 use crate::attempts::{Attempt, Attempts, Ending};
-use crate::sheet_text::{range, Names};
+use crate::names::Names;
+use crate::sheet_text::range;
 use crate::svg::decimal;
-use second_guard::machine::StateBox;
+use second_guard::boxes::StateBox;
 use second_guard::reach::{Law, Step};
 use second_guard::sheet::{Sheet, SIDE_LIMIT};
 

@@ -4,8 +4,8 @@
 mod common;
 
 use common::{load, Numbers};
+use second_guard::boxes::StateBox;
 use second_guard::decision::Question;
-use second_guard::machine::StateBox;
 use second_guard::sheet::Sheet;
 use sheet_tool::archive;
 use sheet_tool::attempts::{attempts, Ending, Subject};

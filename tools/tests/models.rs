@@ -5,8 +5,9 @@
 mod common;
 
 use common::{example_text, load, Numbers};
+use second_guard::boxes::{State, StateBox};
 use second_guard::decision::{question_length, read_question};
-use second_guard::machine::{allowed_change, band_of, State, StateBox};
+use second_guard::machine::{allowed_change, band_of};
 use second_guard::sheet::Sheet;
 
 /// Parts of a tick in which a disturbance stays the same.

@@ -3,14 +3,14 @@
 mod common;
 
 use common::{example_text, shell, Folder, Numbers};
-use sheet_tool::{asks_text, sheet_text};
+use sheet_tool::{asks_text, sheet_parser};
 
 /// Sheet A with one line replaced, and the fault that follows.
 fn fault(line: &str, instead: &str) -> String {
     let text = example_text("sheet_a.txt");
     assert!(text.contains(line), "sheet A has the line {line}");
     let text = text.replace(line, instead);
-    match sheet_text::parse(&text).and_then(|text| text.bytes()) {
+    match sheet_parser::parse(&text).and_then(|text| text.bytes()) {
         Ok(_) => "accepted".into(),
         Err(fault) => fault.to_string(),
     }
@@ -177,7 +177,7 @@ fn faults_of_the_text() {
 
 /// The fault of one line of questions to sheet A.
 fn question_fault(line: &str) -> String {
-    let text = sheet_text::parse(&example_text("sheet_a.txt")).expect("sheet A");
+    let text = sheet_parser::parse(&example_text("sheet_a.txt")).expect("sheet A");
     match asks_text::parse(line, &text.sheet, &text.names) {
         Ok(_) => "accepted".into(),
         Err(fault) => fault.to_string(),
@@ -272,11 +272,11 @@ fn damaged(text: &str, numbers: &mut Numbers) -> String {
 #[test]
 fn damaged_texts_are_accepted_or_faults() {
     let mut numbers = Numbers(7);
-    let sheet = sheet_text::parse(&example_text("motor.txt")).expect("a sheet");
+    let sheet = sheet_parser::parse(&example_text("motor.txt")).expect("a sheet");
     let (mut accepted, mut refused, mut faults) = (0, 0, 0);
     for _ in 0..4_000 {
         let text = damaged(&sheet.text(), &mut numbers);
-        let bytes = sheet_text::parse(&text).and_then(|text| text.bytes());
+        let bytes = sheet_parser::parse(&text).and_then(|text| text.bytes());
         let asks = damaged(&example_text("motor.asks.txt"), &mut numbers);
         let asks = asks_text::parse(&asks, &sheet.sheet, &sheet.names);
         for result in [bytes.map(drop), asks.map(drop)] {

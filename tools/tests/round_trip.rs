@@ -3,9 +3,9 @@
 mod common;
 
 use common::{example, example_text, load, sheet, Folder, Numbers};
-use second_guard::machine::StateBox;
+use second_guard::boxes::StateBox;
 use second_guard::sheet::{self as second, Band, CommandRange, Row, Sheet};
-use sheet_tool::{archive, asks_text, sheet_text};
+use sheet_tool::{archive, asks_text, sheet_parser, sheet_text};
 
 const NAMES: [&str; 4] = ["sheet_a", "leg_press", "motor", "pendulum"];
 
@@ -40,7 +40,7 @@ fn bytes_come_back_through_plain_text() {
 fn through_text(bytes: &[u8], asks: &[u8]) -> (Vec<u8>, Vec<u8>) {
     let read = archive::read(bytes).expect("an accepted sheet");
     let text = sheet_text::from_sheet(&read);
-    let parsed = sheet_text::parse(&text.text()).expect("the tool's own text");
+    let parsed = sheet_parser::parse(&text.text()).expect("the tool's own text");
     assert_eq!(parsed.text(), text.text());
     let asked = asks_text::from_file(asks, bytes, &read, &text.names);
     let asks = asks_text::parse(&asked.text(), &parsed.sheet, &parsed.names);
@@ -153,7 +153,7 @@ fn random_sheets_and_questions_come_back() {
 
 #[test]
 fn another_value_changes_one_line() {
-    let text = sheet_text::parse(&example_text("leg_press.txt")).expect("a sheet");
+    let text = sheet_parser::parse(&example_text("leg_press.txt")).expect("a sheet");
     let mut other = text.sheet;
     other.bands[2].rows[1].d = 350;
     let changed = text.with_values(&other).expect("the same counts").text();
@@ -170,7 +170,7 @@ fn another_value_changes_one_line() {
 
 #[test]
 fn a_changed_line_keeps_its_comment() {
-    let text = sheet_text::parse(&example_text("leg_press.txt")).expect("a sheet");
+    let text = sheet_parser::parse(&example_text("leg_press.txt")).expect("a sheet");
     let mut other = text.sheet;
     other.bands[2].edge = 2_430;
     let changed = text.with_values(&other).expect("the same counts").text();
@@ -179,7 +179,7 @@ fn a_changed_line_keeps_its_comment() {
 
 #[test]
 fn other_counts_cannot_be_shown_in_the_same_lines() {
-    let text = sheet_text::parse(&example_text("leg_press.txt")).expect("a sheet");
-    let motor = sheet_text::parse(&example_text("motor.txt")).expect("a sheet");
+    let text = sheet_parser::parse(&example_text("leg_press.txt")).expect("a sheet");
+    let motor = sheet_parser::parse(&example_text("motor.txt")).expect("a sheet");
     assert!(text.with_values(&motor.sheet).is_err());
 }

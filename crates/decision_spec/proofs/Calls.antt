@@ -19,7 +19,7 @@ unfolding orRefused
 or-answered d a e = rw e refl
 
 -- the buffer without a refusal is `new`
-module _ (d : ℕ) (new buffer : List ℕ) where
+module _ {A : Type 0} (d : ℕ) (new buffer : List A) where
   pub or-unchanged : {x : ℕ} → x ≡ d → (x ≡ 0 → ⊥) → buffer ≡ orUnchanged d new buffer
   unfolding orUnchanged
   or-unchanged {x} p n = by d p

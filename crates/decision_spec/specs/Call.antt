@@ -11,8 +11,8 @@ unfoldable pub orRefused : ℕ → ℕ → ℕ
 orRefused zero a = a
 orRefused (suc r) a = packed (refused (suc r))
 
--- a lent buffer is written only where nothing is refused: then `new`
-unfoldable pub orUnchanged : ℕ → List ℕ → List ℕ → List ℕ
+-- a lent buffer or array is written only where nothing is refused: then `new`
+unfoldable pub orUnchanged : {A : Type 0} → ℕ → List A → List A → List A
 orUnchanged zero new buffer = new
 orUnchanged (suc r) new buffer = buffer
 

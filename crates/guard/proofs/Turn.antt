@@ -17,7 +17,7 @@ use Rattle.integers.proofs.Lists.{sets-append}
 use Rattle.sheet_spec.specs.Slots.{_!_}
 use Rattle.sheet_spec.specs.Fields.{i32, encoded}
 use Rattle.machine_spec.specs.Box.{lo, hi}
-use Rattle.decision_spec.specs.Numbers.{numberBytes, numberAt, numbersIn, sidesOf}
+use Rattle.decision_spec.specs.Numbers.{numberBytes, sidesOf}
 
 -- ---- numbers to bytes
 
@@ -31,12 +31,6 @@ unfolding numberBytes
 bytes-more l zs k e =
     let n : 4 * k ≡ 0 + length (numberBytes zs k) = omega (arith, bytes-length zs k) in
     rw (add-one, e, n) (sets-append l 0 (numberBytes zs k) (encoded i32 (zs ! k)))
-
--- ---- bytes to numbers
-
-pub numbers-more : (bs : List ℕ) (k : ℕ) {v : List ℤ} {z : ℤ} → v ≡ numbersIn bs k → z ≡ numberAt bs (4 * k) → set v k z ≡ numbersIn bs (k + 1)
-unfolding numbersIn
-numbers-more bs k e f = rw (e, f, add-one) refl
 
 -- ---- sides to numbers
 

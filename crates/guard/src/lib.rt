@@ -1,15 +1,14 @@
 // The C interface (include/guard.h) and nothing else: wrappers around the crates below, each answer one 64-bit number.
-// decision_spec/specs/Calls (of a reach: decision_spec/specs/ReachCall) says what a call answers and what it leaves in a lent buffer; no call has a
-// `requires`. The first three are the drive's; `numbers` has the form in which the others take and give numbers.
+// decision_spec/specs/Calls (of a reach: decision_spec/specs/ReachCall) says what a call answers and what it leaves in a lent
+// buffer or array; no call has a `requires`. The first three are the drive's; `numbers` has the form in which a reach gives boxes.
 ghost use mathlib.Core.Path.{_≡_};
+ghost use Rattle.sheet_spec.specs.Slots.{slots};
 ghost use Rattle.decision_spec.specs.ReachCall.{reachCall, reachOut};
 ghost use Rattle.decision_spec.specs.Calls.{decideCall, readCall, readOut, recoveryCall, sheetCall, writeCall, writeOut};
 
 pub mod numbers;
 pub mod reach;
 
-use crate::numbers::get_numbers;
-use crate::numbers::put_numbers;
 use crate::reach::reach_call;
 use decision::check_recovery;
 use decision::decide;
@@ -18,12 +17,7 @@ use decision_answers::pack_decision;
 use decision_answers::pack_refusal;
 use sheet::read_zeroed;
 use sheet::write;
-use sheet_spec::refusals::ROOM;
-use sheet_spec::sizes::I32;
 use sheet_spec::slots::SLOTS;
-
-// The bytes of a sheet's numbers.
-const NUMBERS_SIZE: usize = I32 * SLOTS;
 
 #[no_mangle]
 pub extern "C" fn guard_sheet(sheet: &[u8]) -> u64
@@ -51,31 +45,34 @@ pub extern "C" fn guard_decide(sheet: &[u8], question: &[u8]) -> u64
     pack_decision(decide(sheet, question))
 }
 
+// The number of numbers in the arrays below.
 #[no_mangle]
-pub extern "C" fn guard_sheet_read(sheet: &[u8], out: &mut [u8]) -> u64
-    ensures { λ r. ⌜ r ≡ readCall (now (sheet .entry)) (now (out .entry)) ⌝ }
-    ensures { λ _. ⌜ now (out .exit) ≡ readOut (now (sheet .entry)) (now (out .entry)) ⌝ }
+pub extern "C" fn guard_numbers() -> u64
+    ensures { λ r. ⌜ r ≡ slots ⌝ }
+{
+    SLOTS as u64
+}
+
+#[no_mangle]
+pub extern "C" fn guard_sheet_read(sheet: &[u8], numbers: &mut [i32; SLOTS]) -> u64
+    ensures { λ r. ⌜ r ≡ readCall (now (sheet .entry)) ⌝ }
+    ensures { λ _. ⌜ now (numbers .exit) ≡ readOut (now (sheet .entry)) (now (numbers .entry)) ⌝ }
 {
     let mut v = [0i32; SLOTS];
-    let refusal = read_zeroed(sheet, &mut v);
-    if refusal != 0 {
-        return pack_refusal(refusal);
+    let refused = read_zeroed(sheet, &mut v);
+    if refused != 0 {
+        return pack_refusal(refused);
     }
-    if out.len() < NUMBERS_SIZE {
-        return pack_refusal(ROOM);
-    }
-    put_numbers(out, &v, SLOTS);
+    *numbers = v;
     sheet.len() as u64
 }
 
 #[no_mangle]
-pub extern "C" fn guard_sheet_write(numbers: &[u8], buffer: &mut [u8], place: u64) -> u64
+pub extern "C" fn guard_sheet_write(numbers: &[i32; SLOTS], buffer: &mut [u8], place: u64) -> u64
     ensures { λ r. ⌜ r ≡ writeCall (now (numbers .entry)) (now (buffer .entry)) place ⌝ }
     ensures { λ _. ⌜ now (buffer .exit) ≡ writeOut (now (numbers .entry)) (now (buffer .entry)) place ⌝ }
 {
-    let mut v = [0i32; SLOTS];
-    get_numbers(numbers, &mut v);
-    let w = write(&v, buffer, place as usize);
+    let w = write(numbers, buffer, place as usize);
     if w.refusal != 0 {
         return pack_refusal(w.refusal);
     }

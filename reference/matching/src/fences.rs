@@ -121,6 +121,20 @@ impl Fenced {
     }
 }
 
+/// A lent buffer as an array of numbers, which has its length and starts at a multiple of four bytes.
+pub fn array<const N: usize>(bytes: &[u8]) -> &[i32; N] {
+    let pointer = bytes.as_ptr().cast::<[i32; N]>();
+    assert!(bytes.len() == size_of::<[i32; N]>() && pointer.is_aligned());
+    unsafe { &*pointer }
+}
+
+/// The same of a buffer that is written.
+pub fn array_mut<const N: usize>(bytes: &mut [u8]) -> &mut [i32; N] {
+    let pointer = bytes.as_mut_ptr().cast::<[i32; N]>();
+    assert!(bytes.len() == size_of::<[i32; N]>() && pointer.is_aligned());
+    unsafe { &mut *pointer }
+}
+
 extern "C" fn caught(_number: i32) {
     let text = b"WRONG: access outside a buffer, or a write to one that is only read\n0 passed, 1 failed\n";
     unsafe {

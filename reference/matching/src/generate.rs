@@ -2,9 +2,9 @@
 //! and boxes placed so that a decision ends at a wanted width.
 
 use crate::random::Random;
+use second_guard::boxes::{StateBox, VARIABLES};
 use second_guard::decision::{trace, Faults, Question};
-use second_guard::machine::StateBox;
-use second_guard::sheet::{self, Band, CommandRange, Row, Sheet, BANDS, UNSAFE_BOXES, VARIABLES};
+use second_guard::sheet::{self, Band, CommandRange, Row, Sheet, BANDS, UNSAFE_BOXES};
 
 const SIDE: i64 = sheet::SIDE_LIMIT;
 const START: i64 = sheet::START_LIMIT;

@@ -1,7 +1,8 @@
 //! What the programs share: the archive's calls, the answers expected of them,
 //! random sheets and questions, and the count of kinds seen.
 
-pub mod archive;
+pub use guard_bindings as archive;
+
 pub mod expected;
 pub mod fences;
 pub mod generate;

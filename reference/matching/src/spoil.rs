@@ -1,42 +1,54 @@
-//! Faults put into the bytes of sheets, questions and numbers, one for each refusal.
+//! Faults put into the bytes of sheets and questions and into a sheet's numbers, one for each refusal.
 //! A fault's rank says which of two is found first.
 
+use crate::archive::format::{
+    slot_band, slot_row, slot_unsafe, SLOT_ALPHA, SLOT_BANDS, SLOT_BAND_VARIABLE, SLOT_CAPS,
+    SLOT_DELTA, SLOT_GREATEST_COMMAND, SLOT_LEAST_COMMAND, SLOT_N, SLOT_RECOVERY, SLOT_RHO,
+    SLOT_UNSAFE_BOXES, VARIABLES,
+};
 use crate::random::Random;
 use second_guard::sheet::Sheet;
 
-/// A change of bytes that is refused.
+/// A change of bytes, or of numbers, that is refused.
 #[derive(Clone, Debug)]
-pub struct Fault {
+pub struct Fault<T = u8> {
     pub number: u8,
     pub rank: usize,
     at: usize,
-    bytes: Vec<u8>,
+    values: Vec<T>,
 }
 
-impl Fault {
-    fn new(number: u8, rank: usize, at: usize, bytes: &[u8]) -> Fault {
+impl<T: Copy> Fault<T> {
+    fn new(number: u8, rank: usize, at: usize, values: &[T]) -> Fault<T> {
         Fault {
             number,
             rank,
             at,
-            bytes: bytes.to_vec(),
+            values: values.to_vec(),
         }
     }
 
+    /// Puts the fault at its place.
+    pub fn put(&self, all: &mut [T]) {
+        all[self.at..self.at + self.values.len()].copy_from_slice(&self.values);
+    }
+
+    /// The two have different places.
+    pub fn apart(&self, other: &Fault<T>) -> bool {
+        self.at == usize::MAX
+            || other.at == usize::MAX
+            || self.at + self.values.len() <= other.at
+            || other.at + other.values.len() <= self.at
+    }
+}
+
+impl Fault {
     /// Puts the fault into the bytes. One without a place adds its bytes at the end.
     pub fn apply(&self, bytes: &mut Vec<u8>) {
         match self.at {
-            usize::MAX => bytes.extend_from_slice(&self.bytes),
-            at => bytes[at..at + self.bytes.len()].copy_from_slice(&self.bytes),
+            usize::MAX => bytes.extend_from_slice(&self.values),
+            _ => self.put(bytes),
         }
-    }
-
-    /// The two change different bytes.
-    pub fn apart(&self, other: &Fault) -> bool {
-        self.at == usize::MAX
-            || other.at == usize::MAX
-            || self.at + self.bytes.len() <= other.at
-            || other.at + other.bytes.len() <= self.at
     }
 }
 
@@ -258,47 +270,51 @@ pub fn question_fault(random: &mut Random, sheet: &Sheet, number: u8) -> Fault {
     }
 }
 
-/// A fault for this refusal (2 to 11 without 5 and 7) in the numbers of a sheet, as bytes.
-pub fn number_fault(random: &mut Random, sheet: &Sheet, number: u8, layout_kept: bool) -> Fault {
+/// A fault for this refusal (2 to 11 without 5 and 7) in the numbers of a sheet.
+pub fn number_fault(
+    random: &mut Random,
+    sheet: &Sheet,
+    number: u8,
+    layout_kept: bool,
+) -> Fault<i32> {
     let n = sheet.n();
     let any_band = random.below(sheet.band_count as usize);
-    let band = 13 + 35 * any_band;
+    let band = slot_band(any_band);
     let boxes = sheet.unsafe_count as usize;
     let any_box = random.below(boxes + 1);
     let is_recovery = any_box == boxes;
     // The recovery box comes last in the file and before the unsafe boxes in the slots.
     let (sides, sides_rank) = if is_recovery {
-        (293, 9_000)
+        (SLOT_RECOVERY, 9_000)
     } else {
-        (301 + 8 * any_box, 1_000 + 8 * any_box)
+        (slot_unsafe(any_box), 1_000 + 8 * any_box)
     };
-    let at_slot = |rank: usize, slot: usize, value: i32| {
-        Fault::new(number, rank, 4 * slot, &value.to_be_bytes())
-    };
+    let at_slot = |rank: usize, slot: usize, value: i32| Fault::new(number, rank, slot, &[value]);
     match number {
         2 if layout_kept => {
             let variable = random.pick(&[-1, n as i32, 256, i32::MAX, i32::MIN]);
-            at_slot(2, 3, variable)
+            at_slot(2, SLOT_BAND_VARIABLE, variable)
         }
         2 => {
-            let slot = random.below(4);
+            let counts = [SLOT_N, SLOT_BANDS, SLOT_UNSAFE_BOXES, SLOT_BAND_VARIABLE];
+            let slot = random.pick(&counts);
             let value = random.pick(&[-1, 9, 256, 257, i32::MIN, i32::MAX]);
             at_slot(2, slot, value)
         }
         3 => {
-            let slot = random.int(4, 6) as usize;
+            let slot = random.pick(&[SLOT_DELTA, SLOT_ALPHA, SLOT_RHO]);
             let value = random.pick(&[0, -1, 1_001, 65_537, i32::MAX, i32::MIN]);
             at_slot(3, slot, value)
         }
         4 => match random.below(3) {
-            0 => at_slot(4, 7, random.pick(&[-10_001, i32::MIN])),
-            1 => at_slot(4, 8, random.pick(&[10_001, i32::MAX])),
-            _ => at_slot(4, 8, sheet.commands.least - 1),
+            0 => at_slot(4, SLOT_LEAST_COMMAND, random.pick(&[-10_001, i32::MIN])),
+            1 => at_slot(4, SLOT_GREATEST_COMMAND, random.pick(&[10_001, i32::MAX])),
+            _ => at_slot(4, SLOT_GREATEST_COMMAND, sheet.commands.least - 1),
         },
         6 => {
             let cap = random.pick(&[0, -1, 1_001, 65_537, i32::MIN]);
             let i = random.below(n);
-            at_slot(6 + i, 9 + i, cap)
+            at_slot(6 + i, SLOT_CAPS + i, cap)
         }
         8 => {
             let edge = if any_band == 0 {
@@ -318,16 +334,17 @@ pub fn number_fault(random: &mut Random, sheet: &Sheet, number: u8, layout_kept:
             at_slot(FILE_ORDER + band + 1, slot, value)
         }
         10 => {
-            let row = band + 3 + 8 * random.below(n);
+            let row = slot_row(any_band, random.below(n));
+            let rest = row + VARIABLES;
             let (slot, value) = match random.below(5) {
                 0 => (
                     row + random.below(n),
                     random.pick(&[1_001, -1_001, 65_536, i32::MIN]),
                 ),
-                1 => (row + 4, random.pick(&[1_001, -1_001, 70_000])),
-                2 => (row + 5, beyond(random, 100_000_000)),
-                3 => (row + 6, random.pick(&[-1, 100_000_001])),
-                _ => (row + 7, random.pick(&[0, -1, 4_097, 65_537])),
+                1 => (rest, random.pick(&[1_001, -1_001, 70_000])),
+                2 => (rest + 1, beyond(random, 100_000_000)),
+                3 => (rest + 2, random.pick(&[-1, 100_000_001])),
+                _ => (rest + 3, random.pick(&[0, -1, 4_097, 65_537])),
             };
             at_slot(FILE_ORDER + slot, slot, value)
         }
@@ -340,14 +357,22 @@ pub fn number_fault(random: &mut Random, sheet: &Sheet, number: u8, layout_kept:
             };
             let (slot, value) = match random.below(4) {
                 0 => (i, beyond(random, limit)),
-                1 => (4 + i, beyond(random, limit)),
+                1 => (VARIABLES + i, beyond(random, limit)),
                 2 => (i, values.upper[i] as i32 + 1),
-                _ => (4 + i, values.lower[i] as i32 - 1),
+                _ => (VARIABLES + i, values.lower[i] as i32 - 1),
             };
             at_slot(sides_rank, sides + slot, value)
         }
         _ => unreachable!("not a refusal of the writer"),
     }
+}
+
+/// Changes some bytes of one number at random.
+pub fn damage_number(random: &mut Random, numbers: &mut [i32]) {
+    let at = random.below(numbers.len());
+    let mut bytes = numbers[at].to_be_bytes();
+    damage(random, &mut bytes);
+    numbers[at] = i32::from_be_bytes(bytes);
 }
 
 /// Changes some bytes at random.

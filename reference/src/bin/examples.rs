@@ -1,10 +1,10 @@
 //! Prints `examples.txt`: worked examples with the answers of the second guard.
 //! Each one names what it covers, and the program stops where it does not cover it.
 
+use second_guard::boxes::StateBox;
 use second_guard::decision::{
     check_recovery_watched, decide, decide_watched, read_question, Decision, Faults, RecoveryCheck,
 };
-use second_guard::machine::StateBox;
 use second_guard::reach::{reach, Budget, Face, Law, Step, Watch};
 use second_guard::sheet::{self, Band, CommandRange, Row, Sheet};
 use std::fmt::Write;

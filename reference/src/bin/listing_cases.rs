@@ -1,8 +1,8 @@
 //! `make_listing_cases FOLDER`: the cases on which the floor listing is compared, a folder for each.
 //! A case names text that its listing has, and the program stops where the second guard's listing has it not.
 
+use second_guard::boxes::StateBox;
 use second_guard::listing::listing;
-use second_guard::machine::StateBox;
 use second_guard::sheet::{self, Band, CommandRange, Row, Sheet};
 use std::path::Path;
 use std::{env, fs};

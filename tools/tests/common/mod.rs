@@ -2,7 +2,7 @@
 #![allow(dead_code)]
 
 use second_guard::sheet::Sheet;
-use sheet_tool::{asks_text, sheet_text};
+use sheet_tool::{asks_text, sheet_parser};
 use std::path::PathBuf;
 use std::process::Command;
 
@@ -18,7 +18,7 @@ pub fn example_text(name: &str) -> String {
 
 /// An example's values, its sheet's bytes and its questions' bytes.
 pub fn load(name: &str) -> (Sheet, Vec<u8>, Vec<u8>) {
-    let text = sheet_text::parse(&example_text(&format!("{name}.txt"))).expect("a sheet");
+    let text = sheet_parser::parse(&example_text(&format!("{name}.txt"))).expect("a sheet");
     let bytes = text.bytes().expect("an accepted sheet");
     let asks = example_text(&format!("{name}.asks.txt"));
     let asks = asks_text::parse(&asks, &text.sheet, &text.names).expect("questions");

@@ -5,12 +5,12 @@
 //! answer alike and that the guard takes at most 1.25 times the instructions. The last line is
 //! `N passed, M failed`.
 
-use matching::archive;
+use matching::archive::{self, sheet_archive};
 use matching::expected;
 use matching::generate::{everywhere, question_bytes, sheet_bytes, worst_case};
-use second_guard::machine::StateBox;
+use second_guard::boxes::{StateBox, VARIABLES};
 use second_guard::sheet::{self, Band, CommandRange, Row, Sheet};
-use second_guard::sheet::{BANDS, NUMBERS, UNSAFE_BOXES, VARIABLES};
+use second_guard::sheet::{BANDS, NUMBERS, UNSAFE_BOXES};
 use std::hint::black_box;
 use std::process::Command;
 use std::time::Duration;
@@ -102,14 +102,14 @@ fn line(name: &str, times: &Times, per: f64) {
 
 fn decide(sheet: &[u8], question: &[u8]) -> Times {
     compare(
-        || archive::decide(black_box(sheet), black_box(question)),
-        || expected::decide(black_box(sheet), black_box(question)),
+        || archive::decide(black_box(sheet), black_box(question)).0,
+        || expected::decide(black_box(sheet), black_box(question)).0,
     )
 }
 
 /// Reading with the archive of the crate `sheet` alone.
 fn read_by_guard(sheet: &[u8], numbers: &mut [i32; NUMBERS]) -> u64 {
-    let refusal = archive::numbers(black_box(sheet), numbers);
+    let refusal = sheet_archive::read(black_box(sheet), numbers);
     black_box(numbers);
     refusal.into()
 }
@@ -130,7 +130,7 @@ fn read(sheet: &[u8]) -> Times {
 }
 
 fn rounds(sheet: &[u8], question: &[u8]) -> u64 {
-    expected::decide(sheet, question) & 0xFFFF_FFFF
+    expected::decide(sheet, question).rounds().into()
 }
 
 /// A machine whose neighborhoods meet all of its bands, with a recovery box out of reach.

@@ -1,9 +1,10 @@
 //! A million calls of the archive with random, cut, flipped and spliced bytes in fenced buffers:
 //! no access outside a buffer, no write on refusal, every answer that of the second guard.
 
-use matching::archive::{self, ReachCall};
-use matching::expected::{self, number_bytes, NUMBER_BYTES};
-use matching::fences::{watch_fences, Fenced, Side};
+use matching::archive::format::{reach_length, LONGEST_SHEET, NUMBERS};
+use matching::archive::{self, Answer, ReachCall};
+use matching::expected;
+use matching::fences::{array, array_mut, watch_fences, Fenced, Side};
 use matching::generate::{model, near, question_bytes, shape, sheet_bytes, times, widths, Case};
 use matching::random::Random;
 use matching::spoil::damage;
@@ -14,6 +15,8 @@ const CALLS: usize = 1_000_000;
 const CORPUS: usize = 500;
 /// The longest input in bytes.
 const ROOM: usize = 4_096;
+/// The bytes of an array of numbers.
+const NUMBER_BYTES: usize = std::mem::size_of::<[i32; NUMBERS]>();
 
 /// One sound case as bytes.
 struct Sound {
@@ -97,12 +100,30 @@ fn corpus(random: &mut Random) -> Vec<Sound> {
             Sound {
                 sheet: sheet_bytes(&case.sheet),
                 question: question_bytes(allowance, case.command, &case.measured, n),
-                numbers: number_bytes(&case.sheet),
+                numbers: bytes_of(&case.sheet.numbers()),
                 start: expected::pairs(&near(random, &case), n),
                 case,
             }
         })
         .collect()
+}
+
+/// The bytes of an array of numbers as it stands in memory.
+fn bytes_of(numbers: &[i32; NUMBERS]) -> Vec<u8> {
+    numbers.iter().flat_map(|n| n.to_ne_bytes()).collect()
+}
+
+fn numbers_of(bytes: &[u8]) -> [i32; NUMBERS] {
+    let four = |i: usize| bytes[4 * i..4 * i + 4].try_into().expect("four bytes");
+    std::array::from_fn(|i| i32::from_ne_bytes(four(i)))
+}
+
+/// The second guard's reading, its numbers as bytes.
+fn expected_read(sheet: &[u8], out: &mut [u8]) -> Answer {
+    let mut numbers = numbers_of(out);
+    let answer = expected::sheet_read(sheet, &mut numbers);
+    out.copy_from_slice(&bytes_of(&numbers));
+    answer
 }
 
 /// Bytes made from some sound ones and others of their sort.
@@ -194,7 +215,9 @@ impl Fuzz {
             }
             4 => {
                 let (sound, other) = (&self.corpus[at].numbers, &self.corpus[other].numbers);
-                (mangle(&mut self.random, sound, other), Vec::new())
+                let mut numbers = mangle(&mut self.random, sound, other);
+                numbers.resize(NUMBER_BYTES, 0);
+                (numbers, Vec::new())
             }
             _ => {
                 let sheet = if self.random.percent(70) {
@@ -207,18 +230,14 @@ impl Fuzz {
             }
         };
         let room = match call {
-            3 => match self.random.below(4) {
-                0 => self.random.below(NUMBER_BYTES + 40),
-                1 => NUMBER_BYTES - 1,
-                _ => NUMBER_BYTES + self.random.below(3),
-            },
+            3 => NUMBER_BYTES,
             4 => match self.random.below(4) {
-                0 => self.random.below(1_200),
+                0 => self.random.below(LONGEST_SHEET + 100),
                 _ => self.corpus[at].sheet.len() + self.random.below(30),
             },
             5 => match self.random.below(4) {
                 0 => self.random.below(80),
-                _ => 16 * self.corpus[at].case.sheet.n() + self.random.below(3),
+                _ => reach_length(self.corpus[at].case.sheet.n()) + self.random.below(3),
             },
             _ => 0,
         };
@@ -265,8 +284,8 @@ impl Fuzz {
             0 => archive::sheet(first),
             1 => archive::recovery(first),
             2 => archive::decide(first, second),
-            3 => archive::sheet_read(first, out),
-            4 => archive::sheet_write(first, out, place),
+            3 => archive::sheet_read(first, array_mut(out)),
+            4 => archive::sheet_write(array(first), out, place),
             _ => archive::reach(first, reach, second, out),
         };
         if locked {
@@ -278,26 +297,24 @@ impl Fuzz {
             0 => expected::sheet(&one),
             1 => expected::recovery(&one),
             2 => expected::decide(&one, &two),
-            3 => expected::sheet_read(&one, &mut wanted_out),
-            4 => expected::sheet_write(&one, &mut wanted_out, place),
+            3 => expected_read(&one, &mut wanted_out),
+            4 => expected::sheet_write(&numbers_of(&one), &mut wanted_out, place),
             _ => expected::reach(&one, reach, &two, &mut wanted_out),
         };
 
         let describe = || {
             format!(
-                "guard_{} {} {} place {place} {reach:?} room {room}: wanted {wanted:x}, found {found:x}",
+                "guard_{} {} {} place {place} {reach:?} room {room}: wanted {wanted:x?}, found {found:x?}",
                 NAMES[call],
                 hex(&one),
                 hex(&two)
             )
         };
-        let refused = wanted >> 48 == 3;
         let right = wanted == found;
         self.tally.check(self.kinds.calls[call], right, describe);
-        if refused {
+        if let Some(number) = wanted.refusal() {
             self.tally.saw(self.kinds.refused[call]);
-            let number = (wanted >> 32) as usize & 0xFFFF;
-            let kind = self.kinds.refusals[number - 1];
+            let kind = self.kinds.refusals[usize::from(number) - 1];
             self.tally.check(kind, right, describe);
         } else {
             self.tally.saw(self.kinds.accepted[call]);
@@ -306,7 +323,7 @@ impl Fuzz {
         self.tally.check(self.kinds.inputs_kept, kept, describe);
         if room > 0 {
             let alike = self.out.lent() == wanted_out;
-            let kind = if refused {
+            let kind = if wanted.refusal().is_some() {
                 self.kinds.outputs_on_refusal
             } else {
                 self.kinds.outputs

@@ -2,22 +2,26 @@
 //! bytes written, recovery checks, decisions and reach boxes. It fails where an answer differs
 //! or a kind of case is too rare.
 
-use matching::archive::{self, ReachCall};
-use matching::expected::{self, number_bytes, NUMBER_BYTES};
+use matching::archive::format::{
+    reach_length, slot_band, slot_unsafe, LONGEST_SHEET, NUMBERS, SLOT_BAND, SLOT_CAPS,
+    SLOT_RECOVERY,
+};
+use matching::archive::{self, sheet_archive, Answer, ReachCall};
+use matching::expected;
 use matching::generate::{
     long_times, model, near, pick_command, question_bytes, shape, sheet_bytes, slow_growth, times,
     widths, worst_case, Case, Shape, BOUNDS,
 };
 use matching::random::Random;
-use matching::spoil::{damage, number_fault, question_fault, sheet_fault, Fault};
+use matching::spoil::{damage, damage_number, number_fault, question_fault, sheet_fault, Fault};
 use matching::tally::{hex, KindId, Tally};
+use second_guard::boxes::StateBox;
 use second_guard::decision::{
     check_recovery_watched, decide_watched, read_question, trace, Decision, Faults, Question,
     RecoveryCheck,
 };
-use second_guard::machine::StateBox;
 use second_guard::reach::{Face, Step, Watch};
-use second_guard::sheet::{Sheet, NUMBERS};
+use second_guard::sheet::Sheet;
 use std::collections::HashMap;
 use std::ops::ControlFlow;
 use std::time::Instant;
@@ -60,6 +64,7 @@ impl Watch for Sight {
 
 /// All kinds of cases with their least numbers.
 struct Kinds {
+    sizes: KindId,
     calls: KindId,
     decisions: KindId,
     keep: KindId,
@@ -81,7 +86,6 @@ struct Kinds {
     sheets: KindId,
     values_read: KindId,
     bytes_written: KindId,
-    numbers_cut: KindId,
     recovery_pass: KindId,
     recovery_pass_later: KindId,
     recovery_fail: KindId,
@@ -100,6 +104,7 @@ struct Kinds {
 impl Kinds {
     fn new(tally: &mut Tally) -> Kinds {
         Kinds {
+            sizes: tally.kind("numbers of the archive and of the header", 2),
             calls: tally.kind("calls in all", 300_000),
             decisions: tally.kind("decisions", 200_000),
             keep: tally.kind("keep", 2_000),
@@ -125,7 +130,6 @@ impl Kinds {
             sheets: tally.kind("sheets accepted", 200),
             values_read: tally.kind("values read", 200),
             bytes_written: tally.kind("bytes written", 200),
-            numbers_cut: tally.kind("numbers cut short or too many", 200),
             recovery_pass: tally.kind("recovery check passes", 200),
             recovery_pass_later: tally.kind("recovery check passes at a lower width", 200),
             recovery_fail: tally.kind("recovery check fails", 200),
@@ -135,7 +139,7 @@ impl Kinds {
             reach_ignores_command: tally.kind("baseline reach with any command", 200),
             damaged_sheets: tally.kind("damaged bytes of sheets", 200),
             damaged_questions: tally.kind("damaged bytes of questions", 200),
-            damaged_numbers: tally.kind("damaged bytes of numbers", 200),
+            damaged_numbers: tally.kind("damaged numbers", 200),
             cut_bytes: tally.kind("cut bytes", 200),
             refusals: (1..=17)
                 .map(|number| tally.kind(format!("refused by {number}"), 200))
@@ -151,21 +155,12 @@ struct Matching {
     kinds: Kinds,
 }
 
-/// The refusal number in an answer, or 0.
-fn refusal(answer: u64) -> usize {
-    if answer >> 48 == 3 {
-        (answer >> 32) as usize & 0xFFFF
-    } else {
-        0
-    }
-}
-
-fn show(answer: u64) -> String {
+fn show(answer: Answer) -> String {
     format!(
         "code {} w {} rounds {}",
-        answer >> 48,
-        answer >> 32 & 0xFFFF,
-        answer & 0xFFFF_FFFF
+        answer.code(),
+        answer.width(),
+        answer.rounds()
     )
 }
 
@@ -184,14 +179,13 @@ impl Matching {
     fn note(
         &mut self,
         kinds: &[KindId],
-        wanted: u64,
+        wanted: Answer,
         right: bool,
         describe: impl FnOnce() -> String,
     ) {
-        let refused = match refusal(wanted) {
-            0 => None,
-            number => Some(self.kinds.refusals[number - 1]),
-        };
+        let refused = wanted
+            .refusal()
+            .map(|number| self.kinds.refusals[usize::from(number) - 1]);
         for kind in kinds.iter().copied().chain(refused) {
             self.tally.saw(kind);
             if !right {
@@ -202,11 +196,11 @@ impl Matching {
     }
 
     /// A sheet's refusal, and its numbers by the archive of the crate `sheet` alone.
-    fn call_sheet(&mut self, kinds: &[KindId], sheet: &[u8]) -> u64 {
+    fn call_sheet(&mut self, kinds: &[KindId], sheet: &[u8]) -> Answer {
         let (wanted, found) = (expected::sheet(sheet), archive::sheet(sheet));
         let (mut wanted_numbers, mut numbers) = ([0x77; NUMBERS], [0x77; NUMBERS]);
         let same = expected::numbers(sheet, &mut wanted_numbers)
-            == archive::numbers(sheet, &mut numbers)
+            == sheet_archive::read(sheet, &mut numbers)
             && wanted_numbers == numbers;
         self.note(kinds, wanted, wanted == found && same, || {
             format!(
@@ -219,7 +213,7 @@ impl Matching {
         wanted
     }
 
-    fn call_recovery(&mut self, kinds: &[KindId], sheet: &[u8]) -> u64 {
+    fn call_recovery(&mut self, kinds: &[KindId], sheet: &[u8]) -> Answer {
         let (wanted, found) = (expected::recovery(sheet), archive::recovery(sheet));
         self.note(kinds, wanted, wanted == found, || {
             format!(
@@ -232,13 +226,19 @@ impl Matching {
         wanted
     }
 
-    fn call_decide(&mut self, kinds: &[KindId], sheet: &[u8], question: &[u8]) -> u64 {
+    fn call_decide(&mut self, kinds: &[KindId], sheet: &[u8], question: &[u8]) -> Answer {
         let wanted = expected::decide(sheet, question);
         self.compare_decision(kinds, sheet, question, wanted);
         wanted
     }
 
-    fn compare_decision(&mut self, kinds: &[KindId], sheet: &[u8], question: &[u8], wanted: u64) {
+    fn compare_decision(
+        &mut self,
+        kinds: &[KindId],
+        sheet: &[u8],
+        question: &[u8],
+        wanted: Answer,
+    ) {
         let found = archive::decide(sheet, question);
         self.note(kinds, wanted, wanted == found, || {
             format!(
@@ -251,25 +251,30 @@ impl Matching {
         });
     }
 
-    fn call_read(&mut self, kinds: &[KindId], sheet: &[u8], room: usize) -> u64 {
-        let mut wanted_out = vec![0xEE; room + BEHIND];
-        let mut found_out = wanted_out.clone();
-        let wanted = expected::sheet_read(sheet, &mut wanted_out[..room]);
-        let found = archive::sheet_read(sheet, &mut found_out[..room]);
-        let right = wanted == found && wanted_out == found_out;
+    fn call_read(&mut self, kinds: &[KindId], sheet: &[u8]) -> Answer {
+        let (mut wanted_numbers, mut numbers) = ([0x77; NUMBERS], [0x77; NUMBERS]);
+        let wanted = expected::sheet_read(sheet, &mut wanted_numbers);
+        let found = archive::sheet_read(sheet, &mut numbers);
+        let right = wanted == found && wanted_numbers == numbers;
         self.note(kinds, wanted, right, || {
             format!(
-                "read {} into {room}: wanted {}, found {}, same buffer {}",
+                "read {}: wanted {}, found {}, same numbers {}",
                 hex(sheet),
                 show(wanted),
                 show(found),
-                wanted_out == found_out
+                wanted_numbers == numbers
             )
         });
         wanted
     }
 
-    fn call_write(&mut self, kinds: &[KindId], numbers: &[u8], room: usize, place: u64) -> u64 {
+    fn call_write(
+        &mut self,
+        kinds: &[KindId],
+        numbers: &[i32; NUMBERS],
+        room: usize,
+        place: u64,
+    ) -> Answer {
         let mut wanted_buffer = vec![0; room + BEHIND];
         self.random.fill(&mut wanted_buffer);
         let mut found_buffer = wanted_buffer.clone();
@@ -278,8 +283,7 @@ impl Matching {
         let right = wanted == found && wanted_buffer == found_buffer;
         self.note(kinds, wanted, right, || {
             format!(
-                "write {} to {place} of {room}: wanted {}, found {}, same buffer {}",
-                hex(numbers),
+                "write {numbers:?} to {place} of {room}: wanted {}, found {}, same buffer {}",
                 show(wanted),
                 show(found),
                 wanted_buffer == found_buffer
@@ -295,7 +299,7 @@ impl Matching {
         call: ReachCall,
         start: &[u8],
         room: usize,
-    ) -> u64 {
+    ) -> Answer {
         let mut wanted_out = vec![0x77; room + BEHIND];
         let mut found_out = wanted_out.clone();
         let wanted = expected::reach(sheet, call, start, &mut wanted_out[..room]);
@@ -365,7 +369,7 @@ impl Matching {
         if question.allowance == 0 {
             kinds.push(self.kinds.allowance_zero);
         }
-        self.compare_decision(&kinds, bytes, &question_bytes, decision.pack());
+        self.compare_decision(&kinds, bytes, &question_bytes, Answer(decision.pack()));
         decision
     }
 
@@ -419,31 +423,22 @@ impl Matching {
         let sheet = &case.sheet;
         let n = sheet.n();
         self.call_sheet(&[self.kinds.sheets], bytes);
-        let room = NUMBER_BYTES + self.random.pick(&[0, 0, 1, 40]);
-        self.call_read(&[self.kinds.values_read], bytes, room);
+        self.call_read(&[self.kinds.values_read], bytes);
 
-        let mut numbers = number_bytes(sheet);
+        let mut numbers = sheet.numbers();
         if self.random.percent(30) {
             // Values beyond the counts do not matter.
-            let at = 4 * self.random.below(numbers.len() / 4);
-            let slot = at / 4;
-            let beyond = slot >= 9 + n && slot < 13
-                || slot >= 13 + 35 * sheet.band_count as usize && slot < 293
-                || slot >= 301 + 8 * sheet.unsafe_count as usize;
+            let slot = self.random.below(NUMBERS);
+            let beyond = (SLOT_CAPS + n..SLOT_BAND).contains(&slot)
+                || (slot_band(sheet.band_count as usize)..SLOT_RECOVERY).contains(&slot)
+                || slot >= slot_unsafe(sheet.unsafe_count as usize);
             if beyond {
-                self.random.fill(&mut numbers[at..at + 4]);
+                numbers[slot] = self.random.bits() as i32;
             }
         }
         let place = self.random.pick(&[0, 0, 1, 7, 300]);
         let room = place as usize + bytes.len() + self.random.pick(&[0, 0, 1, 50]);
         self.call_write(&[self.kinds.bytes_written], &numbers, room, place);
-        let cut = self.random.below(numbers.len() + 1);
-        if self.random.percent(50) {
-            self.call_write(&[self.kinds.numbers_cut], &numbers[..cut], room, place);
-        } else {
-            numbers.extend([1; 9]);
-            self.call_write(&[self.kinds.numbers_cut], &numbers, room, place);
-        }
 
         for _ in 0..2 {
             let ticks = if self.random.percent(10) {
@@ -475,7 +470,7 @@ impl Matching {
             call.command = self.random.pick(&[i32::MIN, i32::MAX, 10_001]);
             kinds.push(self.kinds.reach_ignores_command);
         }
-        let room = 16 * n + self.random.pick(&[0, 0, 3]);
+        let room = reach_length(n) + self.random.pick(&[0, 0, 3]);
         self.call_reach(&kinds, bytes, call, &expected::pairs(start, n), room);
     }
 
@@ -604,12 +599,12 @@ impl Matching {
     }
 
     /// Two faults of these numbers, the first of which is found first.
-    fn two_faults(
+    fn two_faults<T: Copy>(
         &mut self,
         first: u8,
         second: u8,
-        mut draw: impl FnMut(&mut Random, u8) -> Fault,
-    ) -> Option<(Fault, Fault)> {
+        mut draw: impl FnMut(&mut Random, u8) -> Fault<T>,
+    ) -> Option<(Fault<T>, Fault<T>)> {
         let one = draw(&mut self.random, first);
         let other = draw(&mut self.random, second);
         (one.rank < other.rank && one.apart(&other)).then_some((one, other))
@@ -654,7 +649,7 @@ impl Matching {
                 one.apply(&mut bytes);
                 other.apply(&mut bytes);
                 let answer = self.any_sheet_call(&[kind], &case, &bytes);
-                assert_eq!(refusal(answer), usize::from(first), "{one:?} {other:?}");
+                assert_eq!(answer.refusal(), Some(first), "{one:?} {other:?}");
             }
         }
 
@@ -692,14 +687,6 @@ impl Matching {
                     self.faulty_reach(&[kind], &case, &bytes, &[second]);
                 }
             }
-            let kind = self.pair("sheet read", first, 17);
-            for _ in 0..PAIRS {
-                let case = cases[self.random.below(cases.len())];
-                let mut bytes = sheet_bytes(&case.sheet);
-                sheet_fault(&mut self.random, &case.sheet, first, true).apply(&mut bytes);
-                let room = self.random.below(NUMBER_BYTES);
-                self.call_read(&[kind], &bytes, room);
-            }
         }
 
         // Two faults in one question.
@@ -713,7 +700,7 @@ impl Matching {
                 question_fault(&mut self.random, &case.sheet, second).apply(&mut question);
                 question_fault(&mut self.random, &case.sheet, first).apply(&mut question);
                 let answer = self.call_decide(&[kind], &bytes, &question);
-                assert_eq!(refusal(answer), usize::from(first));
+                assert_eq!(answer.refusal(), Some(first));
             }
         }
 
@@ -726,17 +713,17 @@ impl Matching {
                     let case = cases[self.random.below(cases.len())];
                     let bytes = sheet_bytes(&case.sheet);
                     let answer = self.faulty_reach(&[kind], &case, &bytes, &[first, second]);
-                    assert_eq!(refusal(answer), usize::from(first));
+                    assert_eq!(answer.refusal(), Some(first));
                 }
             }
         }
 
-        // Too little room for the values read.
+        // Too little room for a reach's boxes.
         for _ in 0..PAIRS {
             let case = cases[self.random.below(cases.len())];
             let bytes = sheet_bytes(&case.sheet);
-            let room = self.random.pick(&[NUMBER_BYTES - 1, 0, 4, 70]);
-            self.call_read(&[], &bytes, room);
+            let answer = self.faulty_reach(&[], &case, &bytes, &[17]);
+            assert_eq!(answer.refusal(), Some(17));
         }
 
         self.writer_faults(&cases);
@@ -765,11 +752,11 @@ impl Matching {
                 let Some((one, other)) = self.two_faults(first, second, draw) else {
                     continue;
                 };
-                let mut bytes = number_bytes(&case.sheet);
-                one.apply(&mut bytes);
-                other.apply(&mut bytes);
-                let answer = self.call_write(&[kind], &bytes, 1_200, 9);
-                assert_eq!(refusal(answer), usize::from(first), "{one:?} {other:?}");
+                let mut numbers = case.sheet.numbers();
+                one.put(&mut numbers);
+                other.put(&mut numbers);
+                let answer = self.call_write(&[kind], &numbers, LONGEST_SHEET + 9, 9);
+                assert_eq!(answer.refusal(), Some(first), "{one:?} {other:?}");
             }
         }
         for first in numbers.into_iter().chain([17]) {
@@ -779,9 +766,9 @@ impl Matching {
                 .collect();
             for _ in 0..PAIRS {
                 let case = cases[self.random.below(cases.len())];
-                let mut bytes = number_bytes(&case.sheet);
+                let mut numbers = case.sheet.numbers();
                 if first != 17 {
-                    number_fault(&mut self.random, &case.sheet, first, true).apply(&mut bytes);
+                    number_fault(&mut self.random, &case.sheet, first, true).put(&mut numbers);
                 }
                 let length = case.sheet.length() as u64;
                 let (room, place) = match self.random.below(6) {
@@ -792,35 +779,41 @@ impl Matching {
                     4 => (length, length + self.random.bits() % 1_000),
                     _ => (0, 0),
                 };
-                let answer = self.call_write(&kinds, &bytes, room as usize, place);
-                assert_eq!(refusal(answer), usize::from(first));
+                let answer = self.call_write(&kinds, &numbers, room as usize, place);
+                assert_eq!(answer.refusal(), Some(first));
             }
         }
     }
 
     /// One of the calls that take a sheet, all else being in range.
-    fn any_sheet_call(&mut self, kinds: &[KindId], case: &Case, bytes: &[u8]) -> u64 {
+    fn any_sheet_call(&mut self, kinds: &[KindId], case: &Case, bytes: &[u8]) -> Answer {
         match self.random.below(5) {
             0 => self.call_sheet(kinds, bytes),
             1 => self.call_recovery(kinds, bytes),
             2 => self.call_decide(kinds, bytes, &plain_question(case)),
-            3 => self.call_read(kinds, bytes, NUMBER_BYTES),
+            3 => self.call_read(kinds, bytes),
             _ => {
                 let n = case.sheet.n();
                 let call = plain_reach(case);
                 let start = expected::pairs(&case.measured, n);
-                self.call_reach(kinds, bytes, call, &start, 16 * n)
+                self.call_reach(kinds, bytes, call, &start, reach_length(n))
             }
         }
     }
 
     /// A reach with the faults of these numbers.
-    fn faulty_reach(&mut self, kinds: &[KindId], case: &Case, bytes: &[u8], faults: &[u8]) -> u64 {
+    fn faulty_reach(
+        &mut self,
+        kinds: &[KindId],
+        case: &Case,
+        bytes: &[u8],
+        faults: &[u8],
+    ) -> Answer {
         let sheet = &case.sheet;
         let n = sheet.n();
         let mut call = plain_reach(case);
         let mut start = expected::pairs(&case.measured, n);
-        let mut room = 16 * n;
+        let mut room = reach_length(n);
         for fault in faults {
             match fault {
                 14 => {
@@ -848,10 +841,19 @@ impl Matching {
                     1 => call.width = 0,
                     _ => call.width = self.random.pick(&[1_001, 65_537, u32::MAX]),
                 },
-                _ => room = self.random.below(16 * n),
+                _ => room = self.random.below(reach_length(n)),
             }
         }
         self.call_reach(kinds, bytes, call, &start, room)
+    }
+
+    /// The archives' arrays have as many numbers as the header says.
+    fn sizes(&mut self) {
+        for numbers in [archive::numbers(), sheet_archive::numbers()] {
+            let right = numbers == NUMBERS as u64;
+            self.tally
+                .check(self.kinds.sizes, right, || format!("{numbers} numbers"));
+        }
     }
 
     /// Values at their bounds, which are still accepted.
@@ -867,8 +869,8 @@ impl Matching {
                 let bytes = sheet_bytes(sheet);
                 let command = pick_command(&mut self.random, sheet);
                 self.call_sheet(&[kind], &bytes);
-                self.call_read(&[], &bytes, NUMBER_BYTES);
-                self.call_write(&[], &number_bytes(sheet), bytes.len(), 0);
+                self.call_read(&[], &bytes);
+                self.call_write(&[], &sheet.numbers(), bytes.len(), 0);
                 self.call_recovery(&[], &bytes);
                 let question = question_bytes(300, command, &case.measured, n);
                 self.call_decide(&[], &bytes, &question);
@@ -877,7 +879,7 @@ impl Matching {
                     ..plain_reach(&case)
                 };
                 let start = expected::pairs(&case.measured, n);
-                self.call_reach(&[], &bytes, call, &start, 16 * n);
+                self.call_reach(&[], &bytes, call, &start, reach_length(n));
             }
         }
         // Questions and reaches at their bounds; boxes that reach the ends of all bands.
@@ -910,10 +912,10 @@ impl Matching {
             let mut call = plain_reach(&case);
             call.ticks = 1_000;
             call.width = self.random.spread(1, 1_000) as u32;
-            self.call_reach(&[ends[2]], &bytes, call, &start, 16 * n);
+            self.call_reach(&[ends[2]], &bytes, call, &start, reach_length(n));
             call.ticks = self.random.below(1_001) as u32;
             call.width = 1_000;
-            self.call_reach(&[ends[3]], &bytes, call, &start, 16 * n);
+            self.call_reach(&[ends[3]], &bytes, call, &start, reach_length(n));
         }
     }
 
@@ -930,9 +932,10 @@ impl Matching {
             let mut question = plain_question(&case);
             damage(&mut self.random, &mut question);
             self.call_decide(&[self.kinds.damaged_questions], &sound, &question);
-            let mut numbers = number_bytes(&case.sheet);
-            damage(&mut self.random, &mut numbers);
-            self.call_write(&[self.kinds.damaged_numbers], &numbers, 1_100, 3);
+            let mut numbers = case.sheet.numbers();
+            damage_number(&mut self.random, &mut numbers);
+            let room = LONGEST_SHEET + 3;
+            self.call_write(&[self.kinds.damaged_numbers], &numbers, room, 3);
         }
     }
 }
@@ -955,7 +958,8 @@ type Part = (&'static str, fn(&mut Matching));
 
 fn main() {
     let mut matching = Matching::new();
-    let parts: [Part; 7] = [
+    let parts: [Part; 8] = [
+        ("numbers", Matching::sizes),
         ("values at their bounds", Matching::bounds),
         ("pairs of faults", Matching::faults),
         ("damaged bytes", Matching::damaged),

@@ -1,7 +1,8 @@
 //! The archive against the plain guard, which was written from document 01 alone: a check of the
 //! readings, on sheets and questions from fixed seeds.
 
-use matching::archive::{self, ReachCall};
+use matching::archive::format::reach_length;
+use matching::archive::{self, Answer, ReachCall};
 use matching::expected::pairs;
 use matching::generate::{
     model, near, pick_command, question_bytes, shape, sheet_bytes, times, Case,
@@ -9,7 +10,7 @@ use matching::generate::{
 use matching::random::Random;
 use matching::spoil::{damage, question_fault, sheet_fault};
 use matching::tally::{hex, KindId, Tally};
-use second_guard::machine::StateBox;
+use second_guard::boxes::StateBox;
 
 const SHEETS: usize = 20_000;
 const TICKS: i64 = 200;
@@ -50,12 +51,12 @@ impl Kinds {
     }
 
     /// The kind of a decision.
-    fn of(&self, packed: u64) -> KindId {
-        match packed >> 48 {
+    fn of(&self, answer: Answer) -> KindId {
+        match answer.code() {
             0 => self.keep,
             1 => self.finest,
             2 => self.spent,
-            _ => self.refused[(packed >> 32 & 0xFF) as usize - 1],
+            _ => self.refused[answer.width() as usize - 1],
         }
     }
 }
@@ -64,12 +65,12 @@ impl Kinds {
 fn decide(tally: &mut Tally, kinds: &Kinds, sheet: &[u8], question: &[u8]) {
     let (guard, plain) = (
         archive::decide(sheet, question),
-        plain_guard::decide(sheet, question),
+        Answer(plain_guard::decide(sheet, question)),
     );
     tally.saw(kinds.of(plain));
     tally.check(kinds.decide, guard == plain, || {
         format!(
-            "{guard:#x} not {plain:#x}: {} {}",
+            "{guard:x?} not {plain:x?}: {} {}",
             hex(sheet),
             hex(question)
         )
@@ -77,7 +78,7 @@ fn decide(tally: &mut Tally, kinds: &Kinds, sheet: &[u8], question: &[u8]) {
 }
 
 /// A reach's packed rounds or refusal, and its two boxes as bytes.
-fn plain_reach(sheet: &[u8], call: ReachCall, start: &StateBox) -> (u64, Vec<u8>) {
+fn plain_reach(sheet: &[u8], call: ReachCall, start: &StateBox) -> (Answer, Vec<u8>) {
     let run = || {
         let sheet = plain_guard::read(sheet)?;
         let command = (call.law != 0).then_some(call.command);
@@ -92,9 +93,9 @@ fn plain_reach(sheet: &[u8], call: ReachCall, start: &StateBox) -> (u64, Vec<u8>
                 [(*lower as i32).to_be_bytes(), (*upper as i32).to_be_bytes()].concat()
             };
             let boxes = end.iter().chain(&swept).flat_map(side).collect();
-            (rounds, boxes)
+            (Answer(rounds), boxes)
         }
-        Err(number) => (REFUSED | u64::from(number) << 32, Vec::new()),
+        Err(number) => (Answer(REFUSED | u64::from(number) << 32), Vec::new()),
     }
 }
 
@@ -107,12 +108,12 @@ fn reach(tally: &mut Tally, kinds: &Kinds, random: &mut Random, case: &Case, she
         command: pick_command(random, &case.sheet),
     };
     let start = near(random, case);
-    let mut out = vec![0; 16 * n];
+    let mut out = vec![0; reach_length(n)];
     let guard = archive::reach(sheet, call, &pairs(&start, n), &mut out);
     let (plain, mut boxes) = plain_reach(sheet, call, &start);
-    boxes.resize(16 * n, 0);
+    boxes.resize(reach_length(n), 0);
     tally.check(kinds.reach, guard == plain && out == boxes, || {
-        format!("{guard:#x} not {plain:#x}: {call:?} {}", hex(sheet))
+        format!("{guard:x?} not {plain:x?}: {call:?} {}", hex(sheet))
     });
 }
 
@@ -147,9 +148,12 @@ fn main() {
         let sheet = sheet_bytes(&case.sheet);
         let n = case.sheet.n();
 
-        let (guard, plain) = (archive::recovery(&sheet), plain_guard::recovery(&sheet));
+        let (guard, plain) = (
+            archive::recovery(&sheet),
+            Answer(plain_guard::recovery(&sheet)),
+        );
         tally.check(kinds.recovery, guard == plain, || {
-            format!("{guard:#x} not {plain:#x}: {}", hex(&sheet))
+            format!("{guard:x?} not {plain:x?}: {}", hex(&sheet))
         });
 
         let mut question = question_bytes(730_000, case.command, &case.measured, n);
@@ -175,7 +179,7 @@ fn main() {
 
         let mut damaged = sheet.clone();
         damage(&mut random, &mut damaged);
-        let same = archive::recovery(&damaged) == plain_guard::recovery(&damaged);
+        let same = archive::recovery(&damaged) == Answer(plain_guard::recovery(&damaged));
         tally.check(kinds.damaged, same, || hex(&damaged));
         if let Ok(value) = plain_guard::read(&damaged) {
             let same = plain_guard::write(&value).as_deref() == Ok(&damaged[..]);

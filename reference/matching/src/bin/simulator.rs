@@ -2,16 +2,17 @@
 //! changes and the worst ones; fails on a forbidden state or a missed return. With `--fault` a
 //! faulty guard stands in the archive's place and has to be found out; `--self-test` tries all.
 
-use matching::archive;
+use matching::archive::{self, Answer};
 use matching::generate::{everywhere, question_bytes, sheet_bytes};
 use matching::random::Random;
 use matching::tally::{hex, KindId, Tally};
+use second_guard::boxes::{State, StateBox, VARIABLES};
 use second_guard::decision::{
     check_recovery, decide_watched, read_question, trace_recovery, Faults, RecoveryCheck,
 };
-use second_guard::machine::{allowed_change, band_of, State, StateBox};
+use second_guard::machine::{allowed_change, band_of};
 use second_guard::reach::NoWatch;
-use second_guard::sheet::{self, Band, CommandRange, Row, Sheet, VARIABLES};
+use second_guard::sheet::{self, Band, CommandRange, Row, Sheet};
 use std::time::{Duration, Instant};
 
 /// A run without fault takes so many ticks in all.
@@ -32,24 +33,24 @@ enum Guard {
 impl Guard {
     /// The code of the answer, and its width.
     fn answer(self, sheet: &Sheet, bytes: &[u8], question: &[u8]) -> (u64, u32) {
-        let packed = match self {
+        let answer = match self {
             Guard::Archive => archive::decide(bytes, question),
-            Guard::Faulty(faults) => match read_question(sheet, question) {
+            Guard::Faulty(faults) => Answer(match read_question(sheet, question) {
                 Ok(question) => decide_watched(sheet, &question, faults, &mut NoWatch).pack(),
                 Err(_) => 3 << 48,
-            },
-            Guard::AlwaysKeeps => match read_question(sheet, question) {
+            }),
+            Guard::AlwaysKeeps => Answer(match read_question(sheet, question) {
                 Ok(_) => 1 << 32,
                 Err(_) => 3 << 48,
-            },
+            }),
         };
-        (packed >> 48, (packed >> 32) as u32 & 0xFFFF)
+        (answer.code(), answer.width())
     }
 
     /// The sheet passes its recovery check.
     fn passes(self, bytes: &[u8]) -> bool {
         match self {
-            Guard::Archive => archive::recovery(bytes) >> 48 == 0,
+            Guard::Archive => archive::recovery(bytes).code() == 0,
             _ => matches!(check_recovery(bytes), RecoveryCheck::Pass { .. }),
         }
     }

@@ -1,8 +1,8 @@
 //! Reads a sheet's text.
 
-use super::{Item, Named, Names, SheetText, SourceLine};
+use crate::names::{Item, Named, Names};
+use crate::sheet_text::{SheetText, SourceLine};
 use crate::tokens::{Cursor, Fault, Token};
-use second_guard::machine::StateBox;
 use second_guard::sheet::{CommandRange, Row, Sheet, FIRST_EDGE, SIDE_LIMIT};
 
 /// Words with a meaning in a place where a name may stand.
@@ -329,38 +329,5 @@ fn term(cursor: &mut Cursor) -> Result<(i32, Option<String>), Fault> {
         Some(size) => Ok((size, Some(cursor.name()?))),
         None if named => Ok((1, Some(cursor.name()?))),
         None => cursor.fault("a term is missing"),
-    }
-}
-
-impl Names {
-    /// The index of a variable by its name.
-    pub fn index(&self, name: &str) -> Option<usize> {
-        self.variables.iter().position(|v| v.name == name)
-    }
-
-    /// A range for each variable, each behind its name, in any order.
-    pub fn sides(
-        &self,
-        cursor: &mut Cursor,
-        range: impl Fn(&mut Cursor) -> Result<(i32, i32), Fault>,
-    ) -> Result<StateBox, Fault> {
-        let mut found = vec![None; self.variables.len()];
-        while let Some(Token::Word(name)) = cursor.peek() {
-            let Some(i) = self.index(name) else { break };
-            cursor.take();
-            let sides = range(cursor)?;
-            if found[i].replace(sides).is_some() {
-                return cursor.fault(format!("'{}' stands here twice", self.variable(i)));
-            }
-        }
-        let mut sides = StateBox::default();
-        for (i, range) in found.into_iter().enumerate() {
-            let Some((lower, upper)) = range else {
-                return cursor.fault(format!("a range for '{}' is missing", self.variable(i)));
-            };
-            sides.lower[i] = i64::from(lower);
-            sides.upper[i] = i64::from(upper);
-        }
-        Ok(sides)
     }
 }

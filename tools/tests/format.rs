@@ -1,0 +1,98 @@
+//! The numbers of include/guard_format.h against the archive, and those of the second guard against them.
+
+use guard_bindings::format::{
+    slot_band, slot_row, slot_unsafe, BANDS, LONGEST_QUESTION, LONGEST_SHEET, NUMBERS, PAIR,
+    QUESTION_HEAD, SLOT_CAPS, SLOT_RECOVERY, UNSAFE_BOXES, VARIABLES,
+};
+use second_guard::sheet::{self, Sheet, FIRST_EDGE};
+use second_guard::{boxes, decision};
+use sheet_tool::archive;
+
+/// A sheet with every count at its greatest; each number that a test looks for stands there once.
+fn largest() -> Sheet {
+    let mut sheet = Sheet {
+        variables: VARIABLES as i32,
+        band_count: BANDS as i32,
+        unsafe_count: UNSAFE_BOXES as i32,
+        delta: 1,
+        alpha: 1,
+        rho: 1,
+        caps: std::array::from_fn(|i| 500 + i as i32),
+        ..Sheet::default()
+    };
+    for (k, band) in sheet.bands.iter_mut().enumerate() {
+        band.edge = FIRST_EDGE + k as i32;
+        for (i, row) in band.rows.iter_mut().enumerate() {
+            row.q = 1_000 + (10 * k + i) as i32;
+        }
+    }
+    sheet.recovery.upper[0] = 10_000;
+    for (j, unsafe_box) in sheet.unsafe_boxes.iter_mut().enumerate() {
+        unsafe_box.upper[0] = 20_000 + j as i64;
+    }
+    sheet
+}
+
+#[test]
+fn the_archive_has_the_numbers_of_the_header() {
+    assert_eq!(guard_bindings::numbers(), NUMBERS as u64);
+    let bytes = archive::write(&largest()).expect("the greatest counts are in range");
+    assert_eq!(bytes.len(), LONGEST_SHEET);
+    let mut numbers = [0; NUMBERS];
+    assert_eq!(
+        guard_bindings::sheet_read(&bytes, &mut numbers).length(),
+        Ok(LONGEST_SHEET)
+    );
+    let slot = |number| numbers.iter().position(|&n| n == number);
+    for i in 0..VARIABLES {
+        assert_eq!(slot(500 + i as i32), Some(SLOT_CAPS + i));
+    }
+    for k in 0..BANDS {
+        assert_eq!(slot(FIRST_EDGE + k as i32), Some(slot_band(k)));
+        for i in 0..VARIABLES {
+            let q = slot_row(k, i) + VARIABLES + 3;
+            assert_eq!(slot(1_000 + (10 * k + i) as i32), Some(q));
+        }
+    }
+    assert_eq!(slot(10_000), Some(SLOT_RECOVERY + VARIABLES));
+    for j in 0..UNSAFE_BOXES {
+        assert_eq!(slot(20_000 + j as i32), Some(slot_unsafe(j) + VARIABLES));
+    }
+}
+
+#[test]
+fn a_greater_count_is_refused() {
+    let one_more: [fn(&mut Sheet); 3] = [
+        |sheet| sheet.variables += 1,
+        |sheet| sheet.band_count += 1,
+        |sheet| sheet.unsafe_count += 1,
+    ];
+    for one_more in one_more {
+        let mut sheet = largest();
+        one_more(&mut sheet);
+        assert_eq!(archive::write(&sheet), Err(2));
+    }
+}
+
+#[test]
+fn the_longest_question_is_one() {
+    let bytes = archive::write(&largest()).expect("the greatest counts are in range");
+    let mut question = [0; LONGEST_QUESTION];
+    question[..2].copy_from_slice(b"QS");
+    assert_eq!(archive::decide(&bytes, &question).refusal(), None);
+    let shorter = &question[..LONGEST_QUESTION - 1];
+    assert_eq!(archive::decide(&bytes, shorter).refusal(), Some(12));
+}
+
+#[test]
+fn the_second_guard_has_the_same() {
+    assert_eq!(
+        (boxes::VARIABLES, sheet::BANDS, sheet::UNSAFE_BOXES),
+        (VARIABLES, BANDS, UNSAFE_BOXES)
+    );
+    assert_eq!(sheet::NUMBERS, NUMBERS);
+    assert_eq!(sheet::length(VARIABLES, BANDS, UNSAFE_BOXES), LONGEST_SHEET);
+    for n in 1..=VARIABLES {
+        assert_eq!(decision::question_length(n), QUESTION_HEAD + PAIR * n);
+    }
+}
