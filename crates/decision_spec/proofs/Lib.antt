@@ -1,8 +1,10 @@
 pub mod Calls
+pub mod ReadWriteCalls
 pub mod Everything
 pub mod Starred
 pub mod Cover
 pub mod Attempt
 pub mod Allowance
 pub mod Spent
+pub mod Rounds
 mod Reference

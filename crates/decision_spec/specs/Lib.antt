@@ -1,9 +1,11 @@
 pub mod Call
 pub mod Calls
+pub mod ReadWriteCalls
 pub mod Numbers
 pub mod ReachCall
 pub mod Question
 pub mod Decision
 pub mod Spent
+pub mod Rounds
 pub mod Listing
 pub mod Starred

@@ -1,7 +1,7 @@
--- A sheet's refusal is at most 17. Assumes nothing.
+-- The refusals of reading and of writing are at most 17. Assumes nothing.
 use mathlib.Core.Bool.{Bool, true, false, _&&_}
 use mathlib.Core.List.{List}
-use Prim.Native.Nat.{ℕ, zero, suc, _≤_}
+use Prim.Native.Nat.{ℕ, zero, suc, _+_, _≤_}
 use native.Mathlib.Omega.{arith}
 use lib.Dec.{eqb, leb}
 use lib.IntN.{ℤ}
@@ -12,8 +12,8 @@ use Rattle.sheet_spec.specs.Refusals.{Cause, number, refuseUnless, first
 use Rattle.sheet_spec.specs.Fields.{Field, test, bad}
 use Rattle.sheet_spec.specs.Sizes.{capsAt}
 use Rattle.sheet_spec.specs.Layout.{head, headFields}
-use Rattle.sheet_spec.specs.File.{Shape, records, fieldsAt, countAt, start, marked, markedAt, badRecord, badAll}
-use Rattle.sheet_spec.specs.Sheet.{headOf, shapeOf, contents, stage, refusal}
+use Rattle.sheet_spec.specs.File.{Shape, shape, records, fieldsAt, countAt, start, marked, markedAt, badRecord, badAll}
+use Rattle.sheet_spec.specs.Sheet.{headOf, shapeOf, contents, stage, refusal, valueRefusal, length-of, writeRefusal}
 use Rattle.sheet_spec.proofs.Laws.{number-range}
 
 first-most : (h : ℕ → ℕ) {most : ℕ} → ((j : ℕ) → h j ≤ most) → (k : ℕ) → firstRefusal h k ≤ most
@@ -55,3 +55,11 @@ stage-most f (suc (suc (suc i))) = let s = shapeOf f in all-most (markedAt s f) 
 pub refusal-most : (f : List ℕ) → refusal f ≤ 17
 unfolding refusal
 refusal-most f = first-most (stage f) (stage-most f) 4
+
+pub write-most : (v : List ℤ) (buffer : List ℕ) (place : ℕ) → writeRefusal v buffer place ≤ 17
+unfolding writeRefusal valueRefusal
+write-most v buffer place = go (valueRefusal v) (all-most (λ r. true) (shape v) v (records (shape v)))
+  where
+    go : (c : ℕ) → c ≤ 17 → elim c [ zero ↦ refuseUnless (leb (place + length-of v) (length buffer)) Cause.room | suc c ↦ suc c ] ≤ 17
+    go zero l = unless-most (leb (place + length-of v) (length buffer)) Cause.room
+    go (suc c) l = l

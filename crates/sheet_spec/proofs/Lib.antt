@@ -13,6 +13,7 @@ pub mod Numbers
 pub mod Says
 pub mod Same
 pub mod RoundTrip
+pub mod ReadWrite
 pub mod Everything
 mod Examples
 pub mod FieldRuns

@@ -93,7 +93,7 @@ unfolding bytesOf length-of
 length-bytesOf v = length-codedAll (shape v) v (records (shape v))
 
 module _ (v : List ℤ) (buffer : List ℕ) (place : ℕ) (e : writeRefusal v buffer place ≡ 0) where
-  passed : (valueRefusal v ≡ 0) × (place + length-of v ≤ length buffer)
+  pub passed : (valueRefusal v ≡ 0) × (place + length-of v ≤ length buffer)
   unfolding writeRefusal
   passed = go (valueRefusal v) e
     where

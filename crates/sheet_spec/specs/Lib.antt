@@ -8,3 +8,4 @@ pub mod File
 pub mod Sheet
 pub mod SheetA
 pub mod Written
+pub mod ReadWrite
