@@ -77,11 +77,11 @@ pub fn read_zeroed(f: &[u8], v: &mut [i32; SLOTS]) -> u8
     requires { ⌜ now v ≡ zeros ⌝ }
     ensures { λ r. ⌜ (r ≡ refusal (now (f .entry))) × (now (v .exit) ≡ values (now (f .entry))) ⌝ }
 {
-    let x = read_cleared(f, v);
-    if x != 0 {
+    let refused = read_cleared(f, v);
+    if refused != 0 {
         clear(v);
     }
-    x
+    refused
 }
 
 // Reads a sheet.
