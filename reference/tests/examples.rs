@@ -1,19 +1,16 @@
-//! `examples.txt` is what the program `print_examples` prints today;
-//! the program itself stops where an example does not cover what it says.
+//! `examples.txt` and `limits.txt` are what the programs `print_examples` and `print_limits` print today;
+//! the programs themselves stop where an example does not show what it says.
 
 use std::process::Command;
 
-#[test]
-fn examples_are_up_to_date() {
-    let output = Command::new(env!("CARGO_BIN_EXE_print_examples"))
-        .output()
-        .expect("the program runs");
+/// Compares a program's output with the file that is kept, and says how many examples it has.
+fn compare(program: &str, kept: &str) -> usize {
+    let output = Command::new(program).output().expect("the program runs");
     assert!(
         output.status.success(),
-        "an example does not cover what it says"
+        "an example does not show what it says"
     );
     let printed = String::from_utf8(output.stdout).expect("the output is text");
-    let kept = include_str!("../examples.txt");
     for (line, (printed, kept)) in printed.lines().zip(kept.lines()).enumerate() {
         assert_eq!(printed, kept, "line {}", line + 1);
     }
@@ -21,5 +18,17 @@ fn examples_are_up_to_date() {
     let examples = kept
         .lines()
         .filter(|line| !line.is_empty() && !line.starts_with('#'));
-    assert!(examples.count() >= 14);
+    examples.count()
+}
+
+#[test]
+fn examples_are_up_to_date() {
+    let program = env!("CARGO_BIN_EXE_print_examples");
+    assert!(compare(program, include_str!("../examples.txt")) >= 14);
+}
+
+#[test]
+fn limits_are_up_to_date() {
+    let program = env!("CARGO_BIN_EXE_print_limits");
+    assert!(compare(program, include_str!("../limits.txt")) >= 150);
 }

@@ -1,4 +1,4 @@
-//! The worked examples in the crates' proofs are those of `examples.txt`.
+//! The worked examples in the crates' proofs are those of `examples.txt` and `limits.txt`.
 
 use std::process::Command;
 
@@ -16,13 +16,19 @@ fn words(text: &str) -> Vec<&str> {
 }
 
 #[test]
+fn the_sheet_examples_are_those_of_the_list() {
+    let kept = include_str!("../../crates/sheet_spec/proofs/Reference.antt");
+    assert_eq!(words(&printed("sheet")), words(kept));
+}
+
+#[test]
 fn the_reach_examples_are_those_of_the_list() {
     let kept = include_str!("../../crates/boxes_spec/proofs/Reference.antt");
-    assert_eq!(words(&printed("lifting")), words(kept));
+    assert_eq!(words(&printed("boxes")), words(kept));
 }
 
 #[test]
 fn the_decision_examples_are_those_of_the_list() {
     let kept = include_str!("../../crates/decision_spec/proofs/Reference.antt");
-    assert_eq!(words(&printed("safety")), words(kept));
+    assert_eq!(words(&printed("decision")), words(kept));
 }

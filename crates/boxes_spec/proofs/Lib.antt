@@ -1,4 +1,5 @@
 pub mod Everything
+pub mod Boxes
 mod Examples
 pub mod Stages
 pub mod Settled

@@ -1,6 +1,7 @@
 pub mod Calls
 pub mod ReadWriteCalls
 pub mod Everything
+pub mod Accepted
 pub mod Starred
 pub mod Cover
 pub mod Attempt

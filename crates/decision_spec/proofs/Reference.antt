@@ -1,10 +1,22 @@
--- Worked examples of reference/examples.txt: what the definitions give, beside what the second guard gives.
+-- Worked examples of reference/examples.txt and limits.txt: what the definitions give, beside what the second guard gives.
 -- This file is written by `print_proofs` of reference/, and a test there compares it. Assumes nothing.
 use mathlib.Core.Path.{_≡_, refl}
-use mathlib.Core.List.{List, [], _∷_}
+use mathlib.Core.List.{List, [], _∷_, _++_}
 use Prim.Native.Nat.{ℕ}
+use lib.ListN.{take}
+use lib.Seq.{sets}
+use Rattle.sheet_spec.specs.SheetA.{fileA}
 use Rattle.decision_spec.specs.Decision.{keep, finest, spent, refused, answered, decide, checkRecovery}
+use Rattle.decision_spec.specs.Listing.{listing}
 use Rattle.decision_spec.proofs.Everything.{everything}
+
+-- sheet A is the second guard's
+same-A : fileA ≡ 83 ∷ 72 ∷ 1 ∷ 1 ∷ 1 ∷ 0 ∷ 0 ∷ 4 ∷ 0 ∷ 4 ∷ 0 ∷ 4 ∷ 255 ∷ 255 ∷ 255 ∷ 231 ∷ 0 ∷ 0 ∷ 0 ∷ 25 ∷ 0 ∷ 5 ∷ 66 ∷ 68 ∷ 255 ∷ 225 ∷ 123 ∷ 128 ∷ 0 ∷ 0 ∷ 0 ∷ 0 ∷ 0 ∷ 0 ∷ 0 ∷ 0 ∷ 255 ∷ 255 ∷ 0 ∷ 4 ∷ 0 ∷ 0 ∷ 0 ∷ 0 ∷ 0 ∷ 0 ∷ 0 ∷ 0 ∷ 0 ∷ 20 ∷ 78 ∷ 71 ∷ 0 ∷ 0 ∷ 0 ∷ 130 ∷ 0 ∷ 30 ∷ 132 ∷ 128 ∷ 82 ∷ 67 ∷ 255 ∷ 255 ∷ 255 ∷ 156 ∷ 0 ∷ 0 ∷ 0 ∷ 100 ∷ []
+unfolding fileA
+same-A = refl
+
+unfoldable questionA : List ℕ
+questionA = 81 ∷ 83 ∷ 0 ∷ 0 ∷ 0 ∷ 100 ∷ 0 ∷ 0 ∷ 0 ∷ 25 ∷ 0 ∷ 0 ∷ 0 ∷ 0 ∷ 0 ∷ 0 ∷ 0 ∷ 0 ∷ []
 
 unfoldable sheet0 : List ℕ
 sheet0 = 83 ∷ 72 ∷ 2 ∷ 3 ∷ 1 ∷ 0 ∷ 0 ∷ 4 ∷ 0 ∷ 8 ∷ 0 ∷ 8 ∷ 255 ∷ 255 ∷ 255 ∷ 236 ∷ 0 ∷ 0 ∷ 0 ∷ 20 ∷ 0 ∷ 8 ∷ 0 ∷ 6 ∷ 66 ∷ 68 ∷ 255 ∷ 225 ∷ 123 ∷ 128 ∷ 0 ∷ 0 ∷ 0 ∷ 0 ∷ 0 ∷ 0 ∷ 0 ∷ 5 ∷ 0 ∷ 0 ∷ 0 ∷ 1 ∷ 0 ∷ 0 ∷ 0 ∷ 0 ∷ 0 ∷ 0 ∷ 0 ∷ 0 ∷ 0 ∷ 1 ∷ 0 ∷ 4 ∷ 255 ∷ 255 ∷ 255 ∷ 250 ∷ 0 ∷ 4 ∷ 0 ∷ 0 ∷ 0 ∷ 0 ∷ 0 ∷ 0 ∷ 0 ∷ 3 ∷ 0 ∷ 16 ∷ 66 ∷ 68 ∷ 0 ∷ 0 ∷ 0 ∷ 0 ∷ 255 ∷ 255 ∷ 255 ∷ 254 ∷ 0 ∷ 0 ∷ 0 ∷ 2 ∷ 0 ∷ 0 ∷ 0 ∷ 1 ∷ 0 ∷ 0 ∷ 0 ∷ 0 ∷ 0 ∷ 0 ∷ 0 ∷ 0 ∷ 0 ∷ 1 ∷ 0 ∷ 4 ∷ 255 ∷ 254 ∷ 255 ∷ 250 ∷ 0 ∷ 4 ∷ 0 ∷ 0 ∷ 0 ∷ 0 ∷ 0 ∷ 0 ∷ 0 ∷ 3 ∷ 0 ∷ 16 ∷ 66 ∷ 68 ∷ 0 ∷ 0 ∷ 0 ∷ 40 ∷ 255 ∷ 255 ∷ 255 ∷ 246 ∷ 255 ∷ 255 ∷ 255 ∷ 251 ∷ 0 ∷ 0 ∷ 0 ∷ 1 ∷ 0 ∷ 0 ∷ 0 ∷ 0 ∷ 0 ∷ 0 ∷ 0 ∷ 0 ∷ 0 ∷ 2 ∷ 0 ∷ 4 ∷ 255 ∷ 254 ∷ 255 ∷ 248 ∷ 0 ∷ 4 ∷ 0 ∷ 0 ∷ 0 ∷ 10 ∷ 0 ∷ 0 ∷ 0 ∷ 5 ∷ 0 ∷ 16 ∷ 78 ∷ 71 ∷ 0 ∷ 0 ∷ 3 ∷ 232 ∷ 0 ∷ 30 ∷ 132 ∷ 128 ∷ 255 ∷ 225 ∷ 123 ∷ 128 ∷ 0 ∷ 30 ∷ 132 ∷ 128 ∷ 82 ∷ 67 ∷ 255 ∷ 255 ∷ 255 ∷ 156 ∷ 0 ∷ 0 ∷ 0 ∷ 100 ∷ 255 ∷ 255 ∷ 255 ∷ 186 ∷ 0 ∷ 0 ∷ 0 ∷ 75 ∷ []
@@ -91,3 +103,152 @@ check-fails = refl
 refused-measured-side : decide sheet0 (81 ∷ 83 ∷ 0 ∷ 0 ∷ 0 ∷ 1 ∷ 0 ∷ 0 ∷ 0 ∷ 0 ∷ 0 ∷ 0 ∷ 0 ∷ 0 ∷ 0 ∷ 0 ∷ 0 ∷ 0 ∷ 0 ∷ 0 ∷ 0 ∷ 1 ∷ 0 ∷ 0 ∷ 0 ∷ 0 ∷ []) ≡ refused 15
 unfolding sheet0 everything
 refused-measured-side = refl
+
+allowance-0 : decide fileA (sets questionA 2 (0 ∷ 0 ∷ 0 ∷ 0 ∷ [])) ≡ answered spent 4 0
+unfolding questionA everything
+allowance-0 = refl
+
+allowance-1000000 : decide fileA (sets questionA 2 (0 ∷ 15 ∷ 66 ∷ 64 ∷ [])) ≡ answered keep 4 4
+unfolding questionA everything
+allowance-1000000 = refl
+
+allowance-1000001 : decide fileA (sets questionA 2 (0 ∷ 15 ∷ 66 ∷ 65 ∷ [])) ≡ refused 13
+unfolding questionA everything
+allowance-1000001 = refl
+
+asked-command-minus-25 : decide fileA (sets questionA 6 (255 ∷ 255 ∷ 255 ∷ 231 ∷ [])) ≡ answered keep 4 4
+unfolding questionA everything
+asked-command-minus-25 = refl
+
+asked-command-minus-26 : decide fileA (sets questionA 6 (255 ∷ 255 ∷ 255 ∷ 230 ∷ [])) ≡ refused 14
+unfolding questionA everything
+asked-command-minus-26 = refl
+
+asked-command-25 : decide fileA (sets questionA 6 (0 ∷ 0 ∷ 0 ∷ 25 ∷ [])) ≡ answered keep 4 4
+unfolding questionA everything
+asked-command-25 = refl
+
+asked-command-26 : decide fileA (sets questionA 6 (0 ∷ 0 ∷ 0 ∷ 26 ∷ [])) ≡ refused 14
+unfolding questionA everything
+asked-command-26 = refl
+
+measured-lower-minus-1000000 : decide fileA (sets questionA 10 (255 ∷ 240 ∷ 189 ∷ 192 ∷ 0 ∷ 0 ∷ 0 ∷ 0 ∷ [])) ≡ answered finest 1 18
+unfolding questionA everything
+measured-lower-minus-1000000 = refl
+
+measured-lower-minus-1000001 : decide fileA (sets questionA 10 (255 ∷ 240 ∷ 189 ∷ 191 ∷ 0 ∷ 0 ∷ 0 ∷ 0 ∷ [])) ≡ refused 15
+unfolding questionA everything
+measured-lower-minus-1000001 = refl
+
+measured-upper-1000000 : decide fileA (sets questionA 10 (0 ∷ 0 ∷ 0 ∷ 0 ∷ 0 ∷ 15 ∷ 66 ∷ 64 ∷ [])) ≡ answered finest 1 3
+unfolding questionA everything
+measured-upper-1000000 = refl
+
+measured-upper-1000001 : decide fileA (sets questionA 10 (0 ∷ 0 ∷ 0 ∷ 0 ∷ 0 ∷ 15 ∷ 66 ∷ 65 ∷ [])) ≡ refused 15
+unfolding questionA everything
+measured-upper-1000001 = refl
+
+measured-one-state : decide fileA (sets questionA 10 (0 ∷ 0 ∷ 0 ∷ 5 ∷ 0 ∷ 0 ∷ 0 ∷ 5 ∷ [])) ≡ answered keep 4 4
+unfolding questionA everything
+measured-one-state = refl
+
+measured-reversed : decide fileA (sets questionA 10 (0 ∷ 0 ∷ 0 ∷ 5 ∷ 0 ∷ 0 ∷ 0 ∷ 4 ∷ [])) ≡ refused 15
+unfolding questionA everything
+measured-reversed = refl
+
+question-a-byte-short : decide fileA (take 17 questionA) ≡ refused 12
+unfolding questionA everything
+question-a-byte-short = refl
+
+question-a-byte-long : decide fileA (questionA ++ (0 ∷ [])) ≡ refused 12
+unfolding questionA everything
+question-a-byte-long = refl
+
+no-question : decide fileA (take 0 questionA) ≡ refused 12
+unfolding questionA everything
+no-question = refl
+
+question-mark : decide fileA (sets questionA 1 (84 ∷ [])) ≡ refused 12
+unfolding questionA everything
+question-mark = refl
+
+mark-before-allowance : decide fileA (sets (sets questionA 2 (0 ∷ 15 ∷ 66 ∷ 65 ∷ [])) 1 (84 ∷ [])) ≡ refused 12
+unfolding questionA everything
+mark-before-allowance = refl
+
+length-before-allowance : decide fileA (take 17 (sets questionA 2 (0 ∷ 15 ∷ 66 ∷ 65 ∷ []))) ≡ refused 12
+unfolding questionA everything
+length-before-allowance = refl
+
+allowance-before-command : decide fileA (sets (sets questionA 2 (0 ∷ 15 ∷ 66 ∷ 65 ∷ [])) 6 (0 ∷ 0 ∷ 0 ∷ 26 ∷ [])) ≡ refused 13
+unfolding questionA everything
+allowance-before-command = refl
+
+command-before-measured : decide fileA (sets (sets questionA 6 (0 ∷ 0 ∷ 0 ∷ 26 ∷ [])) 10 (0 ∷ 0 ∷ 0 ∷ 5 ∷ 0 ∷ 0 ∷ 0 ∷ 4 ∷ [])) ≡ refused 14
+unfolding questionA everything
+command-before-measured = refl
+
+sheet-before-question : decide (take 69 fileA) (take 17 questionA) ≡ refused 5
+unfolding questionA everything
+sheet-before-question = refl
+
+recovery-box-just-reached : decide (sets fileA 62 (0 ∷ 0 ∷ 0 ∷ 12 ∷ 0 ∷ 0 ∷ 0 ∷ 20 ∷ [])) questionA ≡ answered keep 4 4
+unfolding questionA everything
+recovery-box-just-reached = refl
+
+recovery-box-reached-at-width-1 : decide (sets fileA 62 (0 ∷ 0 ∷ 0 ∷ 13 ∷ 0 ∷ 0 ∷ 0 ∷ 20 ∷ [])) questionA ≡ answered keep 1 20
+unfolding questionA everything
+recovery-box-reached-at-width-1 = refl
+
+recovery-box-missed : decide (sets fileA 62 (0 ∷ 0 ∷ 0 ∷ 12 ∷ 0 ∷ 0 ∷ 0 ∷ 19 ∷ [])) questionA ≡ answered finest 1 20
+unfolding questionA everything
+recovery-box-missed = refl
+
+unsafe-box-just-missed : decide (sets fileA 52 (0 ∷ 0 ∷ 0 ∷ 21 ∷ [])) questionA ≡ answered keep 4 4
+unfolding questionA everything
+unsafe-box-just-missed = refl
+
+unsafe-box-just-met : decide (sets fileA 52 (0 ∷ 0 ∷ 0 ∷ 20 ∷ [])) questionA ≡ answered finest 1 10
+unfolding questionA everything
+unsafe-box-just-met = refl
+
+-- sheet pass 4 1
+-- 1 keep 4 4
+listing-of-a-question : listing fileA questionA ≡ 115 ∷ 104 ∷ 101 ∷ 101 ∷ 116 ∷ 32 ∷ 112 ∷ 97 ∷ 115 ∷ 115 ∷ 32 ∷ 52 ∷ 32 ∷ 49 ∷ 10 ∷ 49 ∷ 32 ∷ 107 ∷ 101 ∷ 101 ∷ 112 ∷ 32 ∷ 52 ∷ 32 ∷ 52 ∷ 10 ∷ []
+unfolding questionA everything
+listing-of-a-question = refl
+
+-- sheet pass 4 1
+listing-of-no-question : listing fileA (take 0 questionA) ≡ 115 ∷ 104 ∷ 101 ∷ 101 ∷ 116 ∷ 32 ∷ 112 ∷ 97 ∷ 115 ∷ 115 ∷ 32 ∷ 52 ∷ 32 ∷ 49 ∷ 10 ∷ []
+unfolding questionA everything
+listing-of-no-question = refl
+
+-- sheet pass 4 1
+-- 1 keep 4 4
+-- 2 refused 12
+listing-with-a-short-tail : listing fileA (questionA ++ (81 ∷ 83 ∷ 0 ∷ 0 ∷ 0 ∷ [])) ≡ 115 ∷ 104 ∷ 101 ∷ 101 ∷ 116 ∷ 32 ∷ 112 ∷ 97 ∷ 115 ∷ 115 ∷ 32 ∷ 52 ∷ 32 ∷ 49 ∷ 10 ∷ 49 ∷ 32 ∷ 107 ∷ 101 ∷ 101 ∷ 112 ∷ 32 ∷ 52 ∷ 32 ∷ 52 ∷ 10 ∷ 50 ∷ 32 ∷ 114 ∷ 101 ∷ 102 ∷ 117 ∷ 115 ∷ 101 ∷ 100 ∷ 32 ∷ 49 ∷ 50 ∷ 10 ∷ []
+unfolding questionA everything
+listing-with-a-short-tail = refl
+
+-- sheet pass 4 1
+-- 1 refused 12
+listing-of-a-short-tail : listing fileA (take 17 questionA) ≡ 115 ∷ 104 ∷ 101 ∷ 101 ∷ 116 ∷ 32 ∷ 112 ∷ 97 ∷ 115 ∷ 115 ∷ 32 ∷ 52 ∷ 32 ∷ 49 ∷ 10 ∷ 49 ∷ 32 ∷ 114 ∷ 101 ∷ 102 ∷ 117 ∷ 115 ∷ 101 ∷ 100 ∷ 32 ∷ 49 ∷ 50 ∷ 10 ∷ []
+unfolding questionA everything
+listing-of-a-short-tail = refl
+
+-- sheet pass 4 1
+-- 1 refused 12
+-- 2 keep 4 4
+listing-after-another-mark : listing fileA ((sets questionA 1 (84 ∷ [])) ++ (81 ∷ 83 ∷ 0 ∷ 0 ∷ 0 ∷ 100 ∷ 0 ∷ 0 ∷ 0 ∷ 25 ∷ 0 ∷ 0 ∷ 0 ∷ 0 ∷ 0 ∷ 0 ∷ 0 ∷ 0 ∷ [])) ≡ 115 ∷ 104 ∷ 101 ∷ 101 ∷ 116 ∷ 32 ∷ 112 ∷ 97 ∷ 115 ∷ 115 ∷ 32 ∷ 52 ∷ 32 ∷ 49 ∷ 10 ∷ 49 ∷ 32 ∷ 114 ∷ 101 ∷ 102 ∷ 117 ∷ 115 ∷ 101 ∷ 100 ∷ 32 ∷ 49 ∷ 50 ∷ 10 ∷ 50 ∷ 32 ∷ 107 ∷ 101 ∷ 101 ∷ 112 ∷ 32 ∷ 52 ∷ 32 ∷ 52 ∷ 10 ∷ []
+unfolding questionA everything
+listing-after-another-mark = refl
+
+-- sheet fail 1 10
+listing-of-a-failed-check : listing (sets (sets fileA 36 (0 ∷ 0 ∷ [])) 40 (0 ∷ 0 ∷ 0 ∷ 40 ∷ [])) questionA ≡ 115 ∷ 104 ∷ 101 ∷ 101 ∷ 116 ∷ 32 ∷ 102 ∷ 97 ∷ 105 ∷ 108 ∷ 32 ∷ 49 ∷ 32 ∷ 49 ∷ 48 ∷ 10 ∷ []
+unfolding questionA everything
+listing-of-a-failed-check = refl
+
+-- sheet refused 5
+listing-of-a-refused-sheet : listing (take 69 fileA) questionA ≡ 115 ∷ 104 ∷ 101 ∷ 101 ∷ 116 ∷ 32 ∷ 114 ∷ 101 ∷ 102 ∷ 117 ∷ 115 ∷ 101 ∷ 100 ∷ 32 ∷ 53 ∷ 10 ∷ []
+unfolding questionA everything
+listing-of-a-refused-sheet = refl

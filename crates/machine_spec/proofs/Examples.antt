@@ -12,7 +12,7 @@ use Rattle.machine_spec.specs.Machine.{baseline, command, machine, bandM
 use Rattle.machine_spec.specs.Rate.{rates}
 use Rattle.machine_spec.proofs.Everything.{everything}
 
-zeros : ℕ → List ℤ
+pub zeros : ℕ → List ℤ
 zeros k = replicate k (pos 0)
 
 -- a box of one variable
@@ -20,10 +20,10 @@ box : ℤ → ℤ → List ℤ
 box l h = (l ∷ zeros (N - 1)) ++ (h ∷ zeros (N - 1))
 
 -- N = −131, q = 20, d = 0: floor −7, ceil −6; with cap 5 both −5
-quotient : Bool → ℤ → ℤ
+pub quotient : Bool → ℤ → ℤ
 quotient up cap = change up cap (rowAt (zeros (N + 3) ++ (pos 20 ∷ [])) 0) (negsuc 130)
 
-divided : (quotient false (pos 1000) ≡ negsuc 6) × (quotient true (pos 1000) ≡ negsuc 5)
+pub divided : (quotient false (pos 1000) ≡ negsuc 6) × (quotient true (pos 1000) ≡ negsuc 5)
 unfolding everything zeros quotient
 divided = (refl, refl)
 

@@ -1,5 +1,6 @@
 pub mod Everything
 pub mod Box
+pub mod Commands
 pub mod InPlace
 pub mod Face
 pub mod Inside
@@ -9,5 +10,5 @@ pub mod Sound
 pub mod Progress
 pub mod Order
 pub mod Ranges
-mod Examples
+pub mod Examples
 mod Shortcuts

@@ -1,51 +1,44 @@
--- There are runs, and the theorem speaks of them: one on sheet A, and one on a sheet of two variables and two bands where α is no multiple of δ. Assumes
--- nothing.
+-- There are runs: one on sheet A, and one on a sheet of two variables and two bands where α is no multiple of δ. Assumes nothing.
 use mathlib.Core.Path.{_≡_, refl}
-use mathlib.Core.Bool.{Bool, true, false}
 use mathlib.Core.List.{List, [], _∷_, _++_}
 use mathlib.Core.Option.{none, some}
 use Prim.Native.Nat.{ℕ, _+_}
-use lib.Dec.{lit<, lit≤}
 use lib.IntN.{ℤ, pos, negsuc}
 use lib.Seq.{sets}
 use mir.Syntax.{w32}
 use Rattle.integers.specs.Bytes.{beBytes, encode}
-use Rattle.sheet_spec.specs.Slots.{N, bandSlot, rowSlot, recoverySlot, unsafeSlot, recoveryBox}
-use Rattle.sheet_spec.specs.Sheet.{zeros, values, bytesOf}
+use Rattle.sheet_spec.specs.Slots.{N, bandSlot, rowSlot, recoverySlot, unsafeSlot}
+use Rattle.sheet_spec.specs.Sheet.{zeros, bytesOf}
 use Rattle.sheet_spec.specs.SheetA.{fileA}
-use Rattle.machine_spec.specs.Box.{In}
-use Rattle.machine_spec.specs.Machine.{Law, baseline, command}
-use Rattle.machine_spec.proofs.Box.{differ, all-at}
 use Rattle.decision_spec.specs.Decision.{keep, finest, spent, Reply, refused, answered, checkRecovery, decide}
-use Rattle.safety.specs.Run.{Period, lawAt, Run, Safe}
+use Rattle.safety.specs.Run.{Period, Run}
 use Rattle.safety.proofs.Everything.{everything}
-use Rattle.safety.proofs.Run.{safe-runs}
-use Rattle.safety.proofs.RunTest.{Moment, states, allows, ticks, follows, holds, measures, runs, holds-in, runs-run}
+use Rattle.safety.proofs.RunTest.{Moment, states, allows, ticks, follows, holds, measures, runs, runs-run}
 
 abbrev by : ℕ → ℤ → List ℤ → Moment
 by k u y = record { band = k; used = u; state = y }
 
-sidesBytes : List ℤ → List ℕ
+unfoldable pub sidesBytes : List ℤ → List ℕ
 sidesBytes [] = []
 sidesBytes (z ∷ zs) = encode w32 z ++ sidesBytes zs
 
 -- a period with a question: allowance, command, and the measured box's lower and upper sides in turn
-ask : ℕ → ℤ → List ℤ → Period
+unfoldable pub ask : ℕ → ℤ → List ℤ → Period
 ask allowance u sides = some (81 ∷ 83 ∷ beBytes 4 allowance ++ (encode w32 u ++ sidesBytes sides))
 
-replies : List ℕ → List Period → List Reply
+unfoldable pub replies : List ℕ → List Period → List Reply
 replies f [] = []
 replies f (none ∷ qs) = replies f qs
 replies f (some g ∷ qs) = decide f g ∷ replies f qs
 
 -- ---- sheet A: kept, no question, spent, finest, refused, kept, no question
 
-periodsA : List Period
+unfoldable pub periodsA : List Period
 periodsA =
     ask 100 (pos 25) (pos 0 ∷ pos 0 ∷ []) ∷ none ∷ ask 4 (pos 25) (pos 95 ∷ pos 100 ∷ []) ∷ ask 100 (pos 0) (pos 131 ∷ pos 131 ∷ [])
     ∷ ask 100 (pos 26) (pos 0 ∷ pos 0 ∷ []) ∷ ask 100 (negsuc 24) (pos 5 ∷ pos 20 ∷ []) ∷ none ∷ []
 
-momentsA : List Moment
+unfoldable pub momentsA : List Moment
 momentsA =
     by 0 (pos 25) (pos 5 ∷ []) ∷ by 0 (pos 25) (pos 9 ∷ []) ∷ by 0 (pos 25) (pos 13 ∷ []) ∷ by 0 (pos 25) (pos 17 ∷ [])
     ∷ by 0 (pos 0) (pos 16 ∷ []) ∷ by 0 (pos 0) (pos 16 ∷ []) ∷ by 0 (pos 0) (pos 16 ∷ []) ∷ by 0 (pos 0) (pos 15 ∷ [])
@@ -55,13 +48,13 @@ momentsA =
     ∷ by 0 (negsuc 24) (pos 3 ∷ []) ∷ by 0 (negsuc 24) (negsuc 1 ∷ []) ∷ by 0 (negsuc 24) (negsuc 6 ∷ []) ∷ by 0 (negsuc 24) (negsuc 11 ∷ [])
     ∷ by 0 (pos 0) (negsuc 11 ∷ []) ∷ by 0 (pos 0) (negsuc 10 ∷ []) ∷ by 0 (pos 0) (negsuc 10 ∷ []) ∷ by 0 (pos 0) (negsuc 10 ∷ []) ∷ []
 
-statesA : ℕ → List ℤ
+unfoldable pub statesA : ℕ → List ℤ
 statesA = states (pos 0 ∷ []) momentsA
 
 -- ---- sheet B: δ = 3, α = 5, ρ = 4; commands −30..30; caps 5 and 3
 
 -- the bands differ in edge, safety range and the second variable's c
-bandB : ℕ → ℤ → ℤ → ℤ → ℤ → List ℤ → List ℤ
+unfoldable pub bandB : ℕ → ℤ → ℤ → ℤ → ℤ → List ℤ → List ℤ
 bandB k e least greatest c v =
     row 1 (pos 1 ∷ negsuc 1 ∷ []) (pos 0 ∷ c ∷ pos 1 ∷ pos 10 ∷ [])
     (row 0 (negsuc 0 ∷ pos 0 ∷ []) (pos 4 ∷ pos 0 ∷ pos 2 ∷ pos 20 ∷ []) (sets v (bandSlot k) (e ∷ least ∷ greatest ∷ [])))
@@ -69,10 +62,10 @@ bandB k e least greatest c v =
     row : ℕ → List ℤ → List ℤ → List ℤ → List ℤ
     row i a bcdq v = sets (sets v (rowSlot k i) a) (rowSlot k i + N) bcdq
 
-boxB : ℕ → List ℤ → List ℤ → List ℤ → List ℤ
+unfoldable pub boxB : ℕ → List ℤ → List ℤ → List ℤ → List ℤ
 boxB at lower upper v = sets (sets v at lower) (at + N) upper
 
-fileB : List ℕ
+unfoldable pub fileB : List ℕ
 fileB = bytesOf
     (bandB 0 (negsuc 1999999) (pos 20) (pos 25) (pos 5)
     (bandB 1 (pos 0) (negsuc 24) (negsuc 19) (negsuc 4)
@@ -82,24 +75,24 @@ fileB = bytesOf
     (sets zeros 0 (pos 2 ∷ pos 2 ∷ pos 2 ∷ pos 0 ∷ pos 3 ∷ pos 5 ∷ pos 4 ∷ negsuc 29 ∷ pos 30 ∷ pos 5 ∷ pos 3 ∷ [])))))))
 
 -- kept, no question, refused, no question
-periodsB : List Period
+unfoldable pub periodsB : List Period
 periodsB =
     ask 100 (pos 25) (pos 15 ∷ pos 20 ∷ pos 0 ∷ pos 10 ∷ []) ∷ none ∷ ask 100 (pos 31) (pos 0 ∷ pos 0 ∷ pos 0 ∷ pos 0 ∷ []) ∷ none ∷ []
 
 -- the command leads out of the recovery box; in the last period the state goes from band to band
-momentsB : List Moment
+unfoldable pub momentsB : List Moment
 momentsB =
     by 1 (pos 25) (pos 23 ∷ pos 3 ∷ []) ∷ by 1 (pos 25) (pos 26 ∷ pos 4 ∷ []) ∷ by 1 (pos 25) (pos 30 ∷ pos 5 ∷ [])
     ∷ by 1 (negsuc 21) (pos 25 ∷ pos 7 ∷ []) ∷ by 1 (negsuc 20) (pos 20 ∷ pos 8 ∷ []) ∷ by 1 (negsuc 24) (pos 15 ∷ pos 8 ∷ [])
     ∷ by 1 (negsuc 24) (pos 10 ∷ pos 7 ∷ []) ∷ by 1 (negsuc 21) (pos 5 ∷ pos 6 ∷ []) ∷ by 1 (negsuc 20) (pos 0 ∷ pos 4 ∷ [])
     ∷ by 1 (negsuc 23) (negsuc 3 ∷ pos 3 ∷ []) ∷ by 0 (pos 22) (pos 1 ∷ pos 2 ∷ []) ∷ by 1 (negsuc 20) (negsuc 2 ∷ pos 2 ∷ []) ∷ []
 
-statesB : ℕ → List ℤ
+unfoldable pub statesB : ℕ → List ℤ
 statesB = states (pos 18 ∷ pos 3 ∷ []) momentsB
 
 -- ---- all of it computes
 
-unfoldable opened : ℕ
+unfoldable pub opened : ℕ
 unfolding everything encode sidesBytes ask replies periodsA momentsA statesA bandB boxB fileB periodsB momentsB statesB states allows ticks follows holds measures runs
 opened = 0
 
@@ -111,33 +104,10 @@ repliesB : checkRecovery fileB ∷ replies fileB periodsB ≡ answered keep 1 10
 unfolding opened
 repliesB = refl
 
-runA : Run fileA periodsA statesA
+pub runA : Run fileA periodsA statesA
 unfolding opened
 runA = runs-run fileA periodsA (pos 0 ∷ []) momentsA refl
 
-runB : Run fileB periodsB statesB
+pub runB : Run fileB periodsB statesB
 unfolding opened
 runB = runs-run fileB periodsB (pos 18 ∷ pos 3 ∷ []) momentsB refl
-
--- ---- and is safe
-
-safeA : Safe fileA periodsA statesA
-unfolding opened
-safeA = safe-runs fileA tt periodsA statesA (holds-in 1 (recoveryBox (values fileA)) (statesA 0) refl) runA
-
-safeB : Safe fileB periodsB statesB
-unfolding opened
-safeB = safe-runs fileB tt periodsB statesB (holds-in 2 (recoveryBox (values fileB)) (statesB 0) refl) runB
-
-abbrev plain : Law → Bool
-plain baseline = true
-plain (command u) = false
-
-plain-is : (l : Law) → plain l ≡ true → l ≡ baseline
-plain-is baseline e = refl
-plain-is (command u) e = absurd (differ e refl)
-
--- the α ticks behind the kept period end at tick 8, inside the third period
-backB : In 2 (recoveryBox (values fileB)) (statesB 8)
-unfolding opened
-backB = safeB .returns 0 (lit< tt) tt (lit≤ tt) (λ t h. plain-is (lawAt fileB periodsB (3 + t)) (all-at 5 (λ t. plain (lawAt fileB periodsB (3 + t))) t refl h))

@@ -4,4 +4,5 @@ pub mod Acting
 pub mod Run
 pub mod Progress
 mod RunTest
-mod ExampleRuns
+pub mod ExampleRuns
+mod ExampleSafety

@@ -64,6 +64,13 @@ value-head v c e n =
     let d = first-keep (λ j. test v (headFields j)) headSize (headSize + vars v) c (omega arith) n (sym e) in
     first-keep (badRecord (λ r. true) s v) 1 (records s) c (omega arith) n (first-next (badRecord (λ r. true) s v) 0 c refl d)
 
+-- a buffer of k bytes has no room for n, or has room
+no-room : (n k : ℕ) → k < n → number Cause.room ≡ refuseUnless (leb n k) Cause.room
+no-room n k l = rw (lt-leb n k l)
+
+some-room : (n k : ℕ) → n ≤ k → 0 ≡ refuseUnless (leb n k) Cause.room
+some-room n k l = rw (le-leb n k l)
+
 module _ (v : List ℤ) (buffer : List ℕ) (place : ℕ) where
   pub record Answer (c : ℕ) (after : List ℕ) : Type 0 where
     pub refusal : c ≡ writeRefusal v buffer place
@@ -81,10 +88,10 @@ module _ (v : List ℤ) (buffer : List ℕ) (place : ℕ) where
 
   pub write-short : 0 ≡ valueRefusal v → length buffer < place + length-of v → Answer (number Cause.room) buffer
   unfolding writeRefusal
-  write-short e l = refused 17 (rw (← e, writeRefusal, lt-leb (place + length-of v) (length buffer) l)) (number-is Cause.room)
+  write-short e l = refused 17 (rw (← e, writeRefusal) (no-room (place + length-of v) (length buffer) l)) (number-is Cause.room)
 
   pub write-done : 0 ≡ valueRefusal v → place + length-of v ≤ length buffer → Answer 0 (sets buffer place (bytesOf v))
   unfolding writeRefusal written
   write-done e l =
-      let q : 0 ≡ writeRefusal v buffer place = rw (← e, writeRefusal, le-leb (place + length-of v) (length buffer) l) in
+      let q : 0 ≡ writeRefusal v buffer place = rw (← e, writeRefusal) (some-room (place + length-of v) (length buffer) l) in
       record { refusal = q; left = rw (← q, written) }

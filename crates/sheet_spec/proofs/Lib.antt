@@ -16,5 +16,6 @@ pub mod RoundTrip
 pub mod ReadWrite
 pub mod Everything
 mod Examples
+mod Reference
 pub mod FieldRuns
 pub mod FieldPlaces

@@ -1,4 +1,4 @@
-//! The worked examples of the second guard, `examples.txt`: the plain guard has the same answers.
+//! The worked examples of the second guard, `examples.txt` and `limits.txt`: the plain guard has the same answers.
 
 use plain_guard::decision::{unpack, REFUSED};
 use plain_guard::reach::StateBox;
@@ -6,11 +6,48 @@ use std::collections::HashMap;
 
 type Words<'a> = HashMap<&'a str, &'a str>;
 
-fn bytes(words: &Words, key: &str) -> Vec<u8> {
-    let hex = words[key];
-    (0..hex.len() / 2)
-        .map(|i| u8::from_str_radix(&hex[2 * i..2 * i + 2], 16).expect("hex"))
+const EXAMPLES: &str = include_str!("../../examples.txt");
+const LIMITS: &str = include_str!("../../limits.txt");
+
+/// What a change of a file starts with: `@PLACE:HEX` is with these bytes from the place on, `<LENGTH` the first bytes alone,
+/// `+HEX` with these bytes after it.
+const CHANGES: [char; 3] = ['@', '<', '+'];
+
+fn hex(text: &str) -> Vec<u8> {
+    (0..text.len() / 2)
+        .map(|i| u8::from_str_radix(&text[2 * i..2 * i + 2], 16).expect("hex"))
         .collect()
+}
+
+/// The bytes of a file that `limits.txt` names, or those in hex.
+fn base(text: &str) -> Vec<u8> {
+    let name = format!("{text} file bytes=");
+    let named = LIMITS.lines().find_map(|line| line.strip_prefix(&name));
+    hex(named.unwrap_or(text))
+}
+
+fn file(text: &str) -> Vec<u8> {
+    let (start, mut rest) = text.split_at(text.find(CHANGES).unwrap_or(text.len()));
+    let mut bytes = base(start);
+    while let Some(kind) = rest.chars().next() {
+        let end = rest[1..].find(CHANGES).map_or(rest.len(), |at| at + 1);
+        let change = &rest[1..end];
+        match kind {
+            '@' => {
+                let (place, new) = change.split_once(':').expect("a place");
+                let (place, new) = (place.parse::<usize>().expect("a place"), hex(new));
+                bytes[place..place + new.len()].copy_from_slice(&new);
+            }
+            '<' => bytes.truncate(change.parse().expect("a length")),
+            _ => bytes.extend(hex(change)),
+        }
+        rest = &rest[end..];
+    }
+    bytes
+}
+
+fn bytes(words: &Words, key: &str) -> Vec<u8> {
+    file(words[key])
 }
 
 fn number(words: &Words, key: &str) -> i32 {
@@ -58,24 +95,59 @@ fn reach(words: &Words) -> String {
     }
 }
 
-#[test]
-fn the_examples_have_the_same_answers() {
+/// Sheet A's numbers, with another rho where slot 6 is changed.
+fn write(words: &Words) -> String {
+    let (name, rho) = words["numbers"]
+        .split_once("@6:")
+        .unwrap_or((words["numbers"], "4"));
+    let mut sheet = plain_guard::read(&base(name)).expect("an accepted sheet");
+    sheet.rho = rho.parse().expect("a number");
+    let mut buffer = vec![0; words["room"].parse().expect("a length")];
+    let place = words["place"].parse().expect("a place");
+    let written = plain_guard::write_at(&sheet, &mut buffer, place);
+    format!("refusal={}", written.err().unwrap_or(0))
+}
+
+fn listing(words: &Words) -> String {
+    let (sheet, asks) = (bytes(words, "sheet"), bytes(words, "asks"));
+    let text = String::from_utf8(plain_guard::listing(Some(&sheet), Some(&asks))).expect("text");
+    format!("text={}", text.replace(' ', "_").replace('\n', "/"))
+}
+
+/// Compares the lines of a file, and says how many there are.
+fn compare(text: &str) -> usize {
     let mut seen = 0;
-    let lines = include_str!("../../examples.txt").lines();
-    for line in lines.filter(|line| !line.is_empty() && !line.starts_with('#')) {
+    for line in text
+        .lines()
+        .filter(|line| !line.is_empty() && !line.starts_with('#'))
+    {
         let words: Words = line
             .split(' ')
             .filter_map(|part| part.split_once('='))
             .collect();
-        let sheet = bytes(&words, "sheet");
+        let sheet = || bytes(&words, "sheet");
         let answer = match line.split(' ').nth(1) {
-            Some("decide") => verdict(plain_guard::decide(&sheet, &bytes(&words, "question"))),
-            Some("check") => verdict(plain_guard::recovery(&sheet)),
+            Some("file") => continue,
+            Some("read") => format!("refusal={}", plain_guard::read(&sheet()).err().unwrap_or(0)),
+            Some("write") => write(&words),
+            Some("decide") => verdict(plain_guard::decide(&sheet(), &bytes(&words, "question"))),
+            Some("check") => verdict(plain_guard::recovery(&sheet())),
             Some("reach") => reach(&words),
+            Some("listing") => listing(&words),
             _ => panic!("no such call: {line}"),
         };
         assert!(line.ends_with(&format!(" {answer}")), "{answer}: {line}");
         seen += 1;
     }
-    assert!(seen >= 14);
+    seen
+}
+
+#[test]
+fn the_examples_have_the_same_answers() {
+    assert!(compare(EXAMPLES) >= 14);
+}
+
+#[test]
+fn the_limits_have_the_same_answers() {
+    assert!(compare(LIMITS) >= 150);
 }

@@ -1,9 +1,11 @@
-//! Prints examples of `examples.txt` as a file of proofs: `print_proofs lifting` those of the reach, `print_proofs safety`
-//! those listed in `PROVED`. The definitions compute each of them; a test holds the printed files to those in the repository.
+//! Prints examples of `examples.txt` and `limits.txt` as a file of proofs: `print_proofs sheet` those of reading and writing,
+//! `print_proofs boxes` those of the reach, `print_proofs decision` the listings, and the decisions and recovery checks that are
+//! listed in `PROVED` or in `limits.txt`. The definitions compute each of them; a test holds the printed files to those in the
+//! repository.
 
 use std::collections::HashMap;
 
-/// One line of `examples.txt`.
+/// One line of `examples.txt` or `limits.txt`.
 struct Example<'a> {
     name: &'a str,
     call: &'a str,
@@ -83,15 +85,102 @@ fn coded_sides(hex: &str) -> Vec<(i64, i64)> {
         .collect()
 }
 
-/// The sheets in the order of their first use, each with the number of its first use.
-fn sheets<'a>(examples: &[Example<'a>]) -> Vec<&'a str> {
-    let mut seen = Vec::new();
-    for example in examples {
-        if !seen.contains(&example.field("sheet")) {
-            seen.push(example.field("sheet"));
+/// A file as a line writes it: what it starts from, then each change, `@PLACE:HEX`, `<LENGTH` or `+HEX`, by its first letter.
+fn parts(text: &str) -> (&str, Vec<(&str, &str)>) {
+    let starts: Vec<usize> = text.match_indices(['@', '<', '+']).map(|(at, _)| at).collect();
+    let ends = starts.iter().skip(1).copied().chain([text.len()]);
+    let changes = starts.iter().zip(ends).map(|(&at, end)| text[at..end].split_at(1)).collect();
+    (&text[..starts.first().copied().unwrap_or(text.len())], changes)
+}
+
+/// `PLACE:WHAT` of a change.
+fn placed(change: &str) -> (&str, &str) {
+    change.split_once(':').expect("a place")
+}
+
+/// The files that an example is about.
+const FILES: [&str; 4] = ["sheet", "numbers", "question", "asks"];
+
+/// What the files of some examples start from, in the order of their first use.
+struct Bases<'a> {
+    /// Those that a line of `limits.txt` names, with their bytes in hex.
+    named: Vec<(&'a str, &'a str)>,
+    used: Vec<&'a str>,
+    /// Sheets in hex.
+    sheets: Vec<&'a str>,
+}
+
+impl<'a> Bases<'a> {
+    fn new(named: Vec<(&'a str, &'a str)>, examples: &[Example<'a>]) -> Self {
+        let mut bases = Bases { named, used: Vec::new(), sheets: Vec::new() };
+        for example in examples {
+            for key in FILES {
+                let Some(text) = example.fields.get(key) else {
+                    continue;
+                };
+                let base = parts(text).0;
+                let seen = if bases.hex(base).is_some() {
+                    &mut bases.used
+                } else if key == "sheet" {
+                    &mut bases.sheets
+                } else {
+                    continue;
+                };
+                if !seen.contains(&base) {
+                    seen.push(base);
+                }
+            }
+        }
+        bases
+    }
+
+    /// The bytes of a named file.
+    fn hex(&self, base: &str) -> Option<&'a str> {
+        self.named.iter().find(|(name, _)| *name == base).map(|(_, hex)| *hex)
+    }
+
+    /// What antt calls it; other bytes are written out.
+    fn term(&self, base: &str) -> String {
+        match base {
+            "A" => "fileA".into(),
+            "Q" => "questionA".into(),
+            _ if self.hex(base).is_some() => base.replace('_', "-"),
+            _ => match self.sheets.iter().position(|sheet| *sheet == base) {
+                Some(number) => format!("sheet{number}"),
+                None => format!("({})", byte_list(base)),
+            },
         }
     }
-    seen
+
+    /// The file that the text stands for.
+    fn file(&self, text: &str) -> String {
+        let (base, changes) = parts(text);
+        changes.into_iter().fold(self.term(base), |file, (kind, change)| match kind {
+            "@" => {
+                let (place, new) = placed(change);
+                format!("(sets {file} {place} ({}))", byte_list(new))
+            }
+            "<" => format!("(take {change} {file})"),
+            _ => format!("({file} ++ ({}))", byte_list(change)),
+        })
+    }
+
+    /// A sheet's numbers: those of a file, with others in some slots.
+    fn numbers(&self, text: &str) -> String {
+        let (base, changes) = parts(text);
+        changes.into_iter().fold(format!("(values {})", self.term(base)), |numbers, (_, change)| {
+            let (slot, number) = placed(change);
+            let number = integer(number.parse().expect("a number"));
+            format!("(sets {numbers} {slot} ({number} ∷ []))")
+        })
+    }
+
+    /// The definitions that an example's files open.
+    fn opened(&self, example: &Example) -> String {
+        let bases = FILES.iter().filter_map(|key| example.fields.get(key)).map(|text| parts(text).0);
+        let terms = bases.map(|base| self.term(base));
+        terms.filter(|term| term != "fileA" && !term.starts_with('(')).fold(String::new(), |all, term| all + &term + " ")
+    }
 }
 
 fn law(example: &Example) -> String {
@@ -101,15 +190,44 @@ fn law(example: &Example) -> String {
     }
 }
 
-fn reach_row(example: &Example, sheet: usize) -> (String, String) {
-    let given = format!(
-        "reachOf (values sheet{sheet}) {} {} {} ({})",
+/// An example's two sides: what the definitions are asked, and what the second guard said.
+fn row(example: &Example, bases: &Bases) -> (String, String) {
+    let number = |key| example.field(key).to_string();
+    match example.call {
+        "read" => (format!("refusal {}", bases.file(example.field("sheet"))), number("refusal")),
+        "write" => {
+            let numbers = bases.numbers(example.field("numbers"));
+            let (room, place) = (example.field("room"), example.field("place"));
+            (format!("writeRefusal {numbers} (replicate {room} 0) {place}"), number("refusal"))
+        }
+        "reach" => (reach_given(example, bases), reach_said(example)),
+        "check" => (format!("checkRecovery {}", bases.file(example.field("sheet"))), reply_said(example)),
+        "decide" => {
+            let (sheet, question) = (example.field("sheet"), example.field("question"));
+            (format!("decide {} {}", bases.file(sheet), bases.file(question)), reply_said(example))
+        }
+        "listing" => {
+            let (sheet, asks) = (example.field("sheet"), example.field("asks"));
+            let said = list(listing_text(example).bytes().map(|b| b.to_string()));
+            (format!("listing {} {}", bases.file(sheet), bases.file(asks)), said)
+        }
+        call => panic!("no such call: {call}"),
+    }
+}
+
+fn reach_given(example: &Example, bases: &Bases) -> String {
+    format!(
+        "reachFile {} {} {} {} ({})",
+        bases.file(example.field("sheet")),
         example.field("ticks"),
         example.field("width"),
         law(example),
         box_list(&coded_sides(example.field("start")))
-    );
-    let said = match example.refused() {
+    )
+}
+
+fn reach_said(example: &Example) -> String {
+    match example.refused() {
         Some(number) => format!("refused {number}"),
         None => format!(
             "answered ({}) ({}) {}",
@@ -117,16 +235,11 @@ fn reach_row(example: &Example, sheet: usize) -> (String, String) {
             box_list(&printed_sides(example.field("swept"))),
             example.field("rounds")
         ),
-    };
-    (given, said)
+    }
 }
 
-fn reply_row(example: &Example, sheet: usize) -> (String, String) {
-    let given = match example.call {
-        "check" => format!("checkRecovery sheet{sheet}"),
-        _ => format!("decide sheet{sheet} ({})", byte_list(example.field("question"))),
-    };
-    let said = match example.refused() {
+fn reply_said(example: &Example) -> String {
+    match example.refused() {
         Some(number) => format!("refused {number}"),
         None => format!(
             "answered {} {} {}",
@@ -134,52 +247,82 @@ fn reply_row(example: &Example, sheet: usize) -> (String, String) {
             example.field("width"),
             example.field("rounds")
         ),
-    };
-    (given, said)
+    }
 }
 
-const LIFTING: &str = "\
+/// A listing as it is printed.
+fn listing_text(example: &Example) -> String {
+    example.field("text").replace('_', " ").replace('/', "\n")
+}
+
+const SHEET: &str = "\
+use mathlib.Core.Path.{_≡_, refl}
+use mathlib.Core.List.{List, [], _∷_, _++_}
+use Prim.Native.Nat.{ℕ}
+use lib.IntN.{pos}
+use lib.ListN.{take, replicate}
+use lib.Seq.{sets}
+use Rattle.sheet_spec.specs.Sheet.{refusal, values, writeRefusal}
+use Rattle.sheet_spec.specs.SheetA.{fileA}
+use Rattle.sheet_spec.proofs.Everything.{everything}
+";
+
+const BOXES: &str = "\
 use mathlib.Core.Path.{_≡_, refl}
 use mathlib.Core.List.{List, [], _∷_}
 use Prim.Native.Nat.{ℕ}
 use lib.IntN.{ℤ, pos, negsuc}
-use Rattle.sheet_spec.specs.Sheet.{values}
-use Rattle.sheet_spec.proofs.Everything as sheet
+use lib.ListN.{take}
+use Rattle.sheet_spec.specs.SheetA.{fileA}
 use Rattle.machine_spec.specs.Machine.{baseline, command}
-use Rattle.boxes_spec.specs.Reach.{Answer, refused, reachOf}
+use Rattle.boxes_spec.specs.Reach.{Answer, refused, reachFile}
 use Rattle.boxes_spec.proofs.Everything.{everything}
 
 abbrev answered : List ℤ → List ℤ → ℕ → Answer
 answered E W c = record { refusal = 0; end = E; swept = W; rounds = c }
 ";
 
-const SAFETY: &str = "\
+const DECISION: &str = "\
 use mathlib.Core.Path.{_≡_, refl}
-use mathlib.Core.List.{List, [], _∷_}
+use mathlib.Core.List.{List, [], _∷_, _++_}
 use Prim.Native.Nat.{ℕ}
+use lib.ListN.{take}
+use lib.Seq.{sets}
+use Rattle.sheet_spec.specs.SheetA.{fileA}
 use Rattle.decision_spec.specs.Decision.{keep, finest, spent, refused, answered, decide, checkRecovery}
+use Rattle.decision_spec.specs.Listing.{listing}
 use Rattle.decision_spec.proofs.Everything.{everything}
 ";
 
-fn print(examples: &[Example], header: &str, row: impl Fn(&Example, usize) -> (String, String), opened: &str) {
-    let sheets = sheets(examples);
-    println!("-- Worked examples of reference/examples.txt: what the definitions give, beside what the second guard gives.");
+fn print(examples: &[Example], header: &str, bases: &Bases) {
+    println!("-- Worked examples of reference/examples.txt and limits.txt: what the definitions give, beside what the second guard gives.");
     println!("-- This file is written by `print_proofs` of reference/, and a test there compares it. Assumes nothing.");
     print!("{header}");
-    for (number, sheet) in sheets.iter().enumerate() {
+    for base in &bases.used {
+        let (name, bytes) = (bases.term(base), byte_list(bases.hex(base).expect("a named file")));
+        match *base {
+            "A" => println!("\n-- sheet A is the second guard's\nsame-A : {name} ≡ {bytes}\nunfolding {name}\nsame-A = refl"),
+            _ => println!("\nunfoldable {name} : List ℕ\n{name} = {bytes}"),
+        }
+    }
+    for (number, sheet) in bases.sheets.iter().enumerate() {
         println!("\nunfoldable sheet{number} : List ℕ\nsheet{number} = {}", byte_list(sheet));
     }
-    let names: Vec<String> = (0..sheets.len()).map(|n| format!("sheet{n}")).collect();
     for example in examples {
-        let sheet = sheets.iter().position(|s| *s == example.field("sheet")).expect("a sheet");
         let name = example.name.replace('_', "-");
-        let (given, said) = row(example, sheet);
-        println!("\n{name} : {given} ≡ {said}");
-        println!("unfolding {} {opened}\n{name} = refl", names[sheet]);
+        let (given, said) = row(example, bases);
+        println!();
+        if example.call == "listing" {
+            for line in listing_text(example).lines() {
+                println!("-- {line}");
+            }
+        }
+        println!("{name} : {given} ≡ {said}");
+        println!("unfolding {}everything\n{name} = refl", bases.opened(example));
     }
 }
 
-/// The decisions and recovery checks that are proved: each kind of answer, at several widths, n and bands. The other examples
+/// The decisions and recovery checks of `examples.txt` that are proved: each kind of answer, at several widths, n and bands. The other examples
 /// repeat one of these with another width or allowance, and would double the time of the check.
 const PROVED: [&str; 14] = [
     // kept at the first, second and third width: n = 2, two and three bands, a spread, negative coefficients, clamped and
@@ -204,20 +347,26 @@ const PROVED: [&str; 14] = [
     "refused_measured_side",
 ];
 
+fn lines(text: &str) -> impl Iterator<Item = Example<'_>> {
+    text.lines().filter(|line| !line.is_empty() && !line.starts_with('#')).map(Example::parse)
+}
+
 fn main() {
     let part = std::env::args().nth(1).unwrap_or_default();
-    let examples: Vec<Example> = include_str!("../../examples.txt")
-        .lines()
-        .filter(|line| !line.is_empty() && !line.starts_with('#'))
-        .map(Example::parse)
-        .filter(|example| if part == "lifting" { example.call == "reach" } else { PROVED.contains(&example.name) })
-        .collect();
-    match part.as_str() {
-        "lifting" => print(&examples, LIFTING, reach_row, "sheet.everything everything"),
-        "safety" => print(&examples, SAFETY, reply_row, "everything"),
+    let limits = lines(include_str!("../../limits.txt"));
+    let (files, limits): (Vec<Example>, Vec<Example>) = limits.partition(|line| line.call == "file");
+    let named: Vec<(&str, &str)> = files.iter().map(|file| (file.name, file.field("bytes"))).collect();
+    let proved = |example: &Example| example.call == "reach" || PROVED.contains(&example.name);
+    let examples = lines(include_str!("../../examples.txt")).filter(proved).chain(limits);
+    let of = |calls: &'static [&str]| examples.filter(|example| calls.contains(&example.call)).collect::<Vec<Example>>();
+    let (examples, header) = match part.as_str() {
+        "sheet" => (of(&["read", "write"]), SHEET),
+        "boxes" => (of(&["reach"]), BOXES),
+        "decision" => (of(&["decide", "check", "listing"]), DECISION),
         _ => {
-            eprintln!("usage: print_proofs lifting|safety");
+            eprintln!("usage: print_proofs sheet|boxes|decision");
             std::process::exit(2);
         }
-    }
+    };
+    print(&examples, header, &Bases::new(named, &examples));
 }

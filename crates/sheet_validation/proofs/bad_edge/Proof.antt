@@ -4,7 +4,7 @@ use Prim.Native.Nat.{_*_, _+_, _-_, suc, ℕ}
 use native.Mathlib.Omega.{arith}
 use lib.IntN.{_+ℤ_, pos}
 use mir.Syntax.{w64}
-use mir.Val.{SFits}
+use mir.Val.{SFits, toZ, ofZ}
 use borrow.Author.Needs.{needs}
 use Rattle.integers.proofs.Z.{bound-lit, bound-read, bound-sum, fits64}
 use Rattle.sheet_encoding.proofs.SlotNumber.{computed}
@@ -22,6 +22,10 @@ returns c = let e : 0 ≡ c .before .before .args .k = omega arith in
 add-after : tie.Need-add-after
 add-after c = let f : SFits w64 (c .value .result) = search needs in fits64 (bound-sum (bound-read f (c .value .ensures .1)) (bound-lit _)) tt
 
+-- one more than the edge before fits too
+greater-fits : (c : tie.After-value) → SFits w64 (toZ w64 (ofZ w64 (c .value .result)) +ℤ pos 1)
+greater-fits c = let f : SFits w64 (c .value .result) = search needs in fits64 (bound-sum (bound-read f (c .value .ensures .1)) (bound-lit _)) tt
+
 returns-2 : tie.Need-returns-2
 unfolding edgeField
 returns-2 c = let a = c .before .before .before .args in
@@ -30,7 +34,7 @@ returns-2 c = let a = c .before .before .before .args in
     let e : suc j ≡ a .k = omega (arith, c .before .before .if1 .left) in
     let s : bandSlot 0 + a .k * bandSize - bandSize ≡ bandSlot j = omega arith in
     let z = c .before .value .ensures in
-    c .after2 .ensures (edgeField (suc j)) (omega arith) (computed (z .0 ∙ ap (λ (i : ℕ). v ! i) s) (z .1) (λ z. z +ℤ pos 1) (add-after (c .before))) refl refl
+    c .after2 .ensures (edgeField (suc j)) (omega arith) (computed (z .0 ∙ ap (λ (i : ℕ). v ! i) s) (z .1) (λ z. z +ℤ pos 1) (greater-fits (c .before))) refl refl
     ∙ ap (λ (k : ℕ). test v (edgeField k)) e
 
 pub bad-edge-spec : {M : Type 1} → statement M

@@ -31,8 +31,7 @@ loop-holds c = (omega arith, (refl, bound-lit (pos 0)))
 term-requires : tie.Need-term-requires Inv-loop μ-loop
 term-requires c κs =
     let s = c .before .before .before .before .before .pre .1 in
-    let j = c .before .before .before .before .loop .j in
-    (bound-less (bound-read (sfits-of (c .before .term-arg2 .given)) (s .at j)) (omega arith), bound-less (bound-read (sfits-of (c .term-arg3 .given)) (s .at (j + N))) (omega arith))
+    (bound-less (bound-read (sfits-of (c .before .term-arg2 .given)) (s .at _)) (omega arith), bound-less (bound-read (sfits-of (c .term-arg3 .given)) (s .at _)) (omega arith))
 
 -- the term, and the sum with it
 module _ (c : tie.After-term Inv-loop μ-loop) where

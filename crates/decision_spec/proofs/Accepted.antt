@@ -1,0 +1,36 @@
+-- What is accepted at its bound, and not past it: an allowance, and the last end box of an attempt. Assumes nothing.
+use mathlib.Core.Path.{_≡_, refl}
+use mathlib.Core.Bool.{Bool, true, false}
+use mathlib.Core.List.{List, [], _∷_}
+use Prim.Native.Nat.{ℕ}
+use lib.IntN.{ℤ, pos}
+use lib.Seq.{sets}
+use Rattle.sheet_spec.specs.Sheet.{values}
+use Rattle.sheet_spec.specs.SheetA.{fileA}
+use Rattle.boxes_spec.specs.Step.{Result, ok, failed, exhausted}
+use Rattle.decision_spec.specs.Question.{allowanceRefusal}
+use Rattle.decision_spec.specs.Decision.{attempt, decisionPhases}
+use Rattle.decision_spec.specs.Starred.{interval}
+use Rattle.decision_spec.proofs.Everything.{everything}
+
+-- 1,000,000 and 1,000,001
+pub allowances : (allowanceRefusal (81 ∷ 83 ∷ 0 ∷ 15 ∷ 66 ∷ 64 ∷ []) ≡ 0) × (allowanceRefusal (81 ∷ 83 ∷ 0 ∷ 15 ∷ 66 ∷ 65 ∷ []) ≡ 13)
+unfolding everything
+allowances = (refl, refl)
+
+-- sheet A with the recovery box l..h
+abbrev sheet : ℕ → ℕ → List ℤ
+sheet l h = values (sets fileA 62 (0 ∷ 0 ∷ 0 ∷ l ∷ 0 ∷ 0 ∷ 0 ∷ h ∷ []))
+
+abbrev succeeds : Result (List ℤ) → Bool
+succeeds (ok E c) = true
+succeeds (failed why c) = false
+succeeds (exhausted c) = false
+
+-- the first question's attempt at width 4, whose last end box is 12..20 (document 01, "Checks at the stops")
+abbrev attempted : List ℤ → Bool
+attempted v = succeeds (attempt true 100 v 4 (decisionPhases v (pos 25)) (interval (pos 0) (pos 0)) 0)
+
+pub recovered : (attempted (sheet 12 20) ≡ true) × (attempted (sheet 13 20) ≡ false) × (attempted (sheet 12 19) ≡ false)
+unfolding everything
+recovered = (refl, refl, refl)

@@ -1,0 +1,448 @@
+-- Worked examples of reference/examples.txt and limits.txt: what the definitions give, beside what the second guard gives.
+-- This file is written by `print_proofs` of reference/, and a test there compares it. Assumes nothing.
+use mathlib.Core.Path.{_≡_, refl}
+use mathlib.Core.List.{List, [], _∷_, _++_}
+use Prim.Native.Nat.{ℕ}
+use lib.IntN.{pos}
+use lib.ListN.{take, replicate}
+use lib.Seq.{sets}
+use Rattle.sheet_spec.specs.Sheet.{refusal, values, writeRefusal}
+use Rattle.sheet_spec.specs.SheetA.{fileA}
+use Rattle.sheet_spec.proofs.Everything.{everything}
+
+-- sheet A is the second guard's
+same-A : fileA ≡ 83 ∷ 72 ∷ 1 ∷ 1 ∷ 1 ∷ 0 ∷ 0 ∷ 4 ∷ 0 ∷ 4 ∷ 0 ∷ 4 ∷ 255 ∷ 255 ∷ 255 ∷ 231 ∷ 0 ∷ 0 ∷ 0 ∷ 25 ∷ 0 ∷ 5 ∷ 66 ∷ 68 ∷ 255 ∷ 225 ∷ 123 ∷ 128 ∷ 0 ∷ 0 ∷ 0 ∷ 0 ∷ 0 ∷ 0 ∷ 0 ∷ 0 ∷ 255 ∷ 255 ∷ 0 ∷ 4 ∷ 0 ∷ 0 ∷ 0 ∷ 0 ∷ 0 ∷ 0 ∷ 0 ∷ 0 ∷ 0 ∷ 20 ∷ 78 ∷ 71 ∷ 0 ∷ 0 ∷ 0 ∷ 130 ∷ 0 ∷ 30 ∷ 132 ∷ 128 ∷ 82 ∷ 67 ∷ 255 ∷ 255 ∷ 255 ∷ 156 ∷ 0 ∷ 0 ∷ 0 ∷ 100 ∷ []
+unfolding fileA
+same-A = refl
+
+unfoldable eight-bands : List ℕ
+eight-bands = 83 ∷ 72 ∷ 1 ∷ 8 ∷ 1 ∷ 0 ∷ 0 ∷ 4 ∷ 0 ∷ 4 ∷ 0 ∷ 4 ∷ 255 ∷ 255 ∷ 255 ∷ 231 ∷ 0 ∷ 0 ∷ 0 ∷ 25 ∷ 0 ∷ 5 ∷ 66 ∷ 68 ∷ 255 ∷ 225 ∷ 123 ∷ 128 ∷ 0 ∷ 0 ∷ 0 ∷ 0 ∷ 0 ∷ 0 ∷ 0 ∷ 0 ∷ 255 ∷ 255 ∷ 0 ∷ 4 ∷ 0 ∷ 0 ∷ 0 ∷ 0 ∷ 0 ∷ 0 ∷ 0 ∷ 0 ∷ 0 ∷ 20 ∷ 66 ∷ 68 ∷ 0 ∷ 0 ∷ 0 ∷ 1 ∷ 0 ∷ 0 ∷ 0 ∷ 0 ∷ 0 ∷ 0 ∷ 0 ∷ 0 ∷ 255 ∷ 255 ∷ 0 ∷ 4 ∷ 0 ∷ 0 ∷ 0 ∷ 0 ∷ 0 ∷ 0 ∷ 0 ∷ 0 ∷ 0 ∷ 20 ∷ 66 ∷ 68 ∷ 0 ∷ 0 ∷ 0 ∷ 2 ∷ 0 ∷ 0 ∷ 0 ∷ 0 ∷ 0 ∷ 0 ∷ 0 ∷ 0 ∷ 255 ∷ 255 ∷ 0 ∷ 4 ∷ 0 ∷ 0 ∷ 0 ∷ 0 ∷ 0 ∷ 0 ∷ 0 ∷ 0 ∷ 0 ∷ 20 ∷ 66 ∷ 68 ∷ 0 ∷ 0 ∷ 0 ∷ 3 ∷ 0 ∷ 0 ∷ 0 ∷ 0 ∷ 0 ∷ 0 ∷ 0 ∷ 0 ∷ 255 ∷ 255 ∷ 0 ∷ 4 ∷ 0 ∷ 0 ∷ 0 ∷ 0 ∷ 0 ∷ 0 ∷ 0 ∷ 0 ∷ 0 ∷ 20 ∷ 66 ∷ 68 ∷ 0 ∷ 0 ∷ 0 ∷ 4 ∷ 0 ∷ 0 ∷ 0 ∷ 0 ∷ 0 ∷ 0 ∷ 0 ∷ 0 ∷ 255 ∷ 255 ∷ 0 ∷ 4 ∷ 0 ∷ 0 ∷ 0 ∷ 0 ∷ 0 ∷ 0 ∷ 0 ∷ 0 ∷ 0 ∷ 20 ∷ 66 ∷ 68 ∷ 0 ∷ 0 ∷ 0 ∷ 5 ∷ 0 ∷ 0 ∷ 0 ∷ 0 ∷ 0 ∷ 0 ∷ 0 ∷ 0 ∷ 255 ∷ 255 ∷ 0 ∷ 4 ∷ 0 ∷ 0 ∷ 0 ∷ 0 ∷ 0 ∷ 0 ∷ 0 ∷ 0 ∷ 0 ∷ 20 ∷ 66 ∷ 68 ∷ 0 ∷ 0 ∷ 0 ∷ 6 ∷ 0 ∷ 0 ∷ 0 ∷ 0 ∷ 0 ∷ 0 ∷ 0 ∷ 0 ∷ 255 ∷ 255 ∷ 0 ∷ 4 ∷ 0 ∷ 0 ∷ 0 ∷ 0 ∷ 0 ∷ 0 ∷ 0 ∷ 0 ∷ 0 ∷ 20 ∷ 66 ∷ 68 ∷ 0 ∷ 0 ∷ 0 ∷ 7 ∷ 0 ∷ 0 ∷ 0 ∷ 0 ∷ 0 ∷ 0 ∷ 0 ∷ 0 ∷ 255 ∷ 255 ∷ 0 ∷ 4 ∷ 0 ∷ 0 ∷ 0 ∷ 0 ∷ 0 ∷ 0 ∷ 0 ∷ 0 ∷ 0 ∷ 20 ∷ 78 ∷ 71 ∷ 0 ∷ 0 ∷ 0 ∷ 130 ∷ 0 ∷ 30 ∷ 132 ∷ 128 ∷ 82 ∷ 67 ∷ 255 ∷ 255 ∷ 255 ∷ 156 ∷ 0 ∷ 0 ∷ 0 ∷ 100 ∷ []
+
+unfoldable eight-boxes : List ℕ
+eight-boxes = 83 ∷ 72 ∷ 1 ∷ 1 ∷ 8 ∷ 0 ∷ 0 ∷ 4 ∷ 0 ∷ 4 ∷ 0 ∷ 4 ∷ 255 ∷ 255 ∷ 255 ∷ 231 ∷ 0 ∷ 0 ∷ 0 ∷ 25 ∷ 0 ∷ 5 ∷ 66 ∷ 68 ∷ 255 ∷ 225 ∷ 123 ∷ 128 ∷ 0 ∷ 0 ∷ 0 ∷ 0 ∷ 0 ∷ 0 ∷ 0 ∷ 0 ∷ 255 ∷ 255 ∷ 0 ∷ 4 ∷ 0 ∷ 0 ∷ 0 ∷ 0 ∷ 0 ∷ 0 ∷ 0 ∷ 0 ∷ 0 ∷ 20 ∷ 78 ∷ 71 ∷ 0 ∷ 0 ∷ 0 ∷ 130 ∷ 0 ∷ 30 ∷ 132 ∷ 128 ∷ 78 ∷ 71 ∷ 0 ∷ 0 ∷ 0 ∷ 130 ∷ 0 ∷ 30 ∷ 132 ∷ 128 ∷ 78 ∷ 71 ∷ 0 ∷ 0 ∷ 0 ∷ 130 ∷ 0 ∷ 30 ∷ 132 ∷ 128 ∷ 78 ∷ 71 ∷ 0 ∷ 0 ∷ 0 ∷ 130 ∷ 0 ∷ 30 ∷ 132 ∷ 128 ∷ 78 ∷ 71 ∷ 0 ∷ 0 ∷ 0 ∷ 130 ∷ 0 ∷ 30 ∷ 132 ∷ 128 ∷ 78 ∷ 71 ∷ 0 ∷ 0 ∷ 0 ∷ 130 ∷ 0 ∷ 30 ∷ 132 ∷ 128 ∷ 78 ∷ 71 ∷ 0 ∷ 0 ∷ 0 ∷ 130 ∷ 0 ∷ 30 ∷ 132 ∷ 128 ∷ 78 ∷ 71 ∷ 0 ∷ 0 ∷ 0 ∷ 130 ∷ 0 ∷ 30 ∷ 132 ∷ 128 ∷ 82 ∷ 67 ∷ 255 ∷ 255 ∷ 255 ∷ 156 ∷ 0 ∷ 0 ∷ 0 ∷ 100 ∷ []
+
+unfoldable four-variables : List ℕ
+four-variables = 83 ∷ 72 ∷ 4 ∷ 1 ∷ 1 ∷ 0 ∷ 0 ∷ 4 ∷ 0 ∷ 4 ∷ 0 ∷ 4 ∷ 255 ∷ 255 ∷ 255 ∷ 231 ∷ 0 ∷ 0 ∷ 0 ∷ 25 ∷ 0 ∷ 5 ∷ 0 ∷ 5 ∷ 0 ∷ 5 ∷ 0 ∷ 5 ∷ 66 ∷ 68 ∷ 255 ∷ 225 ∷ 123 ∷ 128 ∷ 0 ∷ 0 ∷ 0 ∷ 0 ∷ 0 ∷ 0 ∷ 0 ∷ 0 ∷ 255 ∷ 255 ∷ 0 ∷ 0 ∷ 0 ∷ 0 ∷ 0 ∷ 0 ∷ 0 ∷ 4 ∷ 0 ∷ 0 ∷ 0 ∷ 0 ∷ 0 ∷ 0 ∷ 0 ∷ 0 ∷ 0 ∷ 20 ∷ 0 ∷ 0 ∷ 255 ∷ 255 ∷ 0 ∷ 0 ∷ 0 ∷ 0 ∷ 0 ∷ 4 ∷ 0 ∷ 0 ∷ 0 ∷ 0 ∷ 0 ∷ 0 ∷ 0 ∷ 0 ∷ 0 ∷ 20 ∷ 0 ∷ 0 ∷ 0 ∷ 0 ∷ 255 ∷ 255 ∷ 0 ∷ 0 ∷ 0 ∷ 4 ∷ 0 ∷ 0 ∷ 0 ∷ 0 ∷ 0 ∷ 0 ∷ 0 ∷ 0 ∷ 0 ∷ 20 ∷ 0 ∷ 0 ∷ 0 ∷ 0 ∷ 0 ∷ 0 ∷ 255 ∷ 255 ∷ 0 ∷ 4 ∷ 0 ∷ 0 ∷ 0 ∷ 0 ∷ 0 ∷ 0 ∷ 0 ∷ 0 ∷ 0 ∷ 20 ∷ 78 ∷ 71 ∷ 0 ∷ 0 ∷ 0 ∷ 130 ∷ 0 ∷ 30 ∷ 132 ∷ 128 ∷ 0 ∷ 0 ∷ 0 ∷ 130 ∷ 0 ∷ 30 ∷ 132 ∷ 128 ∷ 0 ∷ 0 ∷ 0 ∷ 130 ∷ 0 ∷ 30 ∷ 132 ∷ 128 ∷ 0 ∷ 0 ∷ 0 ∷ 130 ∷ 0 ∷ 30 ∷ 132 ∷ 128 ∷ 82 ∷ 67 ∷ 255 ∷ 255 ∷ 255 ∷ 156 ∷ 0 ∷ 0 ∷ 0 ∷ 100 ∷ 255 ∷ 255 ∷ 255 ∷ 156 ∷ 0 ∷ 0 ∷ 0 ∷ 100 ∷ 255 ∷ 255 ∷ 255 ∷ 156 ∷ 0 ∷ 0 ∷ 0 ∷ 100 ∷ 255 ∷ 255 ∷ 255 ∷ 156 ∷ 0 ∷ 0 ∷ 0 ∷ 100 ∷ []
+
+unfoldable two-bands : List ℕ
+two-bands = 83 ∷ 72 ∷ 1 ∷ 2 ∷ 1 ∷ 0 ∷ 0 ∷ 4 ∷ 0 ∷ 4 ∷ 0 ∷ 4 ∷ 255 ∷ 255 ∷ 255 ∷ 231 ∷ 0 ∷ 0 ∷ 0 ∷ 25 ∷ 0 ∷ 5 ∷ 66 ∷ 68 ∷ 255 ∷ 225 ∷ 123 ∷ 128 ∷ 0 ∷ 0 ∷ 0 ∷ 0 ∷ 0 ∷ 0 ∷ 0 ∷ 0 ∷ 255 ∷ 255 ∷ 0 ∷ 4 ∷ 0 ∷ 0 ∷ 0 ∷ 0 ∷ 0 ∷ 0 ∷ 0 ∷ 0 ∷ 0 ∷ 20 ∷ 66 ∷ 68 ∷ 0 ∷ 0 ∷ 0 ∷ 0 ∷ 0 ∷ 0 ∷ 0 ∷ 0 ∷ 0 ∷ 0 ∷ 0 ∷ 0 ∷ 255 ∷ 255 ∷ 0 ∷ 4 ∷ 0 ∷ 0 ∷ 0 ∷ 0 ∷ 0 ∷ 0 ∷ 0 ∷ 0 ∷ 0 ∷ 20 ∷ 78 ∷ 71 ∷ 0 ∷ 0 ∷ 0 ∷ 130 ∷ 0 ∷ 30 ∷ 132 ∷ 128 ∷ 82 ∷ 67 ∷ 255 ∷ 255 ∷ 255 ∷ 156 ∷ 0 ∷ 0 ∷ 0 ∷ 100 ∷ []
+
+delta-1 : refusal (sets fileA 6 (0 ∷ 1 ∷ [])) ≡ 0
+unfolding everything
+delta-1 = refl
+
+delta-0 : refusal (sets fileA 6 (0 ∷ 0 ∷ [])) ≡ 3
+unfolding everything
+delta-0 = refl
+
+alpha-1 : refusal (sets fileA 8 (0 ∷ 1 ∷ [])) ≡ 0
+unfolding everything
+alpha-1 = refl
+
+alpha-0 : refusal (sets fileA 8 (0 ∷ 0 ∷ [])) ≡ 3
+unfolding everything
+alpha-0 = refl
+
+delta-996 : refusal (sets fileA 6 (3 ∷ 228 ∷ [])) ≡ 0
+unfolding everything
+delta-996 = refl
+
+delta-997 : refusal (sets fileA 6 (3 ∷ 229 ∷ [])) ≡ 3
+unfolding everything
+delta-997 = refl
+
+alpha-996 : refusal (sets fileA 8 (3 ∷ 228 ∷ [])) ≡ 0
+unfolding everything
+alpha-996 = refl
+
+alpha-997 : refusal (sets fileA 8 (3 ∷ 229 ∷ [])) ≡ 3
+unfolding everything
+alpha-997 = refl
+
+rho-1 : refusal (sets fileA 10 (0 ∷ 1 ∷ [])) ≡ 0
+unfolding everything
+rho-1 = refl
+
+rho-0 : refusal (sets fileA 10 (0 ∷ 0 ∷ [])) ≡ 3
+unfolding everything
+rho-0 = refl
+
+rho-1000 : refusal (sets fileA 10 (3 ∷ 232 ∷ [])) ≡ 0
+unfolding everything
+rho-1000 = refl
+
+rho-1001 : refusal (sets fileA 10 (3 ∷ 233 ∷ [])) ≡ 3
+unfolding everything
+rho-1001 = refl
+
+least-command-minus-10000 : refusal (sets fileA 12 (255 ∷ 255 ∷ 216 ∷ 240 ∷ [])) ≡ 0
+unfolding everything
+least-command-minus-10000 = refl
+
+least-command-minus-10001 : refusal (sets fileA 12 (255 ∷ 255 ∷ 216 ∷ 239 ∷ [])) ≡ 4
+unfolding everything
+least-command-minus-10001 = refl
+
+greatest-command-10000 : refusal (sets fileA 16 (0 ∷ 0 ∷ 39 ∷ 16 ∷ [])) ≡ 0
+unfolding everything
+greatest-command-10000 = refl
+
+greatest-command-10001 : refusal (sets fileA 16 (0 ∷ 0 ∷ 39 ∷ 17 ∷ [])) ≡ 4
+unfolding everything
+greatest-command-10001 = refl
+
+cap-1 : refusal (sets fileA 20 (0 ∷ 1 ∷ [])) ≡ 0
+unfolding everything
+cap-1 = refl
+
+cap-0 : refusal (sets fileA 20 (0 ∷ 0 ∷ [])) ≡ 6
+unfolding everything
+cap-0 = refl
+
+cap-1000 : refusal (sets fileA 20 (3 ∷ 232 ∷ [])) ≡ 0
+unfolding everything
+cap-1000 = refl
+
+cap-1001 : refusal (sets fileA 20 (3 ∷ 233 ∷ [])) ≡ 6
+unfolding everything
+cap-1001 = refl
+
+safety-least-minus-25 : refusal (sets fileA 28 (255 ∷ 255 ∷ 255 ∷ 231 ∷ [])) ≡ 0
+unfolding everything
+safety-least-minus-25 = refl
+
+safety-least-minus-26 : refusal (sets fileA 28 (255 ∷ 255 ∷ 255 ∷ 230 ∷ [])) ≡ 9
+unfolding everything
+safety-least-minus-26 = refl
+
+safety-greatest-25 : refusal (sets fileA 32 (0 ∷ 0 ∷ 0 ∷ 25 ∷ [])) ≡ 0
+unfolding everything
+safety-greatest-25 = refl
+
+safety-greatest-26 : refusal (sets fileA 32 (0 ∷ 0 ∷ 0 ∷ 26 ∷ [])) ≡ 9
+unfolding everything
+safety-greatest-26 = refl
+
+a-minus-1000 : refusal (sets fileA 36 (252 ∷ 24 ∷ [])) ≡ 0
+unfolding everything
+a-minus-1000 = refl
+
+a-minus-1001 : refusal (sets fileA 36 (252 ∷ 23 ∷ [])) ≡ 10
+unfolding everything
+a-minus-1001 = refl
+
+a-1000 : refusal (sets fileA 36 (3 ∷ 232 ∷ [])) ≡ 0
+unfolding everything
+a-1000 = refl
+
+a-1001 : refusal (sets fileA 36 (3 ∷ 233 ∷ [])) ≡ 10
+unfolding everything
+a-1001 = refl
+
+b-minus-1000 : refusal (sets fileA 38 (252 ∷ 24 ∷ [])) ≡ 0
+unfolding everything
+b-minus-1000 = refl
+
+b-minus-1001 : refusal (sets fileA 38 (252 ∷ 23 ∷ [])) ≡ 10
+unfolding everything
+b-minus-1001 = refl
+
+b-1000 : refusal (sets fileA 38 (3 ∷ 232 ∷ [])) ≡ 0
+unfolding everything
+b-1000 = refl
+
+b-1001 : refusal (sets fileA 38 (3 ∷ 233 ∷ [])) ≡ 10
+unfolding everything
+b-1001 = refl
+
+c-minus-100000000 : refusal (sets fileA 40 (250 ∷ 10 ∷ 31 ∷ 0 ∷ [])) ≡ 0
+unfolding everything
+c-minus-100000000 = refl
+
+c-minus-100000001 : refusal (sets fileA 40 (250 ∷ 10 ∷ 30 ∷ 255 ∷ [])) ≡ 10
+unfolding everything
+c-minus-100000001 = refl
+
+c-100000000 : refusal (sets fileA 40 (5 ∷ 245 ∷ 225 ∷ 0 ∷ [])) ≡ 0
+unfolding everything
+c-100000000 = refl
+
+c-100000001 : refusal (sets fileA 40 (5 ∷ 245 ∷ 225 ∷ 1 ∷ [])) ≡ 10
+unfolding everything
+c-100000001 = refl
+
+d-0 : refusal (sets fileA 44 (0 ∷ 0 ∷ 0 ∷ 0 ∷ [])) ≡ 0
+unfolding everything
+d-0 = refl
+
+d-minus-1 : refusal (sets fileA 44 (255 ∷ 255 ∷ 255 ∷ 255 ∷ [])) ≡ 10
+unfolding everything
+d-minus-1 = refl
+
+d-100000000 : refusal (sets fileA 44 (5 ∷ 245 ∷ 225 ∷ 0 ∷ [])) ≡ 0
+unfolding everything
+d-100000000 = refl
+
+d-100000001 : refusal (sets fileA 44 (5 ∷ 245 ∷ 225 ∷ 1 ∷ [])) ≡ 10
+unfolding everything
+d-100000001 = refl
+
+q-1 : refusal (sets fileA 48 (0 ∷ 1 ∷ [])) ≡ 0
+unfolding everything
+q-1 = refl
+
+q-0 : refusal (sets fileA 48 (0 ∷ 0 ∷ [])) ≡ 10
+unfolding everything
+q-0 = refl
+
+q-4096 : refusal (sets fileA 48 (16 ∷ 0 ∷ [])) ≡ 0
+unfolding everything
+q-4096 = refl
+
+q-4097 : refusal (sets fileA 48 (16 ∷ 1 ∷ [])) ≡ 10
+unfolding everything
+q-4097 = refl
+
+unsafe-lower-minus-2000000 : refusal (sets fileA 52 (255 ∷ 225 ∷ 123 ∷ 128 ∷ [])) ≡ 0
+unfolding everything
+unsafe-lower-minus-2000000 = refl
+
+unsafe-lower-minus-2000001 : refusal (sets fileA 52 (255 ∷ 225 ∷ 123 ∷ 127 ∷ [])) ≡ 11
+unfolding everything
+unsafe-lower-minus-2000001 = refl
+
+unsafe-upper-2000000 : refusal (sets fileA 56 (0 ∷ 30 ∷ 132 ∷ 128 ∷ [])) ≡ 0
+unfolding everything
+unsafe-upper-2000000 = refl
+
+unsafe-upper-2000001 : refusal (sets fileA 56 (0 ∷ 30 ∷ 132 ∷ 129 ∷ [])) ≡ 11
+unfolding everything
+unsafe-upper-2000001 = refl
+
+recovery-lower-minus-1000000 : refusal (sets fileA 62 (255 ∷ 240 ∷ 189 ∷ 192 ∷ [])) ≡ 0
+unfolding everything
+recovery-lower-minus-1000000 = refl
+
+recovery-lower-minus-1000001 : refusal (sets fileA 62 (255 ∷ 240 ∷ 189 ∷ 191 ∷ [])) ≡ 11
+unfolding everything
+recovery-lower-minus-1000001 = refl
+
+recovery-upper-1000000 : refusal (sets fileA 66 (0 ∷ 15 ∷ 66 ∷ 64 ∷ [])) ≡ 0
+unfolding everything
+recovery-upper-1000000 = refl
+
+recovery-upper-1000001 : refusal (sets fileA 66 (0 ∷ 15 ∷ 66 ∷ 65 ∷ [])) ≡ 11
+unfolding everything
+recovery-upper-1000001 = refl
+
+no-variable : refusal (sets fileA 2 (0 ∷ [])) ≡ 2
+unfolding everything
+no-variable = refl
+
+five-variables : refusal (sets fileA 2 (5 ∷ [])) ≡ 2
+unfolding everything
+five-variables = refl
+
+no-band : refusal (sets fileA 3 (0 ∷ [])) ≡ 2
+unfolding everything
+no-band = refl
+
+nine-bands : refusal (sets fileA 3 (9 ∷ [])) ≡ 2
+unfolding everything
+nine-bands = refl
+
+no-unsafe-box : refusal (sets fileA 4 (0 ∷ [])) ≡ 2
+unfolding everything
+no-unsafe-box = refl
+
+nine-unsafe-boxes : refusal (sets fileA 4 (9 ∷ [])) ≡ 2
+unfolding everything
+nine-unsafe-boxes = refl
+
+sheet-of-eight-bands : refusal eight-bands ≡ 0
+unfolding eight-bands everything
+sheet-of-eight-bands = refl
+
+sheet-of-eight-boxes : refusal eight-boxes ≡ 0
+unfolding eight-boxes everything
+sheet-of-eight-boxes = refl
+
+band-variable-1-of-1 : refusal (sets fileA 5 (1 ∷ [])) ≡ 2
+unfolding everything
+band-variable-1-of-1 = refl
+
+band-variable-3-of-4 : refusal (sets four-variables 5 (3 ∷ [])) ≡ 0
+unfolding four-variables everything
+band-variable-3-of-4 = refl
+
+band-variable-4-of-4 : refusal (sets four-variables 5 (4 ∷ [])) ≡ 2
+unfolding four-variables everything
+band-variable-4-of-4 = refl
+
+first-edge-below : refusal (sets fileA 24 (255 ∷ 225 ∷ 123 ∷ 127 ∷ [])) ≡ 8
+unfolding everything
+first-edge-below = refl
+
+first-edge-above : refusal (sets fileA 24 (255 ∷ 225 ∷ 123 ∷ 129 ∷ [])) ≡ 8
+unfolding everything
+first-edge-above = refl
+
+second-edge-equal : refusal (sets two-bands 52 (255 ∷ 225 ∷ 123 ∷ 128 ∷ [])) ≡ 8
+unfolding two-bands everything
+second-edge-equal = refl
+
+second-edge-greater-by-1 : refusal (sets two-bands 52 (255 ∷ 225 ∷ 123 ∷ 129 ∷ [])) ≡ 0
+unfolding two-bands everything
+second-edge-greater-by-1 = refl
+
+second-edge-2000000 : refusal (sets two-bands 52 (0 ∷ 30 ∷ 132 ∷ 128 ∷ [])) ≡ 0
+unfolding two-bands everything
+second-edge-2000000 = refl
+
+second-edge-2000001 : refusal (sets two-bands 52 (0 ∷ 30 ∷ 132 ∷ 129 ∷ [])) ≡ 8
+unfolding two-bands everything
+second-edge-2000001 = refl
+
+one-command : refusal (sets fileA 12 (0 ∷ 0 ∷ 0 ∷ 0 ∷ 0 ∷ 0 ∷ 0 ∷ 0 ∷ [])) ≡ 0
+unfolding everything
+one-command = refl
+
+commands-reversed : refusal (sets fileA 12 (0 ∷ 0 ∷ 0 ∷ 1 ∷ 0 ∷ 0 ∷ 0 ∷ 0 ∷ [])) ≡ 4
+unfolding everything
+commands-reversed = refl
+
+one-safety-command : refusal (sets fileA 28 (0 ∷ 0 ∷ 0 ∷ 3 ∷ 0 ∷ 0 ∷ 0 ∷ 3 ∷ [])) ≡ 0
+unfolding everything
+one-safety-command = refl
+
+safety-reversed : refusal (sets fileA 28 (0 ∷ 0 ∷ 0 ∷ 3 ∷ 0 ∷ 0 ∷ 0 ∷ 2 ∷ [])) ≡ 9
+unfolding everything
+safety-reversed = refl
+
+unsafe-box-of-one-state : refusal (sets fileA 52 (0 ∷ 0 ∷ 0 ∷ 5 ∷ 0 ∷ 0 ∷ 0 ∷ 5 ∷ [])) ≡ 0
+unfolding everything
+unsafe-box-of-one-state = refl
+
+unsafe-box-reversed : refusal (sets fileA 52 (0 ∷ 0 ∷ 0 ∷ 5 ∷ 0 ∷ 0 ∷ 0 ∷ 4 ∷ [])) ≡ 11
+unfolding everything
+unsafe-box-reversed = refl
+
+recovery-box-of-one-state : refusal (sets fileA 62 (0 ∷ 0 ∷ 0 ∷ 5 ∷ 0 ∷ 0 ∷ 0 ∷ 5 ∷ [])) ≡ 0
+unfolding everything
+recovery-box-of-one-state = refl
+
+recovery-box-reversed : refusal (sets fileA 62 (0 ∷ 0 ∷ 0 ∷ 5 ∷ 0 ∷ 0 ∷ 0 ∷ 4 ∷ [])) ≡ 11
+unfolding everything
+recovery-box-reversed = refl
+
+sheet-a : refusal fileA ≡ 0
+unfolding everything
+sheet-a = refl
+
+file-of-19-bytes : refusal (take 19 fileA) ≡ 1
+unfolding everything
+file-of-19-bytes = refl
+
+file-of-20-bytes : refusal (take 20 fileA) ≡ 5
+unfolding everything
+file-of-20-bytes = refl
+
+file-a-byte-short : refusal (take 69 fileA) ≡ 5
+unfolding everything
+file-a-byte-short = refl
+
+file-a-byte-long : refusal (fileA ++ (0 ∷ [])) ≡ 5
+unfolding everything
+file-a-byte-long = refl
+
+head-mark-before-counts : refusal (sets (sets fileA 0 (88 ∷ 88 ∷ [])) 2 (0 ∷ [])) ≡ 1
+unfolding everything
+head-mark-before-counts = refl
+
+counts-before-times : refusal (sets (sets fileA 5 (1 ∷ [])) 6 (0 ∷ 0 ∷ [])) ≡ 2
+unfolding everything
+counts-before-times = refl
+
+times-before-commands : refusal (sets (sets fileA 10 (0 ∷ 0 ∷ [])) 12 (0 ∷ 0 ∷ 0 ∷ 1 ∷ 0 ∷ 0 ∷ 0 ∷ 0 ∷ [])) ≡ 3
+unfolding everything
+times-before-commands = refl
+
+commands-before-length : refusal (take 69 (sets fileA 12 (0 ∷ 0 ∷ 0 ∷ 1 ∷ 0 ∷ 0 ∷ 0 ∷ 0 ∷ []))) ≡ 4
+unfolding everything
+commands-before-length = refl
+
+length-before-cap : refusal (take 69 (sets fileA 20 (0 ∷ 0 ∷ []))) ≡ 5
+unfolding everything
+length-before-cap = refl
+
+cap-before-mark : refusal (sets (sets fileA 22 (88 ∷ 88 ∷ [])) 20 (0 ∷ 0 ∷ [])) ≡ 6
+unfolding everything
+cap-before-mark = refl
+
+band-mark-before-edge : refusal (sets (sets fileA 22 (88 ∷ 88 ∷ [])) 24 (0 ∷ 0 ∷ 0 ∷ 0 ∷ [])) ≡ 7
+unfolding everything
+band-mark-before-edge = refl
+
+edge-before-safety : refusal (sets (sets fileA 24 (0 ∷ 0 ∷ 0 ∷ 0 ∷ [])) 28 (0 ∷ 0 ∷ 0 ∷ 1 ∷ 0 ∷ 0 ∷ 0 ∷ 0 ∷ [])) ≡ 8
+unfolding everything
+edge-before-safety = refl
+
+safety-before-row : refusal (sets (sets fileA 28 (0 ∷ 0 ∷ 0 ∷ 1 ∷ 0 ∷ 0 ∷ 0 ∷ 0 ∷ [])) 48 (0 ∷ 0 ∷ [])) ≡ 9
+unfolding everything
+safety-before-row = refl
+
+row-before-next-mark : refusal (sets (sets two-bands 48 (0 ∷ 0 ∷ [])) 50 (88 ∷ 88 ∷ [])) ≡ 10
+unfolding two-bands everything
+row-before-next-mark = refl
+
+row-before-unsafe-mark : refusal (sets (sets fileA 50 (88 ∷ 88 ∷ [])) 48 (0 ∷ 0 ∷ [])) ≡ 10
+unfolding everything
+row-before-unsafe-mark = refl
+
+unsafe-mark-before-side : refusal (sets (sets fileA 50 (88 ∷ 88 ∷ [])) 52 (0 ∷ 0 ∷ 0 ∷ 1 ∷ 0 ∷ 0 ∷ 0 ∷ 0 ∷ [])) ≡ 7
+unfolding everything
+unsafe-mark-before-side = refl
+
+unsafe-side-before-mark : refusal (sets (sets fileA 60 (88 ∷ 88 ∷ [])) 52 (0 ∷ 0 ∷ 0 ∷ 1 ∷ 0 ∷ 0 ∷ 0 ∷ 0 ∷ [])) ≡ 11
+unfolding everything
+unsafe-side-before-mark = refl
+
+recovery-mark-before-side : refusal (sets (sets fileA 60 (88 ∷ 88 ∷ [])) 62 (0 ∷ 0 ∷ 0 ∷ 1 ∷ 0 ∷ 0 ∷ 0 ∷ 0 ∷ [])) ≡ 7
+unfolding everything
+recovery-mark-before-side = refl
+
+room-just-enough : writeRefusal (values fileA) (replicate 70 0) 0 ≡ 0
+unfolding everything
+room-just-enough = refl
+
+room-a-byte-short : writeRefusal (values fileA) (replicate 69 0) 0 ≡ 17
+unfolding everything
+room-a-byte-short = refl
+
+room-from-a-place : writeRefusal (values fileA) (replicate 75 0) 5 ≡ 0
+unfolding everything
+room-from-a-place = refl
+
+room-from-a-place-a-byte-short : writeRefusal (values fileA) (replicate 74 0) 5 ≡ 17
+unfolding everything
+room-from-a-place-a-byte-short = refl
+
+place-past-the-buffer : writeRefusal (values fileA) (replicate 70 0) 71 ≡ 17
+unfolding everything
+place-past-the-buffer = refl
+
+greatest-place : writeRefusal (values fileA) (replicate 70 0) 18446744073709551615 ≡ 17
+unfolding everything
+greatest-place = refl
+
+written-rho-1000 : writeRefusal (sets (values fileA) 6 (pos 1000 ∷ [])) (replicate 70 0) 0 ≡ 0
+unfolding everything
+written-rho-1000 = refl
+
+written-rho-1001 : writeRefusal (sets (values fileA) 6 (pos 1001 ∷ [])) (replicate 70 0) 0 ≡ 3
+unfolding everything
+written-rho-1001 = refl
+
+value-before-room : writeRefusal (sets (values fileA) 6 (pos 1001 ∷ [])) (replicate 69 0) 0 ≡ 3
+unfolding everything
+value-before-room = refl

@@ -1,0 +1,557 @@
+//! Prints `limits.txt`: numbers at each of document 01's bounds and one past it, the first of two refusals, and listings,
+//! with the answers of the second guard. Each line says by which number it is refused, and the program stops where it is not.
+
+use second_guard::decision::{decide, Decision};
+use second_guard::listing::listing;
+use second_guard::boxes::StateBox;
+use second_guard::reach::{reach, Law};
+use second_guard::sheet::{self, Refusal, Sheet};
+use std::fmt::Write;
+
+/// Bytes, and how a line writes them: the name of a file, then what is changed in it.
+#[derive(Clone)]
+struct File {
+    text: String,
+    bytes: Vec<u8>,
+}
+
+impl File {
+    fn named(name: &str, bytes: Vec<u8>) -> File {
+        let text = name.into();
+        File { text, bytes }
+    }
+
+    /// With other bytes from a place on.
+    fn with(mut self, place: usize, new: &[u8]) -> File {
+        self.bytes[place..place + new.len()].copy_from_slice(new);
+        let _ = write!(self.text, "@{place}:{}", hex(new));
+        self
+    }
+
+    /// With another number at a place.
+    fn number(self, place: usize, size: usize, value: i64) -> File {
+        self.with(place, &value.to_be_bytes()[8 - size..])
+    }
+
+    /// With two other numbers of four bytes each from a place on.
+    fn pair(self, place: usize, pair: (i32, i32)) -> File {
+        self.with(place, &numbers(&[pair.0, pair.1]))
+    }
+
+    /// The first bytes alone.
+    fn first(mut self, length: usize) -> File {
+        self.bytes.truncate(length);
+        let _ = write!(self.text, "<{length}");
+        self
+    }
+
+    /// With further bytes after it.
+    fn and(mut self, more: &[u8]) -> File {
+        self.bytes.extend(more);
+        let _ = write!(self.text, "+{}", hex(more));
+        self
+    }
+}
+
+fn hex(bytes: &[u8]) -> String {
+    bytes.iter().fold(String::new(), |mut text, byte| {
+        let _ = write!(text, "{byte:02x}");
+        text
+    })
+}
+
+fn numbers(values: &[i32]) -> Vec<u8> {
+    values
+        .iter()
+        .flat_map(|value| value.to_be_bytes())
+        .collect()
+}
+
+// ---- the files that the others start from
+
+/// A sheet like document 01's sheet A: n variables with A's row, bands with these edges, and this number of no-go boxes.
+fn like_a(n: u8, edges: &[i32], boxes: u8) -> Vec<u8> {
+    let sides = |mark: &[u8], pair: [i32; 2]| [mark, &numbers(&pair).repeat(n.into())].concat();
+    let mut bytes = [b'S', b'H', n, edges.len() as u8, boxes, 0, 0, 4, 0, 4, 0, 4].to_vec();
+    bytes.extend(numbers(&[-25, 25]));
+    bytes.extend([0, 5].repeat(n.into()));
+    for edge in edges {
+        bytes.extend([b"BD", &numbers(&[*edge, 0, 0])[..]].concat());
+        for i in 0..n {
+            bytes.extend((0..n).flat_map(|j| if i == j { [255, 255] } else { [0, 0] }));
+            bytes.extend([&[0, 4], &numbers(&[0, 0])[..], &[0, 20]].concat());
+        }
+    }
+    bytes.extend(sides(b"NG", [130, 2_000_000]).repeat(boxes.into()));
+    bytes.extend(sides(b"RC", [-100, 100]));
+    bytes
+}
+
+const FIRST: i32 = -2_000_000;
+
+/// Sheet A.
+fn a() -> File {
+    File::named("A", like_a(1, &[FIRST], 1))
+}
+
+/// Sheet A's first question: allowance 100, command 25, box 0..0.
+fn q() -> File {
+    File::named("Q", [b"QS", &numbers(&[100, 25, 0, 0])[..]].concat())
+}
+
+fn two_bands() -> File {
+    File::named("two_bands", like_a(1, &[FIRST, 0], 1))
+}
+
+fn eight_bands() -> File {
+    File::named("eight_bands", like_a(1, &[FIRST, 1, 2, 3, 4, 5, 6, 7], 1))
+}
+
+fn eight_boxes() -> File {
+    File::named("eight_boxes", like_a(1, &[FIRST], 8))
+}
+
+fn four_variables() -> File {
+    File::named("four_variables", like_a(4, &[FIRST], 1))
+}
+
+// ---- reading a sheet
+
+/// A number of sheet A: its name, place and size; the last value that is allowed, the first one past it, and the refusal.
+type Bound = (&'static str, usize, usize, i64, i64, u8);
+
+const BOUNDS: &[Bound] = &[
+    ("delta", 6, 2, 1, 0, 3),
+    ("alpha", 8, 2, 1, 0, 3),
+    // with the other one 4, so that their sum is 1,000 and 1,001
+    ("delta", 6, 2, 996, 997, 3),
+    ("alpha", 8, 2, 996, 997, 3),
+    ("rho", 10, 2, 1, 0, 3),
+    ("rho", 10, 2, 1_000, 1_001, 3),
+    ("least_command", 12, 4, -10_000, -10_001, 4),
+    ("greatest_command", 16, 4, 10_000, 10_001, 4),
+    ("cap", 20, 2, 1, 0, 6),
+    ("cap", 20, 2, 1_000, 1_001, 6),
+    // the safety range within the head's commands
+    ("safety_least", 28, 4, -25, -26, 9),
+    ("safety_greatest", 32, 4, 25, 26, 9),
+    ("a", 36, 2, -1_000, -1_001, 10),
+    ("a", 36, 2, 1_000, 1_001, 10),
+    ("b", 38, 2, -1_000, -1_001, 10),
+    ("b", 38, 2, 1_000, 1_001, 10),
+    ("c", 40, 4, -100_000_000, -100_000_001, 10),
+    ("c", 40, 4, 100_000_000, 100_000_001, 10),
+    ("d", 44, 4, 0, -1, 10),
+    ("d", 44, 4, 100_000_000, 100_000_001, 10),
+    ("q", 48, 2, 1, 0, 10),
+    ("q", 48, 2, 4_096, 4_097, 10),
+    ("unsafe_lower", 52, 4, -2_000_000, -2_000_001, 11),
+    ("unsafe_upper", 56, 4, 2_000_000, 2_000_001, 11),
+    ("recovery_lower", 62, 4, -1_000_000, -1_000_001, 11),
+    ("recovery_upper", 66, 4, 1_000_000, 1_000_001, 11),
+];
+
+fn name_of(number: &str, value: i64) -> String {
+    let sign = if value < 0 { "minus_" } else { "" };
+    format!("{number}_{sign}{}", value.abs())
+}
+
+fn bounds() -> Vec<(String, File, u8)> {
+    let both = |&(name, place, size, last, past, refusal): &Bound| {
+        let at = |value| (name_of(name, value), a().number(place, size, value));
+        let ((last, allowed), (past, refused)) = (at(last), at(past));
+        [(last, allowed, 0), (past, refused, refusal)]
+    };
+    BOUNDS.iter().flat_map(both).collect()
+}
+
+fn counts() -> Vec<(&'static str, File, u8)> {
+    vec![
+        ("no_variable", a().with(2, &[0]), 2),
+        ("five_variables", a().with(2, &[5]), 2),
+        ("no_band", a().with(3, &[0]), 2),
+        ("nine_bands", a().with(3, &[9]), 2),
+        ("no_unsafe_box", a().with(4, &[0]), 2),
+        ("nine_unsafe_boxes", a().with(4, &[9]), 2),
+        ("sheet_of_eight_bands", eight_bands(), 0),
+        ("sheet_of_eight_boxes", eight_boxes(), 0),
+        ("band_variable_1_of_1", a().with(5, &[1]), 2),
+        ("band_variable_3_of_4", four_variables().with(5, &[3]), 0),
+        ("band_variable_4_of_4", four_variables().with(5, &[4]), 2),
+    ]
+}
+
+fn edges() -> Vec<(&'static str, File, u8)> {
+    let first = |edge| a().number(24, 4, edge);
+    let second = |edge| two_bands().number(52, 4, edge);
+    vec![
+        ("first_edge_below", first(-2_000_001), 8),
+        ("first_edge_above", first(-1_999_999), 8),
+        ("second_edge_equal", second(-2_000_000), 8),
+        ("second_edge_greater_by_1", second(-1_999_999), 0),
+        ("second_edge_2000000", second(2_000_000), 0),
+        ("second_edge_2000001", second(2_000_001), 8),
+    ]
+}
+
+/// Least and greatest in order: two numbers from a place on.
+fn ordered() -> Vec<(&'static str, File, u8)> {
+    let pair = |place, least, greatest| a().pair(place, (least, greatest));
+    vec![
+        ("one_command", pair(12, 0, 0), 0),
+        ("commands_reversed", pair(12, 1, 0), 4),
+        ("one_safety_command", pair(28, 3, 3), 0),
+        ("safety_reversed", pair(28, 3, 2), 9),
+        ("unsafe_box_of_one_state", pair(52, 5, 5), 0),
+        ("unsafe_box_reversed", pair(52, 5, 4), 11),
+        ("recovery_box_of_one_state", pair(62, 5, 5), 0),
+        ("recovery_box_reversed", pair(62, 5, 4), 11),
+    ]
+}
+
+fn lengths() -> Vec<(&'static str, File, u8)> {
+    vec![
+        ("sheet_a", a(), 0),
+        ("file_of_19_bytes", a().first(19), 1),
+        ("file_of_20_bytes", a().first(20), 5),
+        ("file_a_byte_short", a().first(69), 5),
+        ("file_a_byte_long", a().and(&[0]), 5),
+    ]
+}
+
+/// Two causes each: the first in document 01's order, and the other.
+fn first_of_two() -> Vec<(&'static str, File, u8)> {
+    let no_mark = |place| a().with(place, b"XX");
+    let row_then_mark = two_bands().number(48, 2, 0).with(50, b"XX");
+    vec![
+        ("head_mark_before_counts", no_mark(0).with(2, &[0]), 1),
+        ("counts_before_times", a().with(5, &[1]).number(6, 2, 0), 2),
+        (
+            "times_before_commands",
+            a().number(10, 2, 0).pair(12, (1, 0)),
+            3,
+        ),
+        ("commands_before_length", a().pair(12, (1, 0)).first(69), 4),
+        ("length_before_cap", a().number(20, 2, 0).first(69), 5),
+        ("cap_before_mark", no_mark(22).number(20, 2, 0), 6),
+        ("band_mark_before_edge", no_mark(22).number(24, 4, 0), 7),
+        (
+            "edge_before_safety",
+            a().number(24, 4, 0).pair(28, (1, 0)),
+            8,
+        ),
+        (
+            "safety_before_row",
+            a().pair(28, (1, 0)).number(48, 2, 0),
+            9,
+        ),
+        ("row_before_next_mark", row_then_mark, 10),
+        ("row_before_unsafe_mark", no_mark(50).number(48, 2, 0), 10),
+        ("unsafe_mark_before_side", no_mark(50).pair(52, (1, 0)), 7),
+        ("unsafe_side_before_mark", no_mark(60).pair(52, (1, 0)), 11),
+        ("recovery_mark_before_side", no_mark(60).pair(62, (1, 0)), 7),
+    ]
+}
+
+fn refusal_number<T>(answer: Result<T, Refusal>) -> u8 {
+    answer.err().map_or(0, Refusal::number)
+}
+
+/// Stops where the second guard does not refuse by this number; 0 is no refusal.
+fn expect(name: &str, given: u8, refusal: u8) {
+    assert_eq!(given, refusal, "{name}");
+}
+
+fn print_reads() {
+    let named = [counts(), edges(), ordered(), lengths(), first_of_two()].concat();
+    let named = named
+        .into_iter()
+        .map(|(name, file, refusal)| (name.into(), file, refusal));
+    for (name, file, refusal) in bounds().into_iter().chain(named) {
+        let given = refusal_number(sheet::read(&file.bytes));
+        expect(&name, given, refusal);
+        println!("{name} read sheet={} refusal={given}", file.text);
+    }
+}
+
+// ---- writing a sheet
+
+/// Sheet A's numbers, where `change` names a slot with the number in it; the bytes of the buffer, the place, the refusal.
+type Written = (&'static str, Option<(usize, i32)>, usize, u64, u8);
+
+const WRITTEN: &[Written] = &[
+    ("room_just_enough", None, 70, 0, 0),
+    ("room_a_byte_short", None, 69, 0, 17),
+    ("room_from_a_place", None, 75, 5, 0),
+    ("room_from_a_place_a_byte_short", None, 74, 5, 17),
+    ("place_past_the_buffer", None, 70, 71, 17),
+    ("greatest_place", None, 70, u64::MAX, 17),
+    ("written_rho_1000", Some((6, 1_000)), 70, 0, 0),
+    ("written_rho_1001", Some((6, 1_001)), 70, 0, 3),
+    ("value_before_room", Some((6, 1_001)), 69, 0, 3),
+];
+
+fn print_writes() {
+    let sheet = sheet::read(&a().bytes).expect("sheet A is accepted");
+    for &(name, change, room, place, refusal) in WRITTEN {
+        let mut numbers = sheet.numbers();
+        let mut text = "A".to_string();
+        if let Some((slot, number)) = change {
+            numbers[slot] = number;
+            text = format!("A@{slot}:{number}");
+        }
+        let written = sheet::write(&Sheet::from_numbers(&numbers), &mut vec![0; room], place);
+        let given = refusal_number(written);
+        expect(name, given, refusal);
+        println!("{name} write numbers={text} room={room} place={place} refusal={given}");
+    }
+}
+
+// ---- a reach
+
+struct Reach {
+    name: &'static str,
+    sheet: File,
+    ticks: u32,
+    width: u32,
+    law: Law,
+    start: (i32, i32),
+    refusal: u8,
+}
+
+fn reaches() -> Vec<Reach> {
+    let reach = |name, ticks, width, law, start, refusal| Reach {
+        name,
+        sheet: a(),
+        ticks,
+        width,
+        law,
+        start,
+        refusal,
+    };
+    let plain =
+        |name, ticks, width, refusal| reach(name, ticks, width, Law::Baseline, (95, 100), refusal);
+    let under =
+        |name, command, refusal| reach(name, 1, 1, Law::Command(command), (95, 100), refusal);
+    let from = |name, start, refusal| reach(name, 1, 1, Law::Baseline, start, refusal);
+    vec![
+        plain("ticks_0", 0, 1, 0),
+        plain("ticks_1", 1, 1, 0),
+        plain("ticks_1000", 1_000, 1_000, 0),
+        plain("ticks_1001", 1_001, 1_000, 16),
+        plain("width_0", 1, 0, 16),
+        plain("width_1", 2, 1, 0),
+        plain("width_1000", 2, 1_000, 0),
+        plain("width_1001", 2, 1_001, 16),
+        under("command_minus_25", -25, 0),
+        under("command_minus_26", -26, 14),
+        under("command_25", 25, 0),
+        under("command_26", 26, 14),
+        from("start_lower_minus_1000000", (-1_000_000, 0), 0),
+        from("start_lower_minus_1000001", (-1_000_001, 0), 15),
+        from("start_upper_1000000", (0, 1_000_000), 0),
+        from("start_upper_1000001", (0, 1_000_001), 15),
+        from("start_of_one_state", (5, 5), 0),
+        from("start_reversed", (5, 4), 15),
+        Reach {
+            sheet: a().first(69),
+            ..plain("sheet_before_ticks", 1_001, 1, 5)
+        },
+        reach(
+            "ticks_before_command",
+            1_001,
+            1,
+            Law::Command(26),
+            (0, 0),
+            16,
+        ),
+        reach("width_before_command", 1, 0, Law::Command(26), (0, 0), 16),
+        reach("command_before_start", 1, 1, Law::Command(26), (5, 4), 14),
+    ]
+}
+
+/// The box of one variable.
+fn interval(sides: (i32, i32)) -> StateBox {
+    StateBox {
+        lower: [sides.0.into(), 0, 0, 0],
+        upper: [sides.1.into(), 0, 0, 0],
+    }
+}
+
+fn print_reaches() {
+    for example in reaches() {
+        let Reach {
+            name,
+            sheet,
+            ticks,
+            width,
+            law,
+            start,
+            refusal,
+        } = example;
+        let given = sheet::read(&sheet.bytes)
+            .and_then(|read| reach(&read, ticks, width, law, &interval(start)));
+        expect(name, refusal_number(given), refusal);
+        let sides = |of: &StateBox| format!("{}..{}", of.lower[0], of.upper[0]);
+        let answer = match given {
+            Ok(to) => {
+                let (end, swept) = (sides(&to.end), sides(&to.swept));
+                format!("end={end} swept={swept} rounds={}", to.rounds)
+            }
+            Err(refusal) => format!("refused={}", refusal.number()),
+        };
+        let (law, command) = match law {
+            Law::Baseline => (0, 0),
+            Law::Command(command) => (1, command),
+        };
+        let start = hex(&numbers(&[start.0, start.1]));
+        println!("{name} reach sheet={} ticks={ticks} width={width} law={law} command={command} start={start} {answer}", sheet.text);
+    }
+}
+
+// ---- decisions
+
+fn decisions() -> Vec<(&'static str, File, File, u8)> {
+    let allowance = |value| q().number(2, 4, value);
+    let command = |value| q().number(6, 4, value);
+    let measured = |lower, upper| q().pair(10, (lower, upper));
+    let over = || allowance(1_000_001);
+    let short_sheet = || a().first(69);
+    let questions = [
+        ("allowance_0", allowance(0), 0),
+        ("allowance_1000000", allowance(1_000_000), 0),
+        ("allowance_1000001", over(), 13),
+        ("asked_command_minus_25", command(-25), 0),
+        ("asked_command_minus_26", command(-26), 14),
+        ("asked_command_25", command(25), 0),
+        ("asked_command_26", command(26), 14),
+        ("measured_lower_minus_1000000", measured(-1_000_000, 0), 0),
+        ("measured_lower_minus_1000001", measured(-1_000_001, 0), 15),
+        ("measured_upper_1000000", measured(0, 1_000_000), 0),
+        ("measured_upper_1000001", measured(0, 1_000_001), 15),
+        ("measured_one_state", measured(5, 5), 0),
+        ("measured_reversed", measured(5, 4), 15),
+        ("question_a_byte_short", q().first(17), 12),
+        ("question_a_byte_long", q().and(&[0]), 12),
+        ("no_question", q().first(0), 12),
+        ("question_mark", q().with(1, b"T"), 12),
+        ("mark_before_allowance", over().with(1, b"T"), 12),
+        ("length_before_allowance", over().first(17), 12),
+        ("allowance_before_command", over().number(6, 4, 26), 13),
+        ("command_before_measured", command(26).pair(10, (5, 4)), 14),
+    ];
+    let on_a = |(name, question, refusal)| (name, a(), question, refusal);
+    let mut all: Vec<_> = questions.into_iter().map(on_a).collect();
+    all.push(("sheet_before_question", short_sheet(), q().first(17), 5));
+    // the question's boxes sweep 0..20, and the last of them is 12..20
+    let recovery = |lower, upper| a().pair(62, (lower, upper));
+    let unsafe_from = |lower| a().number(52, 4, lower);
+    let first = [
+        ("recovery_box_just_reached", recovery(12, 20)),
+        ("recovery_box_reached_at_width_1", recovery(13, 20)),
+        ("recovery_box_missed", recovery(12, 19)),
+        ("unsafe_box_just_missed", unsafe_from(21)),
+        ("unsafe_box_just_met", unsafe_from(20)),
+    ];
+    all.extend(first.map(|(name, sheet)| (name, sheet, q(), 0)));
+    all
+}
+
+fn print_decisions() {
+    for (name, sheet, question, refusal) in decisions() {
+        let answered =
+            |code, width, rounds| (0, format!("code={code} width={width} rounds={rounds}"));
+        let (given, answer) = match decide(&sheet.bytes, &question.bytes) {
+            Decision::Keep { width, rounds } => answered(0, width, rounds),
+            Decision::Finest { width, rounds } => answered(1, width, rounds),
+            Decision::Spent { width, rounds } => answered(2, width, rounds),
+            Decision::Refused(refusal) => {
+                (refusal.number(), format!("refused={}", refusal.number()))
+            }
+        };
+        expect(name, given, refusal);
+        println!(
+            "{name} decide sheet={} question={} {answer}",
+            sheet.text, question.text
+        );
+    }
+}
+
+// ---- listings
+
+/// A sheet, questions, and the last line that they have.
+fn listings() -> Vec<(&'static str, File, File, &'static str)> {
+    // x changes by 2 in each tick of the plain law, and so leaves the recovery box
+    let drifting = a().with(36, &[0, 0]).number(40, 4, 40);
+    let other_mark = q().with(1, b"T").and(&q().bytes);
+    vec![
+        ("listing_of_a_question", a(), q(), "1 keep 4 4"),
+        (
+            "listing_of_no_question",
+            a(),
+            q().first(0),
+            "sheet pass 4 1",
+        ),
+        (
+            "listing_with_a_short_tail",
+            a(),
+            q().and(b"QS\0\0\0"),
+            "2 refused 12",
+        ),
+        (
+            "listing_of_a_short_tail",
+            a(),
+            q().first(17),
+            "1 refused 12",
+        ),
+        ("listing_after_another_mark", a(), other_mark, "2 keep 4 4"),
+        ("listing_of_a_failed_check", drifting, q(), "sheet fail 1 "),
+        (
+            "listing_of_a_refused_sheet",
+            a().first(69),
+            q(),
+            "sheet refused 5",
+        ),
+    ]
+}
+
+fn print_listings() {
+    for (name, sheet, asks, last) in listings() {
+        let text = listing(&sheet.bytes, &asks.bytes);
+        let given = text.lines().last().unwrap_or_default();
+        assert!(given.starts_with(last), "{name}: {given}");
+        let text = text.replace(' ', "_").replace('\n', "/");
+        println!(
+            "{name} listing sheet={} asks={} text={text}",
+            sheet.text, asks.text
+        );
+    }
+}
+
+fn main() {
+    println!("# Limits, as printed by the program `print_limits`: numbers at each of document 01's bounds and one past it, the first");
+    println!("# of two refusals, and listings. A line has a name, the call, its files and numbers, and the answer; refusal 0 is none.");
+    println!("# A file is one of those named first or a sheet in hex. @10:03e8 is with these bytes from place 10 on (of `numbers`: with");
+    println!("# this number in the slot), <69 its first 69 bytes, +00 with this byte after it. In a listing _ is a space and / a newline.");
+    println!("\n# sheet A, its first question, and sheets of A's numbers with other counts");
+    for file in [
+        a(),
+        q(),
+        two_bands(),
+        eight_bands(),
+        eight_boxes(),
+        four_variables(),
+    ] {
+        println!("{} file bytes={}", file.text, hex(&file.bytes));
+    }
+    println!("\n# reading a sheet");
+    print_reads();
+    println!("\n# writing sheet A's numbers");
+    print_writes();
+    println!("\n# a reach");
+    print_reaches();
+    println!("\n# a decision");
+    print_decisions();
+    println!("\n# listings");
+    print_listings();
+}
