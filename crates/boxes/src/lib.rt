@@ -1,4 +1,4 @@
-// The reach (document 01, "One lifted step"): the boxes that hold every state that the machine can reach in so many ticks from
+// The reach (document 01, "One lifted step"): the boxes that hold every state that the machine can reach in a number of ticks from
 // a start box, under a law. `reach` is the public operation on any bytes. The definitions are in boxes_spec/specs/Reach.
 // What may be asked is tested in `boxes_refusals`.
 ghost use mathlib.Core.Path.{_≡_};

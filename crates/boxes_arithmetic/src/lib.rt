@@ -39,7 +39,7 @@ pub fn floor_div(n: i64, q: i64) -> i64
     if n % q < 0 { d - 1 } else { d }
 }
 
-// The lesser of z and of n / q rounded down and clamped by the cap. It divides only where the quotient is the answer.
+// The lesser of z and of n / q rounded down and clamped by the cap. It divides only if the quotient is the answer.
 pub fn lowest(cap: i64, n: i64, q: i64, z: i64) -> i64
     requires { ⌜ Bound n 9223372036854775807 × ((pos 1 ≤ℤ q) × Bound q word) ⌝ }
     requires { ⌜ Bound cap 1000 × ((negℤ cap ≤ℤ z) × (z ≤ℤ cap)) ⌝ }

@@ -25,6 +25,6 @@ unfolding neighborhood cutAt
 cut-own false S reach E i = put-back E (i + N) _
 cut-own true S reach E i = put-back E i _
 
--- as the code does it: B is the neighborhood, j the place and v what stood there
+-- as the code does it: B is the neighborhood, j the place and v what was there
 pub cut-back : (up : Bool) (S : List ℤ) (reach : ℤ) (E : List ℤ) (i : ℕ) {B : List ℤ} {j : ℕ} {v : ℤ} → B ≡ neighborhood up S reach E i → j ≡ cutAt up i → v ≡ E ! j → set B j v ≡ E
 cut-back up S reach E i b e x = rw (b, x, e) (cut-own up S reach E i)

@@ -14,7 +14,7 @@ use Rattle.sheet_spec.specs.Slots.{_!_, N}
 use Rattle.boxes_arithmetic.specs.Limits.{word}
 use Rattle.boxes_arithmetic.proofs.Bounds.{wide}
 
--- the j-th number behind a row's b, as the code reads it
+-- the j-th number after a row's b, as the code reads it
 module _ (v : List ℤ) (at j : ℕ) (h : mag (v ! (at + (N + j))) < 2 ^ hbits w32) where
   place : at + (N + j) ≡ at + N + j
   place = omega arith

@@ -73,7 +73,7 @@ fn command_term(up: bool, p: Plant, sheet: &[i32; SLOTS], row: usize, k: usize) 
     product(b, p.command)
 }
 
-// The outer one of z and of band k's share in the rate of variable i over the box, where they meet.
+// The outer one of z and of band k's share in the rate of variable i over the box, if they meet.
 fn row_rate(
     up: bool,
     p: Plant,

@@ -14,7 +14,7 @@ pub record Movable (n : ℕ) (A : List ℤ) (k : ℕ) (R : List ℤ) : Type 0 wh
   pub start : SidesWithin limit A
   pub rates : SidesWithin 1000 R
 
--- the boxes that `arrive` writes have 0 where there is no variable
+-- the boxes that `arrive` writes have 0 at places that no variable has
 pub record Trimmed (n : ℕ) (E A P : List ℤ) : Type 0 where
   pub work : trim n E ≡ E
   pub at : trim n A ≡ A

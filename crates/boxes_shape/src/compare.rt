@@ -1,4 +1,4 @@
-// Boxes of states: 2N numbers, variable i's lower side at i, its upper side at i + N, and 0 where there is no variable. Here
+// Boxes of states: 2N numbers, variable i's lower side at i, its upper side at i + N, and 0 at places that no variable has. Here
 // they are taken from a sheet or a caller, and compared: whether one lies in another or meets a no-go box. The definitions
 // are in machine_spec/specs/Box.
 ghost use mathlib.Core.Path.{_≡_};

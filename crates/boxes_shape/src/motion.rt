@@ -1,4 +1,4 @@
-// Boxes that grow and move by their rates (document 01, "One lifted step"). They are lent, and written where they stand: a
+// Boxes that grow and move by their rates (document 01, "One lifted step"). They are lent, and changed in place: a
 // box that is returned is copied, and the next turn would wait for the copy. The definitions are in machine_spec/specs/Box; `compare`
 // says what a box is.
 ghost use mathlib.Core.Path.{_≡_};

@@ -54,7 +54,7 @@ module _ (l : Bool) (a : ℕ) (m : Machine) (room : m .n ≤ N) where
   pub reach-settles : (clear : List ℤ → Bool) (w : ℕ) (S : List ℤ) (ticks c : ℕ) {c′ : ℕ} → 0 < w → reach l a m clear w S ticks c ≡ failed unsettled c′ → ⊥
   reach-settles clear w S ticks c z e = let r = reach-stops clear w S ticks c z e .hits .reason in let n : _≡_ {A = ℕ} 0 1 = cc r in omega arith
 
--- ---- the public reach: where nothing is refused it reaches
+-- ---- the public reach: if nothing is refused it reaches
 
 pub clear-none : (n : ℕ) (v B : List ℤ) → clear n v 0 B ≡ true
 unfolding clear any

@@ -65,7 +65,7 @@ module _ {m : Machine} (wf : Accepted m) where
   above-first : {b : ℕ} (E : List ℤ) → Near (m .n) b E → b ≤ 2000000 → edge (m .sheet) 0 ≤ℤ lo E (m .var)
   above-first E e h = omega (ints, wf .first, e .at false (m .var) (wf .proper .var) .at-most)
 
-  -- behind a step
+  -- after a step
   settled-sized : {S : List ℤ} {k b : ℕ} {t : Step} → Sized (m .n) b S → b + k * 1000 ≤ 2000000 → Settled m S k t → Sized (m .n) (b + t .ticks * 1000) (t .end)
   settled-sized {S} {k} {b} {t} s h e = rw (e .end) (record {
     near = end-near (wf .proper) (wf .ranged) (t .ticks) (s .near) (e .E);
@@ -73,7 +73,7 @@ module _ {m : Machine} (wf : Accepted m) where
         (above-first (e .E) (working-near (wf .proper) (wf .ranged) (t .ticks) (s .near) (e .working)) (omega (arith, e .most, e .some)));
   })
 
-  -- NEVER REVERSED, and b grows by 1,000 with each tick, wherever a reach stands
+  -- NEVER REVERSED, and b grows by 1,000 with each tick, wherever a reach has come
   pub steps-sized : {clear : List ℤ → Bool} {w b : ℕ} {p q : Place} → StepsTo m clear w q p → Sized (m .n) b (p .box) → b + p .left * 1000 ≤ 2000000
       → Sized (m .n) (b + (p .left - q .left) * 1000) (q .box)
   steps-sized {b} {q} here s h = let e : b ≡ b + (q .left - q .left) * 1000 = omega arith in subst (λ (c : ℕ). Sized (m .n) c (q .box)) e s

@@ -93,20 +93,20 @@ module _ (l : Bool) (a : ℕ) (m : Machine) (S : List ℤ) where
 
 -- ---- the reach
 
--- where a reach stands: the box of its next step, the hull of the swept boxes so far, the ticks left
+-- how far a reach has come: the box of its next step, the hull of the swept boxes so far, the ticks left
 pub record Place : Type 0 where
   pub box : List ℤ
   pub swept : List ℤ
   pub left : ℕ
 
--- before the first step of a reach, and behind its last
+-- before the first step of a reach, and after its last
 abbrev pub start : List ℤ → ℕ → Place
 start S ticks = record { box = S; swept = S; left = ticks }
 
 abbrev pub finish : Reached → Place
 finish r = record { box = r .end; swept = r .swept; left = 0 }
 
--- the place behind a step
+-- the place after a step
 abbrev pub behind : Machine → Place → Step → Place
 behind m p t = record { box = t .end; swept = hull (m .n) (p .swept) (swept m (p .box) t); left = p .left - t .ticks }
 

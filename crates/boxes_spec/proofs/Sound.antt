@@ -61,7 +61,7 @@ face-next up k j c s x z r l p at inner capped near =
 
 -- ---- a step
 
--- so many ticks of a trajectory follow the machine
+-- the first ticks of a trajectory follow the machine
 abbrev pub Ticks : Machine → (ℕ → List ℤ) → ℕ → Type 0
 Ticks m x k = (j : ℕ) → j < k → Tick m (x j) (x (suc j))
 
@@ -92,7 +92,7 @@ module _ {m : Machine} (wf : Proper m) (S : List ℤ) (k : ℕ) (E : List ℤ) w
   lies-at s b zero l t = lies-start b
   lies-at s b (suc j) l t = lies-next j s l (t j (omega arith)) (lies-at s b j (omega arith) (λ i g. t i (omega arith)))
 
--- STEP: the start box's states are in the swept box at each tick of the step, and in the end box behind it
+-- STEP: the start box's states are in the swept box at each tick of the step, and in the end box after it
 pub record Sound (m : Machine) (S : List ℤ) (t : Step) : Type 0 where
   pub sweeps : (x : ℕ → List ℤ) → In (m .n) S (x 0) → (j : ℕ) → j ≤ t .ticks → Ticks m x j → In (m .n) (swept m S t) (x j)
   pub ends : (x : ℕ → List ℤ) → In (m .n) S (x 0) → Ticks m x (t .ticks) → In (m .n) (t .end) (x (t .ticks))

@@ -26,7 +26,7 @@ module _ (limited : Bool) (allowance : ℕ) (m : Machine) (clear : List ℤ → 
       elim (clear (swept m S t)) [ true ↦ ok t c′ | false ↦ failed (unsafe left (swept m S t)) c′ ])
 
   -- steps from S until no ticks are left; W is the hull of the swept boxes so far. Each step covers a tick, so that the fuel
-  -- is not used up where it is more than the ticks left
+  -- is not used up if it is more than the ticks left
   unfoldable pub steps : ℕ → List ℤ → List ℤ → ℕ → ℕ → Result Reached
   steps zero S W left c = failed unsettled c
   steps (suc fuel) S W left c =
@@ -58,7 +58,7 @@ sidesRefusal n B = cond (all n (λ i. leZ (negℤ (pos 1000000)) (lo B i) && leZ
 unfoldable pub ticksRefusal : ℕ → ℕ → ℕ
 ticksRefusal ticks w = cond (leb ticks 1000 && leb 1 w && leb w 1000) 0 16
 
--- the refusals of a reach behind the sheet's own
+-- the refusals of a reach, after the sheet's own
 unfoldable pub reachRefusal : List ℤ → ℕ → ℕ → Law → List ℤ → ℕ
 reachRefusal v ticks w l B = orElse (ticksRefusal ticks w) (orElse (lawRefusal v l) (sidesRefusal (vars v) B))
 

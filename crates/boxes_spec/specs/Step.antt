@@ -42,7 +42,7 @@ pub data Result (A : Type 0) : Type 0 where
   failed : Failure → ℕ → Result A
   exhausted : ℕ → Result A
 
--- go on where there is a value
+-- go on if there is a value
 unfoldable pub andThen : {A B : Type 0} → Result A → (A → ℕ → Result B) → Result B
 andThen (ok a c) k = k a c
 andThen (failed w c) k = failed w c
@@ -79,7 +79,7 @@ module _ (limited : Bool) (allowance : ℕ) (m : Machine) (S : List ℤ) where
             ]
       ]
 
-  -- eight rounds of length k, then of half of it rounded down, and so on to 1. The fuel is not used up where it is at least k
+  -- eight rounds of length k, then of half of it rounded down, and so on to 1. The fuel is not used up if it is at least k
   unfoldable pub halving : ℕ → ℕ → ℕ → Result Step
   halving zero k c = failed unsettled c
   halving (suc fuel) k c = retry (rounds k 8 S c) (λ c′. elim (leb k 1) [ true ↦ failed unsettled c′ | false ↦ halving fuel (k / 2) c′ ])

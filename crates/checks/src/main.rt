@@ -39,7 +39,7 @@ fn verdict(label: &[u8], same: bool) {
     }
 }
 
-// Reads so many bytes of a file.
+// Reads the first bytes of a file.
 fn part(label: &[u8], f: [u8; PADDED], count: usize)
     requires { ⌜ count ≤ 71 ⌝ }
 {

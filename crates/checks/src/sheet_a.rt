@@ -6,7 +6,7 @@ pub const LENGTH: usize = 70;
 // One byte more follows the sheet.
 pub const PADDED: usize = LENGTH + 1;
 
-// A record's mark, or a byte of a number: the last where no other is named.
+// A record's mark, or a byte of a number: the last if no other is named.
 pub const HEAD_MARK: usize = 0;
 
 pub const VARS: usize = 2;

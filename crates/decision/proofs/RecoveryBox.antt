@@ -1,4 +1,4 @@
--- The recovery box of an accepted sheet as the code has it: with 0 where no variable is, and in the range of start boxes. Assumes nothing.
+-- The recovery box of an accepted sheet as the code has it: with 0 at places that no variable has, and in the range of start boxes. Assumes nothing.
 use mathlib.Core.Path.{_≡_, sym, _∙_}
 use mathlib.Core.Logic.{⊎-elim}
 use mathlib.Core.List.{List}

@@ -51,7 +51,7 @@ module _ {v : List ℤ} (p : Plant) (k : Law) (e : machineOf p v ≡ machine v k
   pub plant-vars : p .n ≡ vars v
   plant-vars = ap (λ (m : Machine). m .n) e
 
-  -- a box is trimmed to the plant's variables where it is to the sheet's
+  -- a box is trimmed to the plant's variables if it is to the sheet's
   pub plant-trimmed : {S : List ℤ} → trim (vars v) S ≡ S → trim (p .n) S ≡ S
   plant-trimmed {S} h = subst (λ (n : ℕ). trim n S ≡ S) (sym plant-vars) h
 
@@ -117,7 +117,7 @@ module _ (l : Bool) (a : ℕ) (v : List ℤ) (w : ℕ) where
 
 -- ---- attempts at ever smaller widths
 
--- the count behind an attempt that failed
+-- the count after an attempt that failed
 pub failed-count : (t : AttemptPlan) {v : List ℤ} (S : List ℤ) (w c : ℕ) → Valid v → 0 < w → w ≤ 1000 → t .first + t .then ≤ 1000
     → {i : ℕ} → summary (attemptOf t v S w c) ≡ Failed i → i ≤ c + 73000
 unfolding ticksOf summary

@@ -61,7 +61,7 @@ unfoldable pub mostATick : ℕ → ℕ
 mostATick zero = 1
 mostATick (suc e) = 8 * suc e + 1 + mostATick e
 
--- finest is at width 1; spent only where there is an allowance, and with the count at it
+-- finest is at width 1; spent only if there is an allowance, and with the count at it
 abbrev pub Reason : Bool → ℕ → Reply → Type 0
 Reason l a (refused r) = Unit {0}
 Reason l a (answered keep w c) = Unit {0}

@@ -72,7 +72,7 @@ module _ (limited : Bool) (allowance : ℕ) {v : List ℤ} (wf : Valid v) (w : �
       let s = both _ _ e in
       follow-sound ps S c (s .first) (λ y. inside-in (within-inside (s .value) (recoveryBox v) (passed _ _ _ (λ g. g) (s .second))))
 
--- ---- keep is answered only where an attempt succeeded
+-- ---- keep is answered only if an attempt succeeded
 
 outcome-keep : {G : Type 0} (g : Result (List ℤ)) (w : ℕ) (next : ℕ → Reply)
     → ((E : List ℤ) (c : ℕ) → g ≡ ok E c → G) → ((c : ℕ) → T (isKeep (next c)) → G) → T (isKeep (outcome g w next)) → G

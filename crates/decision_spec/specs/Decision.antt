@@ -60,7 +60,7 @@ outcome (ok E c) w next = answered keep w c
 outcome (failed why c) w next = elim (leb w 1) [ true ↦ answered finest w c | false ↦ next c ]
 outcome (exhausted c) w next = answered spent w c
 
--- attempts at width w, then at half of it rounded down, and so on to 1, after c rounds. The fuel is not used up where it is
+-- attempts at width w, then at half of it rounded down, and so on to 1, after c rounds. The fuel is not used up if it is
 -- at least w
 unfoldable pub attempts : (ℕ → ℕ → Result (List ℤ)) → ℕ → ℕ → ℕ → Reply
 attempts attemptAt zero w c = answered finest w c

@@ -77,7 +77,7 @@ unfoldable pub questionLine : List ℕ → ℕ → List ℕ → List ℕ
 questionLine f i g = (digits i ␣ replyText decisionWord (decide f g)) ++ (newline ∷ [])
 
 -- the lines of the questions in g, from number i on, each `size` bytes long; a short tail is a question too. The fuel is not
--- used up where it is at least the length of g
+-- used up if it is at least the length of g
 unfoldable pub questionLines : List ℕ → ℕ → ℕ → ℕ → List ℕ → List ℕ
 questionLines f size zero i g = []
 questionLines f size (suc fuel) i g = elim (eqb (length g) 0) [ true ↦ [] | false ↦ questionLine f i (take size g) ++ questionLines f size fuel (suc i) (drop size g) ]

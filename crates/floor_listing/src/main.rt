@@ -26,7 +26,7 @@ fn load(path: &[u8], buffer: &mut [u8]) -> usize
     count
 }
 
-// Writes a line's bytes up to its end. Answers false where that fails.
+// Writes a line's bytes up to its end. Answers false if that fails.
 fn write_line(line: &[u8; LINE], end: usize) -> bool
     requires { ⌜ end ≤ lineRoom ⌝ }
 {

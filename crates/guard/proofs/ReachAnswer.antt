@@ -79,7 +79,7 @@ unfolding numberBytes
 bytes-same xs ys zero h = refl
 bytes-same xs ys (suc k) h = rw (bytes-same xs ys k (λ i l. h i (omega arith)), h k (omega arith)) refl
 
--- the sides of two boxes, put one behind the other at the front of l
+-- the sides of two boxes, put one after the other at the front of l
 pub boxes-bytes : (l : List ℤ) (n : ℕ) (E W : List ℤ) → 4 * n ≤ length l
     → numberBytes (sets (sets l 0 (sidesOf n E)) (2 * n) (sidesOf n W)) (4 * n) ≡ numberBytes (sidesOf n E ++ sidesOf n W) (4 * n)
 boxes-bytes l n E W h = bytes-same _ _ (4 * n) at

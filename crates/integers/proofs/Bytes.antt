@@ -73,7 +73,7 @@ unfolding decode encode
 encode-decode w bs e h =
     ap (beBytes (bytes w)) (ofZ-toZ {w = w} (record { fits = subst (λ (n : ℕ). be bs < n) (ap (λ (k : ℕ). 256 ^ k) e ∙ pow-bytes w) (be-lt bs h) })) ∙ rw (← e) (of-be bs h)
 
--- what stands at a place of a list, written out
+-- the element at a place of a list, written out
 pub two : (s : List ℕ) (at : ℕ) → at + 2 ≤ length s → take 2 (drop at s) ≡ getD s at 0 ∷ (getD s (at + 1) 0 ∷ [])
 two s at h = simp towards-suc (rw (drop-cons s at 0 (omega arith), drop-cons s (suc at) 0 (omega arith)))
 

@@ -129,7 +129,7 @@ g27 z h = decode-encode w16 z h
 g28 : (bs : List ℕ) → length bs ≡ 4 → Bytes bs → encode w32 (decode w32 bs) ≡ bs
 g28 bs e h = encode-decode w32 bs e h
 
--- lists: two pieces behind each other, a loop that fills, a table
+-- lists: two pieces one after the other, a loop that fills, a table
 g29 : (l : List ℕ) → sets (sets l 5 (1 ∷ 2 ∷ [])) (5 + 2) (3 ∷ []) ≡ sets l 5 (1 ∷ 2 ∷ 3 ∷ [])
 g29 l = sets-append l 5 (1 ∷ 2 ∷ []) (3 ∷ [])
 

@@ -290,7 +290,7 @@ module _ (x y z : ℤ) (l : List ℤ) (a b : ℕ) where
     λ h. record { out = omega (ints, h .out, mul-add z x y, sum (z *ℤ x) (z *ℤ y), neg (z *ℤ (x +ℤ y)), neg (z *ℤ x), neg (z *ℤ y)) },
   )
 
--- the first that fits is taken, so the special forms stand before the general ones
+-- the first that fits is taken, so the special forms come before the general ones
 pub ruleset flat = (fits↔, le↔, lt↔, eq↔, neg-neg↔, neg-sum↔, sum↔, dl↔, dr↔, ndl↔, ndr↔, nl↔, nr↔, nnl↔, nnr↔, mul↔, neg-mul↔, neg↔, var↔, nil↔)
 
 -- by contradiction
@@ -435,14 +435,14 @@ bound-in {z} {B} h k = record { at-most = abs-le z B h k }
 pub bound-less : {z : ℤ} {B C : ℕ} → Bound z B → B ≤ C → Bound z C
 bound-less h k = record { at-most = omega arith }
 
--- and where they end: the number fits. `tt` where the bound is a number, `fits-by` where it is not
+-- and their ends: the number fits. `tt` if the bound is a number, `fits-by` if it is not
 pub fits : {w : Width} {z : ℤ} {B : ℕ} → Bound z B → T (ltb B (2 ^ hbits w)) → SFits w z
 fits {w} {z} {B} h t = small z (omega (arith, ltb→lt B (2 ^ hbits w) t))
 
 pub fits-by : {w : Width} {z : ℤ} {B : ℕ} → Bound z B → B < 2 ^ hbits w → SFits w z
 fits-by {z} h t = small z (omega arith)
 
--- at 64 bits, where nothing else shows the width, as in the list of a `simp`
+-- at 64 bits, if nothing else shows the width, as in the list of a `simp`
 pub fits64 : {z : ℤ} {B : ℕ} → Bound z B → T (ltb B 9223372036854775808) → SFits w64 z
 fits64 h t = fits h t
 
@@ -459,7 +459,7 @@ from16 h = ap (λ (z : ℤ). toZ w64 (ofZ w64 z)) (toZ-ofZ h) ∙ toZ-ofZ (up16 
 pub from32 : {z : ℤ} → SFits w32 z → toZ w64 (ofZ w64 (toZ w32 (ofZ w32 z))) ≡ z
 from32 h = ap (λ (z : ℤ). toZ w64 (ofZ w64 z)) (toZ-ofZ h) ∙ toZ-ofZ (up32 h)
 
--- an element, or what lies behind a reference: what is given of it is the bound itself
+-- an element, or what a reference points to: what is given of it is the bound itself
 pub told : (w : Width) (z : ℤ) → mag z < 2 ^ hbits w → toZ w (ofZ w z) ≡ z
 told w z h = toZ-ofZ (record { sfits = h })
 
@@ -470,7 +470,7 @@ bits-is {w} h e = sym (toZ-ofZ h) ∙ ap (toZ w) e
 pub shr-fits : {w : Width} {z : ℤ} (k : ℕ) → SFits w z → SFits w (shrZ z k)
 shr-fits {z} k h = sfits-le (mag-shr z k) h
 
--- b - a where that is positive, else 0: the measure of a loop whose signed counter goes from a up to b
+-- b - a if that is positive, else 0: the measure of a loop whose signed counter goes from a up to b
 abbrev pub gap : ℤ → ℤ → ℕ
 gap a b = (p b + m a) - (p a + m b)
 

@@ -1,4 +1,4 @@
--- The number of variables of any file, 0 where it is refused. Assumes nothing.
+-- The number of variables of any file, 0 if it is refused. Assumes nothing.
 use mathlib.Core.Path.{_≡_, refl, sym, _∙_, subst}
 use mathlib.Core.List.{List}
 use Prim.Native.Nat.{ℕ, zero, suc, _≤_}

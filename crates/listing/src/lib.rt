@@ -55,7 +55,7 @@ pub fn question_line(sheet: &[u8], ordinal: u64, question: &[u8], out: &mut [u8;
     put_question_line(ordinal, decide(sheet, question), out)
 }
 
-// So many bytes a question on the sheet has.
+// The number of bytes of a question on the sheet.
 pub fn question_length(sheet: &[u8]) -> usize
     ensures { λ r. ⌜ (r ≡ questionLength (slots.vars (values (now (sheet .entry))))) × (r ≤ questionLength slots.N) ⌝ }
 {

@@ -1,5 +1,5 @@
 // The lines of the floor listing (document 01, "The floor listing") over the answers that they tell, as bytes equal to those of
-// decision_spec/specs/Listing.antt. A line is put into a lent array, from its first byte on; the bytes behind the line stay as they
+// decision_spec/specs/Listing.antt. A line is put into a lent array, from its first byte on; the bytes after the line stay as they
 // were.
 ghost use mathlib.Core.List.{[], _∷_, _++_};
 ghost use Prim.Native.Nat.{_+_, _≤_};

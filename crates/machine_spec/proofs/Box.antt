@@ -104,7 +104,7 @@ sum-mono (suc n) f g h =
     let b = h n (omega arith) in
     simp flat (omega ints)
 
--- ---- what stands at a place
+-- ---- the sides at a place
 
 pub sides-length : (n : ℕ) (f g : ℕ → ℤ) → length (boxOf n f g) ≡ boxSize
 unfolding boxOf

@@ -1,4 +1,4 @@
--- The law that acts at each tick of a run: by period, and where one list of periods stands behind another. Assumes nothing.
+-- The law that acts at each tick of a run: by period, and for one list of periods after another. Assumes nothing.
 use mathlib.Core.Path.{_≡_, refl, sym, _∙_}
 use mathlib.Core.List.{List, [], _∷_, _++_, append-assoc}
 use mathlib.Core.Option.{none}

@@ -50,7 +50,7 @@ plain-is : (l : Law) → plain l ≡ true → l ≡ baseline
 plain-is baseline e = refl
 plain-is (command u) e = absurd (differ e refl)
 
--- the α ticks behind the kept period end at tick 8, inside the third period
+-- the α ticks after the kept period end at tick 8, inside the third period
 backB : In 2 (recoveryBox (values fileB)) (statesB 8)
 unfolding opened
 backB = safeB .returns 0 (lit< tt) tt (lit≤ tt) (λ t h. plain-is (lawAt fileB periodsB (3 + t)) (all-at 5 (λ t. plain (lawAt fileB periodsB (3 + t))) t refl h))

@@ -51,7 +51,7 @@ sizes run (suc t) h = run .ticks t h .size
 pub runs-start : (f : List ℕ) {s : List ℤ} → length s ≡ vars (values f) → Run f [] (λ t. s)
 runs-start f e = record { starts = e; ticks = λ t h. absurd (omega arith); measured = λ p h. absurd (omega arith) }
 
--- ---- one run behind another
+-- ---- one run after another
 
 -- x up to tick k, then y
 join : ℕ → (ℕ → List ℤ) → (ℕ → List ℤ) → ℕ → List ℤ
@@ -129,7 +129,7 @@ module _ (f : List ℕ) (passed : T (isKeep (checkRecovery f))) where
       let r = onward left l (n .next) (backed-tick f passed l left b (n .tick)) in
       record { states = behind s (r .states); first = refl; ticks = behind-ticks (r .states) left (r .first) (n .tick) (r .ticks) }
 
-  -- every run goes on with any further period; where that is kept, its measured box has to hold the state
+  -- every run goes on with any further period; if that is kept, its measured box has to hold the state
   pub runs-go-on : (qs : List Period) (x : ℕ → List ℤ) → In (vars (values f)) (recoveryBox (values f)) (x 0) → Run f qs x
       → (q : Period) → Measured f q (x (length qs * δ (values f))) → Continued f qs x q
   runs-go-on qs x start run q m =

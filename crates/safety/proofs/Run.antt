@@ -71,7 +71,7 @@ module _ (f : List ℕ) (passed : T (isKeep (checkRecovery f))) where
   ends baseline r = r
   ends (command u) s = returning wf (check-keep f passed .1) (α (values f)) (omega arith) s
 
-  -- behind a kept period α ticks of the plain law are left
+  -- after a kept period α ticks of the plain law are left
   kept-ends : {x : List ℤ} (q : Period) → T (kept f q) → Backed (values f) (periodLaw f q) 0 x → Held (values f) (replicate (α (values f)) baseline) x
   unfolding kept periodLaw Backed
   kept-ends none t s = absurd t
@@ -82,7 +82,7 @@ module _ (f : List ℕ) (passed : T (isKeep (checkRecovery f))) where
   -- ---- the whole run
 
   module _ (qs : List Period) (x : ℕ → List ℤ) (start : In (vars (values f)) (recoveryBox (values f)) (x 0)) (run : Run f qs x) where
-    -- what is known behind tick i of period p
+    -- what is known after tick i of period p
     through : (p : ℕ) → p < length qs → Returning (values f) (x (p * δ (values f)))
         → (i : ℕ) → i ≤ δ (values f) → Backed (values f) (periodLaw f (getD qs p none)) (δ (values f) - i) (x (p * δ (values f) + i))
     through p h r zero k = rw (add-zero, sub-zero) (begins (getD qs p none) r (run .measured p h))

@@ -23,7 +23,7 @@ unfoldable pub kept : List ℕ → Period → Bool
 kept f none = false
 kept f (some g) = isKeep (decide f g)
 
--- the law that acts at each tick of a period: the question's command where it is kept, else the plain law
+-- the law that acts at each tick of a period: the question's command if it is kept, else the plain law
 unfoldable pub periodLaw : List ℕ → Period → Law
 periodLaw f none = baseline
 periodLaw f (some g) = elim (kept f (some g)) [ true ↦ command (commandOf g) | false ↦ baseline ]
@@ -47,7 +47,7 @@ pub record Run (f : List ℕ) (qs : List Period) (x : ℕ → List ℤ) : Type 0
   pub ticks : (t : ℕ) → t < length qs * δ (values f) → Tick (machine (values f) (lawAt f qs t)) (x t) (x (suc t))
   pub measured : (p : ℕ) → p < length qs → Measured f (getD qs p none) (x (p * δ (values f)))
 
--- no state of the run is in a no-go box, and the state after α unbroken ticks of the plain law directly behind a kept period
+-- no state of the run is in a no-go box, and the state after α unbroken ticks of the plain law directly after a kept period
 -- is in the recovery box
 pub record Safe (f : List ℕ) (qs : List Period) (x : ℕ → List ℤ) : Type 0 where
   pub safe : (t : ℕ) → t ≤ length qs * δ (values f) → (j : ℕ) → j < boxes (values f) → In (vars (values f)) (unsafeBox (values f) j) (x t) → ⊥

@@ -38,7 +38,7 @@ module _ (s : Shape) (r : ℕ) where
   pub recovery-is : s .bands + s .boxes < r → r < records s → recordAt s r ≡ recovery
   recovery-is n l = let e : r ≡ 1 + (s .bands + s .boxes) = omega arith in ap (recordAt s) e ∙ recovery-at s
 
-  -- so many bytes it has
+  -- the number of its bytes
   pub size-is : {x : Record} → recordAt s r ≡ x → letters + offset (fieldsAt s r) (countAt s r) ≡ recordSize (s .vars) x
   size-is e = record-size (s .vars) (recordAt s r) ∙ ap (recordSize (s .vars)) e
 
@@ -81,6 +81,6 @@ record-room s r k l h m =
     let n : start s (r + 1) ≤ start s k = rw e at (start-mono s (r + 1) (k - (r + 1))) in
     omega (arith, start-more s r)
 
--- so many bytes the rows of a band have at most
+-- the greatest number of bytes of a band's rows
 pub rows-most : (n : ℕ) → n ≤ N → n * rowBytes n ≤ N * rowBytes N
 rows-most n h = let l : rowBytes n ≤ rowBytes N = omega arith in mul-le-mul h l

@@ -1,4 +1,4 @@
-// How numbers, marks and records stand in a file (document 01, "Sheet layout"): `bytes` reads and writes a number of each width
+// How numbers, marks and records are written in a file (document 01, "Sheet layout"): `bytes` reads and writes a number of each width
 // and sign, big-endian, and `marks` knows each record's two letters and its length. The definitions are in sheet_spec/specs/Fields
 // and sheet_spec/specs/File.
 ghost use mathlib.Core.Path.{_≡_};
@@ -12,7 +12,7 @@ pub mod marks;
 
 use sheet_spec::slots::SLOTS;
 
-// The number at a slot, where it is not negative.
+// The number at a slot, if it is not negative.
 pub fn count(v: &[i32; SLOTS], slot: usize) -> usize
     requires { ⌜ (slot < slots) × (pos 0 ≤ℤ now v ! slot) ⌝ }
     ensures { λ r. ⌜ r ≡ natAbs (now (v .entry) ! slot) ⌝ }

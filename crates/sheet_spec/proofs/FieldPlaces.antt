@@ -1,4 +1,4 @@
--- Which field stands where in a record, as the code's loops come to it. Assumes nothing.
+-- Which field is where in a record, as the code's loops come to it. Assumes nothing.
 use mathlib.Core.Path.{_≡_, ap}
 use Prim.Native.Nat.{ℕ, suc, _+_, _*_, _<_}
 use native.Mathlib.Omega.{arith}

@@ -1,4 +1,4 @@
--- What was read stands at its slot. Assumes nothing.
+-- What was read is at its slot. Assumes nothing.
 use mathlib.Core.Path.{_≡_, refl, sym, _∙_}
 use mathlib.Core.List.{List}
 use mathlib.Core.Logic.{_⊎_, inl, inr, ⊎-elim}
@@ -41,7 +41,7 @@ module _ (p : ℕ → Field) (f : List ℕ) (at : ℕ) where
   pub filled-other : (k : ℕ) (v : List ℤ) (i : ℕ) → (Taken p k i → ⊥) → filled p f at k v ! i ≡ v ! i
   filled-other k v i n = ⊎-elim (λ e. e) (λ t. absurd (n t)) (origin k v i)
 
-  -- each value stands at its slot, where no two fields have one
+  -- each value is at its slot, if no two fields share one
   pub filled-at : (k : ℕ) (v : List ℤ) → ((i j : ℕ) → i < k → j < k → p i .slot ≡ p j .slot → i ≡ j) → ((j : ℕ) → j < k → p j .slot < length v)
       → (j : ℕ) → j < k → filled p f at k v ! p j .slot ≡ decoded (p j .kind) (drop (at + offset p j) f)
   unfolding filled

@@ -46,7 +46,7 @@ module _ (h : ℕ → ℕ) where
       go zero e = (refl, e)
       go (suc c) e = let z : ⊥ = omega arith in absurd z
 
-  -- there is none where none refuses
+  -- there is none if none refuses
   pub first-none : (k : ℕ) → firstRefusal h k ≡ 0 → Each (λ c. c ≡ 0) h k
   first-none zero e = record { at = λ j l. absurd (let z : ⊥ = omega arith in z) }
   first-none (suc k) e =

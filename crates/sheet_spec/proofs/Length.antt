@@ -1,4 +1,4 @@
--- Where a record's fields stand, and a sheet's length (document 01's formula). Assumes nothing.
+-- Where a record's fields are, and a sheet's length (document 01's formula). Assumes nothing.
 use mathlib.Core.Path.{_≡_, refl, ap, _∙_}
 use mathlib.Core.List.{List}
 use Prim.Native.Nat.{ℕ, zero, suc, _+_, _*_, _≤_, _<_}
@@ -64,7 +64,7 @@ side-offset h s i =
 
 -- ---- records, and the file
 
--- so many bytes a record has
+-- the number of bytes of a record
 abbrev pub recordSize : ℕ → Record → ℕ
 recordSize n head = capsAt + capBytes n
 recordSize n (band k) = bandHead + n * rowBytes n

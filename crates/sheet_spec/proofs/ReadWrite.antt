@@ -15,7 +15,7 @@ use Rattle.sheet_spec.proofs.Accepted.{accepted, contents-good}
 use Rattle.sheet_spec.proofs.Answers.{write-done}
 use Rattle.sheet_spec.proofs.RoundTrip.{write-read, length-bytesOf, passed, written-is, read-written}
 
--- the length of a sheet is answered where it is written
+-- the length of a sheet is answered if it is written
 pub answers-length : (v : List ℤ) (buffer : List ℕ) (place : ℕ) → writeRefusal v buffer place ≡ 0 → writtenLength v buffer place ≡ length-of v
 unfolding writtenLength
 answers-length v buffer place e = rw (e, writtenLength)

@@ -1,4 +1,4 @@
--- What stands where in x ▸ g, `first` and `groups`, and that what holds of the parts holds of the whole, and the other way round. Assumes nothing.
+-- What is where in x ▸ g, `first` and `groups`, and that what holds of the parts holds of the whole, and the other way round. Assumes nothing.
 use mathlib.Core.Path.{_≡_, ap, ap₂, _∙_}
 use mathlib.Core.Logic.{_⊎_, inl, inr, ⊎-elim}
 use mathlib.Core.Bool.{Bool, true, false, not}
@@ -17,7 +17,7 @@ lt-or-le a b = go (ltb a b) (λ t. ltb→lt a b t) (λ t. nltb→le a b t)
     go true f g = inl (f tt)
     go false f g = inr (g tt)
 
--- so many more, one at a time
+-- several more, one at a time
 pub rows-more : (n : ℕ) → suc (suc (suc n)) ≡ firstRow + n
 rows-more n = omega arith
 

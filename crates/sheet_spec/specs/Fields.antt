@@ -14,8 +14,8 @@ use Rattle.sheet_spec.specs.Refusals.{Cause, refuseUnless, firstRefusal}
 pub data Kind : Type 0 where
   u8 u16 i16 i32 : Kind
 
--- how a number is written, the slot of its value, the range that the value must lie in, and why the sheet is refused where it does not.
--- The ends of the range may depend on numbers that stand earlier in the sheet.
+-- how a number is written, the slot of its value, the range that the value must lie in, and why the sheet is refused if it does not.
+-- The ends of the range may depend on numbers earlier in the sheet.
 pub record Field : Type 0 where
   pub kind : Kind
   pub slot : ℕ
@@ -23,7 +23,7 @@ pub record Field : Type 0 where
   pub greatest : List ℤ → ℤ
   pub cause : Cause
 
--- so many bytes a number has
+-- the number of bytes of a number
 abbrev pub width : Kind → ℕ
 width u8 = 1
 width u16 = 2
@@ -50,7 +50,7 @@ test v x = refuseUnless (leZ (x .least v) (v ! x .slot) && leZ (v ! x .slot) (x 
 
 -- ---- the first k fields
 
--- so many bytes they have
+-- the number of their bytes
 unfoldable pub offset : (ℕ → Field) → ℕ → ℕ
 offset p zero = 0
 offset p (suc k) = offset p k + width (p k .kind)

@@ -23,7 +23,7 @@ sized n b g = record { vars = n; bands = b; boxes = g }
 abbrev pub shape : List ℤ → Shape
 shape v = record { vars = vars v; bands = bands v; boxes = boxes v }
 
--- so many records there are, and the r-th of them
+-- the number of records, and the r-th of them
 abbrev pub records : Shape → ℕ
 records s = s .bands + s .boxes + 2
 
@@ -54,11 +54,11 @@ unfoldable pub codedAll : Shape → List ℤ → ℕ → List ℕ
 codedAll s v zero = []
 codedAll s v (suc r) = codedAll s v r ++ recordBytes (s .vars) (recordAt s r) v
 
--- the record's mark stands at a place of f
+-- the record's mark is at a place of f
 unfoldable pub marked : List ℕ → ℕ → Record → Bool
 marked f at x = eqb (getD f at 0) (mark x .0) && eqb (getD f (at + 1) 0) (mark x .1)
 
--- whether record r's mark stands where it starts
+-- whether record r's mark is where it starts
 abbrev pub markedAt : Shape → List ℕ → ℕ → Bool
 markedAt s f r = marked f (start s r) (recordAt s r)
 

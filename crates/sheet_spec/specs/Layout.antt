@@ -40,7 +40,7 @@ fromTo k s l h = ranged k s (λ v. pos l) (λ v. pos h)
 abbrev pub plusMinus : Kind → ℕ → ℕ → Cause → Field
 plusMinus k s h = ranged k s (λ v. negℤ (pos h)) (λ v. pos h)
 
--- a sheet has at most so many variables; there is room for N
+-- the greatest number of variables of a sheet; there is room for N
 abbrev pub maxVars : ℕ
 maxVars = 4
 
@@ -78,7 +78,7 @@ rowRest s =
 unfoldable pub rowFields : ℕ → ℕ → ℕ → Field
 rowFields n s = first n (λ j. plusMinus i16 (s + j) 1000 Cause.row) (rowRest s)
 
--- so many fields a row has, a band, and a box, of a sheet with n variables
+-- the number of fields of a row, of a band and of a box, on a sheet with n variables
 abbrev pub rowCount : ℕ → ℕ
 rowCount n = n + restSize
 

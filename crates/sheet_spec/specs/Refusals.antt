@@ -31,6 +31,6 @@ unfoldable pub firstRefusal : (ℕ → ℕ) → ℕ → ℕ
 firstRefusal h zero = 0
 firstRefusal h (suc k) = elim (firstRefusal h k) [ zero ↦ h k | suc c ↦ suc c ]
 
--- a refusal, or where it is 0 the next
+-- a refusal or, if it is 0, the next
 abbrev pub orElse : ℕ → ℕ → ℕ
 orElse x y = elim x [ zero ↦ y | suc c ↦ suc c ]

@@ -19,7 +19,7 @@ zeros = replicate slots (pos 0)
 
 -- ---- reading
 
--- the head's numbers up to the commands, which stand before the counts are known
+-- the head's numbers up to the commands, which come before the counts are known
 unfoldable pub headOf : List ℕ → List ℤ
 headOf f = filled headFields f letters headSize zeros
 
@@ -37,11 +37,11 @@ stage f (suc zero) = bad headFields (headOf f) headSize
 stage f (suc (suc zero)) = let s = shapeOf f in refuseUnless (eqb (length f) (start s (records s))) Cause.size
 stage f (suc (suc (suc i))) = let s = shapeOf f in badAll (markedAt s f) s (contents f) (records s)
 
--- 0 where the file is accepted, else why it is refused
+-- 0 if the file is accepted, else why it is refused
 unfoldable pub refusal : List ℕ → ℕ
 refusal f = firstRefusal (stage f) 4
 
--- the sheet's value, zeros where the file is refused
+-- the sheet's value, zeros if the file is refused
 unfoldable pub values : List ℕ → List ℤ
 values f = elim (refusal f) [ zero ↦ contents f | suc c ↦ zeros ]
 

@@ -1,8 +1,8 @@
--- Where the numbers of a record stand in a file, and how many bytes its parts have (document 01, "Sheet layout").
+-- Where the numbers of a record are in a file, and how many bytes its parts have (document 01, "Sheet layout").
 use Prim.Native.Nat.{ℕ, _+_, _*_}
 use Rattle.sheet_spec.specs.Fields.{u8, u16, i16, i32, width}
 
--- a record starts with so many letters
+-- the number of letters that a record starts with
 abbrev pub letters : ℕ
 letters = 2
 
@@ -70,7 +70,7 @@ restBytes = qAt + width u16
 abbrev pub rowBytes : ℕ → ℕ
 rowBytes n = coefficientBytes n + restBytes
 
--- a band's letters and what stands before its rows
+-- a band's letters and what comes before its rows
 abbrev pub bandHead : ℕ
 bandHead = letters + rowsAt
 

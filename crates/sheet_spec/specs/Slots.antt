@@ -1,4 +1,4 @@
--- A sheet's value is one flat list of numbers. This file says at which place (slot) each number stands, and names it.
+-- A sheet's value is one flat list of numbers. This file says at which place (slot) each number is, and names it.
 -- N is the greatest number of variables that there is room for. What lies beyond the sheet's counts is 0 and counts for nothing.
 use mathlib.Core.List.{List}
 use Prim.Native.Nat.{ℕ, _+_, _*_}
@@ -48,7 +48,7 @@ leastSlot = 7
 abbrev pub greatestSlot : ℕ
 greatestSlot = 8
 
--- so many numbers they are; the caps stand after them
+-- how many they are; the caps follow them
 abbrev pub headSize : ℕ
 headSize = 9
 
@@ -128,7 +128,7 @@ recoverySlot = headSize + N + maxBands * bandSize
 abbrev pub unsafeSlot : ℕ → ℕ
 unsafeSlot j = recoverySlot + boxSize + j * boxSize
 
--- so many numbers a sheet has
+-- how many numbers a sheet has
 abbrev pub slots : ℕ
 slots = recoverySlot + boxSize + maxBoxes * boxSize
 

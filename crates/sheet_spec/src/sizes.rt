@@ -1,6 +1,6 @@
-// Where the numbers of a record stand in a file, and how many bytes its parts have: the names of specs/Sizes.antt.
+// Where the numbers of a record are in a file, and how many bytes its parts have: the names of specs/Sizes.antt.
 
-// So many bytes a number has.
+// The number of bytes of a number.
 pub const U8: usize = 1;
 
 pub const U16: usize = 2;
@@ -9,7 +9,7 @@ pub const I16: usize = 2;
 
 pub const I32: usize = 4;
 
-// A record starts with so many letters.
+// The number of letters that a record starts with.
 pub const LETTERS: usize = 2;
 
 // The head, from its letters on. A file that ends before the caps is refused.
@@ -49,7 +49,7 @@ pub const Q_AT: usize = D_AT + I32;
 
 pub const REST_BYTES: usize = Q_AT + U16;
 
-// A band's letters and what stands before its rows.
+// A band's letters and what comes before its rows.
 pub const BAND_HEAD: usize = LETTERS + ROWS_AT;
 
 // A pair of sides.

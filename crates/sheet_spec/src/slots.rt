@@ -1,4 +1,4 @@
-// Where each number of a sheet's value stands: the names of specs/Slots.antt.
+// Where each number of a sheet's value is: the names of specs/Slots.antt.
 
 // There is room for N variables.
 pub const N: usize = 4;
@@ -62,5 +62,5 @@ pub const RECOVERY: usize = FIRST_BAND + MAX_BANDS * BAND_SIZE;
 
 pub const FIRST_UNSAFE: usize = RECOVERY + BOX_SIZE;
 
-// So many numbers a sheet has.
+// How many numbers a sheet has.
 pub const SLOTS: usize = FIRST_UNSAFE + MAX_BOXES * BOX_SIZE;

@@ -57,14 +57,14 @@ fn value(v: &[i32; SLOTS], slot: usize) -> i64
     x as i64
 }
 
-// A refusal, or where it is 0 the next.
+// A refusal or, if it is 0, the next.
 pub fn first(x: u8, y: u8) -> u8
     ensures { λ r. ⌜ r ≡ orElse x y ⌝ }
 {
     if x == 0 { y } else { x }
 }
 
-// A refusal, or where it is 0 the test of a field with this slot, range and cause.
+// A refusal or, if it is 0, the test of a field with this slot, range and cause.
 fn after(x: u8, v: &[i32; SLOTS], slot: usize, least: i64, greatest: i64, cause: u8) -> u8
     requires { ⌜ slot < slots ⌝ }
     ensures { λ r. ⌜ ((p : Field) → p .slot ≡ slot → p .least (now (v .entry)) ≡ least → p .greatest (now (v .entry)) ≡ greatest → number (p .cause) ≡ cause → r ≡ orElse x (test (now (v .entry)) p)) ⌝ }

@@ -48,7 +48,7 @@ module _ (s : List ℕ) (a : ℕ) where
   pub part-length : length (take (length s - a) (drop a s)) ≡ length s - a
   part-length = ap length part-is ∙ length-drop a s
 
-  -- xs, written to the start of the part, stands in s from a on
+  -- xs, written to the start of the part, is in s from a on
   part-whole : (xs : List ℕ) → a + length xs ≤ length s → take a s ++ sets (drop a s) 0 xs ≡ sets s a xs
   part-whole xs h =
       ap (λ (t : List ℕ). take a s ++ t) (sets-eq xs (drop a s) 0 (omega (arith, length-drop a s)) ∙ ap (λ (t : List ℕ). xs ++ t) (ap (λ (m : ℕ). drop m (drop a s)) (zero-add (length xs)) ∙ drop-drop (length xs) a s))

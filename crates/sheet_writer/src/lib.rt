@@ -51,7 +51,7 @@ pub fn bad_sheet(v: &[i32; SLOTS]) -> u8
     bad_values(v, count(v, VARS), count(v, BANDS), count(v, BOXES))
 }
 
-// Writes a sheet whose numbers are in range, where there is room.
+// Writes a sheet whose numbers are in range, if there is room.
 pub fn write_valid(v: &[i32; SLOTS], buffer: &mut [u8], place: usize) -> Written
     requires { ⌜ 0 ≡ valueRefusal (now v) ⌝ }
     ensures { λ r. ⌜ Wrote (now (v .entry)) (now (buffer .entry)) place (r .refusal) (r .length) (now (buffer .exit)) ⌝ }

@@ -1,5 +1,5 @@
 // The records of a sheet's value, each written to a part of a buffer (document 01, "Sheet layout"): head, bands, boxes. A record's
-// writer gets the part that starts at the record, and leaves every byte behind the record as it was. The definitions are in
+// writer gets the part that starts at the record, and leaves every byte after the record as it was. The definitions are in
 // sheet_spec/specs/Fields and sheet_spec/specs/File.
 ghost use mathlib.Core.Path.{_≡_};
 ghost use Prim.Native.Nat.{ℕ, _+_, _≤_, _<_};

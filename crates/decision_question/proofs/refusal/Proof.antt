@@ -16,7 +16,7 @@ use Rattle.decision_question.proofs.Refusals.{form-length, stop-form, s
 use Rattle.decision_question.proofs.refusal.Statement.{statement}
 use Rattle.decision_question.proofs.refusal.Tie as tie
 
--- behind the test of the form
+-- after the test of the form
 module _ (c : tie.After-form-refusal) where
   abbrev s : tie.Start
   s = c .before .before
@@ -27,7 +27,7 @@ module _ (c : tie.After-form-refusal) where
 long : (c : tie.Else1) → length (s (c .before) .args .g .now) ≡ questionLength (s (c .before) .args .n)
 long c = form-length _ _ (sym (c .before .form-refusal .ensures) ∙ c .if1 .left)
 
--- behind the test of the command
+-- after the test of the command
 module _ (c : tie.After-law-refusal) where
   abbrev a : tie.After-allowance
   a = c .before .before .before

@@ -1,4 +1,4 @@
--- `sheet_read` hands on what `read_zeroed` read, where nothing was refused. Assumes nothing.
+-- `sheet_read` hands on what `read_zeroed` read, if nothing was refused. Assumes nothing.
 use mathlib.Core.Path.{refl}
 use borrow.Author.Needs.{needs}
 use Rattle.sheet_spec.proofs.Valid.{zeros-are}

@@ -1,4 +1,4 @@
--- `band_rate` gives the outer one of z and of a band's share in a rate: its row's where it is met, or else z, which the
+-- `band_rate` gives the outer one of z and of a band's share in a rate: its row's if it is met, or else z, which the
 -- neutral value leaves as it is. Assumes nothing.
 use mathlib.Core.Path.{_≡_, refl, sym, _∙_}
 use mir.Facts.{toZ-ofZ}

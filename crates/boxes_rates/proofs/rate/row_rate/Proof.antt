@@ -1,4 +1,4 @@
--- `row_rate` gives the outer one of z and of a band's share in a rate where it is met: its row bounded, then the allowed
+-- `row_rate` gives the outer one of z and of a band's share in a rate if it is met: its row bounded, then the allowed
 -- change. Assumes nothing.
 use mathlib.Core.Path.{_∙_}
 use Prim.Native.Nat.{_+_, _≤_}

@@ -30,7 +30,7 @@ returns-2 c =
     let q = room-short (s .args .a .refusal) (16 * s .args .n) (s .args .out .now) refl (e .if1 .left) (omega arith) in
     (c .pack-refusal2 .ensures ∙ or-refused _ _ q (λ z. omega arith), or-unchanged _ _ (s .args .out .now) q (λ z. omega arith))
 
--- behind the writing
+-- after the writing
 module _ (c : tie.After-put-numbers) where
   abbrev e : tie.Else2
   e = c .before .before .before .before .before .before .before .before .before .before .before

@@ -21,7 +21,7 @@ use Rattle.guard.proofs.ReachAnswer.{reach-far, file-refused, file-reac
 use Rattle.guard.proofs.reach.reach_call.Statement.{statement}
 use Rattle.guard.proofs.reach.reach_call.Tie as tie
 
--- behind the reader
+-- after the reader
 module _ (c : tie.After-read-zeroed) where
   abbrev s : tie.Start
   s = c .before .before .before .before .before
@@ -34,7 +34,7 @@ module _ (c : tie.Else1) where
   accepted : Valid (v (c .before))
   accepted = let r = c .before .read-zeroed .ensures in subst Valid (sym (r .1)) (valid _ (sym (r .0) ∙ c .if1 .left))
 
--- behind the reach
+-- after the reach
 module _ (c : tie.After-reach-of) where
   abbrev b : tie.After-start-box
   b = c .before .before .before

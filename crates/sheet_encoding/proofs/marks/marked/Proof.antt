@@ -1,4 +1,4 @@
--- `marked`: both letters stand at a place. Assumes nothing.
+-- `marked`: both letters are at a place. Assumes nothing.
 use borrow.Author.Needs.{needs}
 use borrow.Author.Tests.{eq-eqb, ne-eqb}
 use Rattle.sheet_encoding.proofs.marks.marked.Statement.{statement}
