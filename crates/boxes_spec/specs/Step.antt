@@ -8,22 +8,22 @@ use Rattle.machine_spec.specs.Box.{hull, within, moved}
 use Rattle.machine_spec.specs.Machine.{Machine}
 use Rattle.machine_spec.specs.Rate.{rates}
 
--- ---- a round of a step of length k from the box S, with the working box E
+-- ---- a round of a step of `ticks` ticks (document 01: length k) from the box S, with the working box E
 
--- M: the hull of start and of start with each face moved by k − 1 rates
+-- M: the hull of start and of start with each face moved by `ticks` − 1 rates
 unfoldable pub lifted : Machine → List ℤ → ℕ → List ℤ → List ℤ
-lifted m S k E = hull (m .n) S (moved (m .n) S (k - 1) (rates m S k E))
+lifted m S ticks E = hull (m .n) S (moved (m .n) S (ticks - 1) (rates m S ticks E))
 
 unfoldable pub settles : Machine → List ℤ → ℕ → List ℤ → Bool
-settles m S k E = within (m .n) (lifted m S k E) E
+settles m S ticks E = within (m .n) (lifted m S ticks E) E
 
--- the end box of a step that settles: start moved by k rates
+-- the end box of a step that settles: start moved by `ticks` rates
 unfoldable pub endBox : Machine → List ℤ → ℕ → List ℤ → List ℤ
-endBox m S k E = moved (m .n) S k (rates m S k E)
+endBox m S ticks E = moved (m .n) S ticks (rates m S ticks E)
 
 -- the next working box
 unfoldable pub grown : Machine → List ℤ → ℕ → List ℤ → List ℤ
-grown m S k E = hull (m .n) E (lifted m S k E)
+grown m S ticks E = hull (m .n) E (lifted m S ticks E)
 
 -- ---- what a stage gives, with the count of rounds after it
 
@@ -44,15 +44,15 @@ pub data Result (A : Type 0) : Type 0 where
 
 -- go on if there is a value
 unfoldable pub andThen : {A B : Type 0} → Result A → (A → ℕ → Result B) → Result B
-andThen (ok a c) k = k a c
-andThen (failed w c) k = failed w c
-andThen (exhausted c) k = exhausted c
+andThen (ok a c) next = next a c
+andThen (failed w c) next = failed w c
+andThen (exhausted c) next = exhausted c
 
 -- try another way where it failed
 unfoldable pub retry : {A : Type 0} → Result A → (ℕ → Result A) → Result A
-retry (ok a c) k = ok a c
-retry (failed w c) k = k c
-retry (exhausted c) k = exhausted c
+retry (ok a c) next = ok a c
+retry (failed w c) next = next c
+retry (exhausted c) next = exhausted c
 
 -- a round is due and none is left: there is an allowance, and the count equals it
 unfoldable pub isExhausted : Bool → ℕ → ℕ → Bool
@@ -66,26 +66,26 @@ pub record Step : Type 0 where
 
 -- an allowance (if `limited`), a machine, the start box
 module _ (limited : Bool) (allowance : ℕ) (m : Machine) (S : List ℤ) where
-  -- up to `left` rounds of length k with the working box E
+  -- up to `left` rounds of `ticks` ticks with the working box E
   unfoldable pub rounds : ℕ → ℕ → List ℤ → ℕ → Result Step
-  rounds k zero E c = failed unsettled c
-  rounds k (suc left) E c =
+  rounds ticks zero E c = failed unsettled c
+  rounds ticks (suc left) E c =
       elim (isExhausted limited allowance c) [
         | true ↦ exhausted c
         | false ↦
-            elim (settles m S k E) [
-              | true ↦ ok (record { ticks = k; end = endBox m S k E }) (c + 1)
-              | false ↦ rounds k left (grown m S k E) (c + 1)
+            elim (settles m S ticks E) [
+              | true ↦ ok (record { ticks = ticks; end = endBox m S ticks E }) (c + 1)
+              | false ↦ rounds ticks left (grown m S ticks E) (c + 1)
             ]
       ]
 
-  -- eight rounds of length k, then of half of it rounded down, and so on to 1. The fuel is not used up if it is at least k
+  -- eight rounds of `ticks` ticks, then of half of them rounded down, and so on to 1. The fuel is not used up if it is at least `ticks`
   unfoldable pub halving : ℕ → ℕ → ℕ → Result Step
-  halving zero k c = failed unsettled c
-  halving (suc fuel) k c = retry (rounds k 8 S c) (λ c′. elim (leb k 1) [ true ↦ failed unsettled c′ | false ↦ halving fuel (k / 2) c′ ])
+  halving zero ticks c = failed unsettled c
+  halving (suc fuel) ticks c = retry (rounds ticks 8 S c) (λ c′. elim (leb ticks 1) [ true ↦ failed unsettled c′ | false ↦ halving fuel (ticks / 2) c′ ])
 
   unfoldable pub step : ℕ → ℕ → Result Step
-  step k c = halving k k c
+  step ticks c = halving ticks ticks c
 
 -- the swept box of a settled step from S
 unfoldable pub swept : Machine → List ℤ → Step → List ℤ

@@ -56,6 +56,6 @@ within n A B = all n (λ i. leZ (lo B i) (lo A i) && leZ (hi A i) (hi B i))
 unfoldable pub meets : ℕ → List ℤ → List ℤ → Bool
 meets n A B = all n (λ i. leZ (lo A i) (hi B i) && leZ (lo B i) (hi A i))
 
--- each face of A moved by k of its rates
+-- each face of A moved by `ticks` of its rates
 unfoldable pub moved : ℕ → List ℤ → ℕ → List ℤ → List ℤ
-moved n A k r = boxOf n (λ i. lo A i +ℤ pos k *ℤ lo r i) (λ i. hi A i +ℤ pos k *ℤ hi r i)
+moved n A ticks r = boxOf n (λ i. lo A i +ℤ pos ticks *ℤ lo r i) (λ i. hi A i +ℤ pos ticks *ℤ hi r i)

@@ -50,7 +50,7 @@ bandRate up m B i k =
 unfoldable pub rate : Bool → Machine → List ℤ → ℕ → ℤ
 rate up m B i = outermost up (neutral up (cap m i)) (m .bands) (bandRate up m B i)
 
--- ---- the rates of a round: a step of length k from the box S, with the working box E
+-- ---- the rates of a round: a step of `ticks` ticks (document 01: length k) from the box S, with the working box E
 
 -- the neighborhood (document 01: slab) of a face of variable i: the part of E within `reach` of S's face
 unfoldable pub neighborhood : Bool → List ℤ → ℤ → List ℤ → ℕ → List ℤ
@@ -58,8 +58,8 @@ neighborhood false S reach E i = set E (i + N) (minZ (hi E i) (lo S i +ℤ reach
 neighborhood true S reach E i = set E i (maxZ (lo E i) (hi S i -ℤ reach))
 
 unfoldable pub faceRate : Bool → Machine → List ℤ → ℕ → List ℤ → ℕ → ℤ
-faceRate up m S k E i = rate up m (neighborhood up S (pos (k + 1) *ℤ cap m i) E i) i
+faceRate up m S ticks E i = rate up m (neighborhood up S (pos (ticks + 1) *ℤ cap m i) E i) i
 
 -- the rates of all faces, as a box
 unfoldable pub rates : Machine → List ℤ → ℕ → List ℤ → List ℤ
-rates m S k E = boxOf (m .n) (faceRate false m S k E) (faceRate true m S k E)
+rates m S ticks E = boxOf (m .n) (faceRate false m S ticks E) (faceRate true m S ticks E)
