@@ -5,7 +5,7 @@ ghost use lib.ListN.{length};
 ghost use Rattle.io.specs.Counts.{Counts};
 ghost use Rattle.sheet_spec.specs.Slots.{N};
 ghost use Rattle.decision_spec.specs.Question.{questionLength};
-ghost use Rattle.listing_text.specs.Text.{lineRoom};
+ghost use Rattle.listing_text.specs.Limits.{lineRoom};
 ghost use Rattle.listing.specs.Limits.{longest};
 use libc::STDOUT_FILENO;
 use listing::QUESTION;

@@ -8,7 +8,7 @@ ghost use Rattle.sheet_spec.specs.Sheet.{values};
 ghost use Rattle.decision_spec.specs.Question.{questionLength};
 ghost use Rattle.decision_spec.specs.Decision.{checkRecovery, isKeep};
 ghost use Rattle.decision_spec.specs.Listing.{questionLine, sheetLine};
-ghost use Rattle.listing_text.specs.Text.{Put, lineRoom};
+ghost use Rattle.listing_text.specs.Limits.{Put, lineRoom};
 
 pub mod lines;
 

@@ -7,7 +7,7 @@ ghost use lib.ListN.{length};
 ghost use Rattle.decision_answers.specs.Recovery.{checkReplyOf};
 ghost use Rattle.decision_answers.specs.Decision.{replyOf};
 ghost use Rattle.decision_spec.specs.Listing.{_␣_, checkWord, decisionWord, digits, newline, refusedWord, replyText, sheetWord};
-ghost use Rattle.listing_text.specs.Text.{Put, lineRoom, replyRoom, wordRoom};
+ghost use Rattle.listing_text.specs.Limits.{Put, lineRoom, replyRoom, wordRoom};
 use decision_answers::Decision;
 use decision_answers::Recovery;
 use listing_text::LINE;

@@ -7,7 +7,7 @@ use native.Mathlib.Omega.{arith}
 use lib.ListN.{length, take, getD, set, length-append}
 use lib.Seq.{sets, take-suc}
 use Rattle.integers.proofs.Lists.{sets-append}
-use Rattle.listing_text.specs.Text.{Put}
+use Rattle.listing_text.specs.Limits.{Put}
 
 pub none : (l : List ℕ) (at : ℕ) → Put [] l at l (at + 0)
 none l at = record { ends = refl; is = refl }

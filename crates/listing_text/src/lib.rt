@@ -1,14 +1,14 @@
 // Text in a line's buffer: words and numbers, put from a place on. The bytes of a number are its digits, equal to those of
-// decision_spec/specs/Listing.antt. Each answers the place after what it put; the other bytes stay as they were. specs/Text says how
+// decision_spec/specs/Listing.antt. Each answers the place after what it put; the other bytes stay as they were. specs/Limits says how
 // much room each takes.
 ghost use mathlib.Core.List.{_∷_};
 ghost use Prim.Native.Nat.{_+_, _≤_};
 ghost use lib.ListN.{length};
 ghost use Rattle.decision_spec.specs.Listing.{digits, space};
-ghost use Rattle.listing_text.specs.Text.{Put, numberRoom, lineRoom};
+ghost use Rattle.listing_text.specs.Limits.{Put, numberRoom, lineRoom};
 
 // The most bytes of a number, a word, a reply (a word and two numbers, each after a space) and a line (an ordinal, a space,
-// a reply and a newline), as in specs/Text.antt.
+// a reply and a newline), as in specs/Limits.antt.
 const NUMBER: usize = 20;
 
 const WORD: usize = 11;

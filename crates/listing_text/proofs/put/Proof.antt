@@ -4,7 +4,7 @@ use Prim.Native.Nat.{_+_, _-_, _≤_}
 use native.Mathlib.Omega.{arith}
 use lib.ListN.{length, take}
 use lib.Seq.{take-length}
-use Rattle.listing_text.specs.Text.{Put}
+use Rattle.listing_text.specs.Limits.{Put}
 use Rattle.listing_text.proofs.Puts.{none, next}
 use Rattle.listing_text.proofs.put.Statement.{statement}
 use Rattle.listing_text.proofs.put.Tie as tie

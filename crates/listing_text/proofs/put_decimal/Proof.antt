@@ -2,7 +2,7 @@
 use mathlib.Core.Path.{_≡_, refl}
 use native.Mathlib.Omega.{arith}
 use lib.ListN.{length, length-set, length-take, length-drop}
-use Rattle.listing_text.specs.Text.{numberRoom}
+use Rattle.listing_text.specs.Limits.{numberRoom}
 use Rattle.listing_text.proofs.Digits.{Spelled, none, more, last}
 use Rattle.listing_text.proofs.put_decimal.Statement.{statement}
 use Rattle.listing_text.proofs.put_decimal.Tie as tie
