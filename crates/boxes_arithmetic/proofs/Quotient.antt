@@ -5,63 +5,76 @@ use lib.IntN.{ℤ, pos, negsuc, negℤ, natAbs, _+ℤ_, _*ℤ_}
 use lib.Signed.{_≤ℤ_, _<ℤ_}
 use Rattle.integers.specs.Order.{minZ, maxZ}
 use Rattle.integers.specs.Division.{floorDiv}
-use Rattle.integers.proofs.Z.{ints, flat, min-is, max-is, prod, neg, le-by, mul-mono}
+use Rattle.integers.proofs.Z.{ints, flat, min-is, max-is, prod, neg, le-by, mul-mono, bound-neg}
 use Rattle.integers.proofs.Division.{floor-lo, floor-most}
 use Rattle.sheet_spec.specs.Valid.{Between}
 use Rattle.machine_spec.specs.Machine.{clamp}
+use Rattle.boxes_arithmetic.specs.Limits.{Divisible, Capped}
+
+-- ---- negatives
+
+pub divisible-neg : {x q : ℤ} → Divisible x q → Divisible (negℤ x) q
+divisible-neg d = record { dividend = bound-neg (d .dividend); positive = d .positive; divisor = d .divisor }
+
+pub capped-neg : {c z : ℤ} → Capped c z → Capped c (negℤ z)
+capped-neg {c} {z} w = record {
+  small = w .small;
+  within = record { low = omega (ints, w .within .high, neg c, neg z); high = omega (ints, w .within .low, neg c, neg z) };
+}
 
 -- ---- z and the clamped f, by where f lies
 
-module _ (c z f : ℤ) (low : negℤ c ≤ℤ z) (high : z ≤ℤ c) where
+module _ (c z f : ℤ) (w : Between (negℤ c) c z) where
   above : z ≤ℤ f → z ≡ minZ z (clamp c f)
   unfolding clamp
-  above h = omega (ints, min-is z (maxZ (negℤ c) (minZ f c)), max-is (negℤ c) (minZ f c), min-is f c)
+  above h = omega (ints, w .low, w .high, min-is z (maxZ (negℤ c) (minZ f c)), max-is (negℤ c) (minZ f c), min-is f c)
 
   below : f ≤ℤ negℤ c → negℤ c ≡ minZ z (clamp c f)
   unfolding clamp
-  below h = omega (ints, min-is z (maxZ (negℤ c) (minZ f c)), max-is (negℤ c) (minZ f c), min-is f c)
+  below h = omega (ints, w .low, w .high, min-is z (maxZ (negℤ c) (minZ f c)), max-is (negℤ c) (minZ f c), min-is f c)
 
   between : negℤ c ≤ℤ f → f ≤ℤ z → f ≡ minZ z (clamp c f)
   unfolding clamp
-  between h k = omega (ints, min-is z (maxZ (negℤ c) (minZ f c)), max-is (negℤ c) (minZ f c), min-is f c)
+  between h k = omega (ints, w .low, w .high, min-is z (maxZ (negℤ c) (minZ f c)), max-is (negℤ c) (minZ f c), min-is f c)
 
   -- the greater of z and of the clamped −f, by the lesser of −z and of the clamped f
   pub mirror : negℤ (minZ (negℤ z) (clamp c f)) ≡ maxZ z (clamp c (negℤ f))
   unfolding clamp
   mirror =
-      omega (ints, neg c, neg z, neg f, neg (minZ (negℤ z) (maxZ (negℤ c) (minZ f c))), min-is (negℤ z) (maxZ (negℤ c) (minZ f c)), max-is (negℤ c) (minZ f c), min-is f c, max-is z (maxZ (negℤ c) (minZ (negℤ f) c)), max-is (negℤ c) (minZ (negℤ f) c), min-is (negℤ f) c)
+      omega (ints, w .low, w .high, neg c, neg z, neg f, neg (minZ (negℤ z) (maxZ (negℤ c) (minZ f c))), min-is (negℤ z) (maxZ (negℤ c) (minZ f c)), max-is (negℤ c) (minZ f c), min-is f c, max-is z (maxZ (negℤ c) (minZ (negℤ f) c)), max-is (negℤ c) (minZ (negℤ f) c), min-is (negℤ f) c)
 
   -- the greater of z and of the clamped f lies within the cap
   pub raised-within : Between (negℤ c) c (maxZ z (clamp c f))
   unfolding clamp
   raised-within =
-      let x = max-is z (maxZ (negℤ c) (minZ f c)) in
-      let y = max-is (negℤ c) (minZ f c) in
-      let w = min-is f c in
-      record { low = omega (ints, x, y, w); high = omega (ints, x, y, w) }
+      let greater = max-is z (maxZ (negℤ c) (minZ f c)) in
+      let clamped = max-is (negℤ c) (minZ f c) in
+      let cut = min-is f c in
+      record { low = omega (ints, w .low, w .high, greater, clamped, cut); high = omega (ints, w .low, w .high, greater, clamped, cut) }
 
 -- ---- where the quotient lies, by products
 
-module _ (n : ℤ) (b : ℕ) (x : ℤ) (one : pos 1 ≤ℤ pos b) where
-  at-least : (x *ℤ pos b) ≤ℤ n → x ≤ℤ floorDiv n b
-  at-least h = floor-most n x b (omega ints) (omega (ints, prod x (pos b), prod (pos b) x))
+module _ (x : ℤ) (b : ℕ) (y : ℤ) (one : pos 1 ≤ℤ pos b) where
+  at-least : (y *ℤ pos b) ≤ℤ x → y ≤ℤ floorDiv x b
+  at-least h = floor-most x y b (omega ints) (omega (ints, prod y (pos b), prod (pos b) y))
 
-  at-most : n ≤ℤ (x *ℤ pos b) → floorDiv n b ≤ℤ x
-  at-most h = le-by (floorDiv n b) x (λ g.
-      let l = floor-lo n b (omega ints) in
-      let k = mul-mono (pos b) (x +ℤ pos 1) (floorDiv n b) (omega ints) (simp flat (omega ints)) in
-      omega (ints, simp flat at k, prod x (pos b), prod (pos b) (floorDiv n b)))
+  at-most : x ≤ℤ (y *ℤ pos b) → floorDiv x b ≤ℤ y
+  at-most h = le-by (floorDiv x b) y (λ g.
+      let l = floor-lo x b (omega ints) in
+      let k = mul-mono (pos b) (y +ℤ pos 1) (floorDiv x b) (omega ints) (simp flat (omega ints)) in
+      omega (ints, simp flat at k, prod y (pos b), prod (pos b) (floorDiv x b)))
 
 -- ---- the answer in each case
 
-pub kept : (c n q z : ℤ) → pos 1 ≤ℤ q → negℤ c ≤ℤ z → z ≤ℤ c → (z *ℤ q) ≤ℤ n → z ≡ minZ z (clamp c (floorDiv n (natAbs q)))
-kept c n (negsuc b) z o l h k = absurd (o .le)
-kept c n (pos b) z o l h k = above c z (floorDiv n b) l h (at-least n b z o k)
+pub kept : {c z x q : ℤ} → Divisible x q → Capped c z → (z *ℤ q) ≤ℤ x → z ≡ minZ z (clamp c (floorDiv x (natAbs q)))
+kept {q = negsuc b} d w h = absurd (d .positive .le)
+kept {c} {z} {x} {q = pos b} d w h = above c z (floorDiv x b) (w .within) (at-least x b z (d .positive) h)
 
-pub saturated : (c n q z : ℤ) → pos 1 ≤ℤ q → negℤ c ≤ℤ z → z ≤ℤ c → n ≤ℤ (negℤ c *ℤ q) → negℤ c ≡ minZ z (clamp c (floorDiv n (natAbs q)))
-saturated c n (negsuc b) z o l h k = absurd (o .le)
-saturated c n (pos b) z o l h k = below c z (floorDiv n b) l h (at-most n b (negℤ c) o k)
+pub saturated : {c z x q : ℤ} → Divisible x q → Capped c z → x ≤ℤ (negℤ c *ℤ q) → negℤ c ≡ minZ z (clamp c (floorDiv x (natAbs q)))
+saturated {q = negsuc b} d w h = absurd (d .positive .le)
+saturated {c} {z} {x} {q = pos b} d w h = below c z (floorDiv x b) (w .within) (at-most x b (negℤ c) (d .positive) h)
 
-pub divided : (c n q z : ℤ) → pos 1 ≤ℤ q → negℤ c ≤ℤ z → z ≤ℤ c → n <ℤ (z *ℤ q) → (negℤ c *ℤ q) <ℤ n → floorDiv n (natAbs q) ≡ minZ z (clamp c (floorDiv n (natAbs q)))
-divided c n (negsuc b) z o l h j k = absurd (o .le)
-divided c n (pos b) z o l h j k = between c z (floorDiv n b) l h (at-least n b (negℤ c) o (omega ints)) (at-most n b z o (omega ints))
+pub divided : {c z x q : ℤ} → Divisible x q → Capped c z → x <ℤ (z *ℤ q) → (negℤ c *ℤ q) <ℤ x → floorDiv x (natAbs q) ≡ minZ z (clamp c (floorDiv x (natAbs q)))
+divided {q = negsuc b} d w h l = absurd (d .positive .le)
+divided {c} {z} {x} {q = pos b} d w h l =
+    between c z (floorDiv x b) (w .within) (at-least x b (negℤ c) (d .positive) (omega ints)) (at-most x b z (d .positive) (omega ints))

@@ -3,14 +3,13 @@
 // integers/specs/Division, machine_spec/specs/Machine and machine_spec/specs/Rate.
 ghost use mathlib.Core.Path.{_≡_};
 ghost use mathlib.Core.Bool.{_&&_};
-ghost use lib.IntN.{pos, natAbs, negℤ};
-ghost use lib.Signed.{_≤ℤ_, leZ};
+ghost use lib.IntN.{natAbs};
+ghost use lib.Signed.{leZ};
 ghost use Rattle.integers.specs.Order.{minZ, maxZ};
-ghost use Rattle.integers.specs.Bound.{Bound};
 ghost use Rattle.integers.specs.Division.{ceilDiv, floorDiv};
 ghost use Rattle.machine_spec.specs.Machine.{clamp};
 ghost use Rattle.machine_spec.specs.Rate.{outer};
-ghost use Rattle.boxes_arithmetic.specs.Limits.{word};
+ghost use Rattle.boxes_arithmetic.specs.Limits.{Capped, Divisible};
 
 pub fn min(a: i64, b: i64) -> i64
     ensures { λ r. ⌜ r ≡ minZ a b ⌝ }
@@ -31,34 +30,39 @@ pub fn outer(up: bool, a: i64, b: i64) -> i64
     if up { max(a, b) } else { min(a, b) }
 }
 
-pub fn floor_div(n: i64, q: i64) -> i64
-    requires { ⌜ Bound n 9223372036854775807 × (pos 1 ≤ℤ q) ⌝ }
-    ensures { λ r. ⌜ r ≡ floorDiv n (natAbs q) ⌝ }
+// The quotient, rounded down.
+pub fn floor_div(dividend: i64, divisor: i64) -> i64
+    requires { ⌜ Divisible dividend divisor ⌝ }
+    ensures { λ r. ⌜ r ≡ floorDiv dividend (natAbs divisor) ⌝ }
 {
-    let d = n / q;
-    if n % q < 0 { d - 1 } else { d }
+    let quotient = dividend / divisor;
+    let rest = dividend % divisor;
+    if rest < 0 { quotient - 1 } else { quotient }
 }
 
-// The lesser of z and of n / q rounded down and clamped by the cap. It divides only if the quotient is the answer.
-pub fn lowest(cap: i64, n: i64, q: i64, z: i64) -> i64
-    requires { ⌜ Bound n 9223372036854775807 × ((pos 1 ≤ℤ q) × Bound q word) ⌝ }
-    requires { ⌜ Bound cap 1000 × ((negℤ cap ≤ℤ z) × (z ≤ℤ cap)) ⌝ }
-    ensures { λ r. ⌜ r ≡ minZ z (clamp cap (floorDiv n (natAbs q))) ⌝ }
+// The lesser of the outermost so far and of the quotient, rounded down and clamped by the cap. It divides only if the quotient is
+// the answer.
+pub fn lowest(cap: i64, dividend: i64, divisor: i64, outermost: i64) -> i64
+    requires { ⌜ Divisible dividend divisor × Capped cap outermost ⌝ }
+    ensures { λ r. ⌜ r ≡ minZ outermost (clamp cap (floorDiv dividend (natAbs divisor))) ⌝ }
 {
-    if z * q <= n {
-        return z;
+    if outermost * divisor <= dividend {
+        return outermost;
     }
     let low = -cap;
-    if n <= low * q { low } else { floor_div(n, q) }
+    if dividend <= low * divisor {
+        low
+    } else {
+        floor_div(dividend, divisor)
+    }
 }
 
-// The greater of z and of n / q rounded up and clamped by the cap: `lowest` of the negatives.
-pub fn highest(cap: i64, n: i64, q: i64, z: i64) -> i64
-    requires { ⌜ Bound n 9223372036854775807 × ((pos 1 ≤ℤ q) × Bound q word) ⌝ }
-    requires { ⌜ Bound cap 1000 × ((negℤ cap ≤ℤ z) × (z ≤ℤ cap)) ⌝ }
-    ensures { λ r. ⌜ r ≡ maxZ z (clamp cap (ceilDiv n (natAbs q))) ⌝ }
+// The greater of the outermost so far and of the quotient, rounded up and clamped by the cap: `lowest` of the negatives.
+pub fn highest(cap: i64, dividend: i64, divisor: i64, outermost: i64) -> i64
+    requires { ⌜ Divisible dividend divisor × Capped cap outermost ⌝ }
+    ensures { λ r. ⌜ r ≡ maxZ outermost (clamp cap (ceilDiv dividend (natAbs divisor))) ⌝ }
 {
-    -lowest(cap, -n, q, -z)
+    -lowest(cap, -dividend, divisor, -outermost)
 }
 
 // Both of two tests.

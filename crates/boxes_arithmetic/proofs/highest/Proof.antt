@@ -1,4 +1,5 @@
--- `highest` gives the greater of z and of the clamped quotient, through the negatives. Assumes nothing.
+-- `highest` gives the greater of the outermost so far and of the clamped quotient, rounded up: `lowest` of the negatives, negated.
+-- Assumes nothing.
 use mathlib.Core.Path.{_≡_}
 use mir.Facts.{toZ-ofZ}
 use mir.Syntax.{w64}
@@ -7,57 +8,75 @@ use lib.IntN.{ℤ, negℤ, natAbs}
 use borrow.Author.Needs.{needs}
 use Rattle.integers.specs.Order.{maxZ}
 use Rattle.integers.specs.Division.{ceilDiv}
-use Rattle.integers.proofs.Z.{ints, neg, bound-neg, fits64}
-use Rattle.sheet_spec.specs.Valid.{Between}
+use Rattle.integers.proofs.Z.{fits64}
 use Rattle.machine_spec.specs.Machine.{clamp}
+use Rattle.boxes_arithmetic.specs.Limits.{Divisible, Capped}
 use Rattle.boxes_arithmetic.proofs.Bounds.{zero-less, within-bound}
-use Rattle.boxes_arithmetic.proofs.Quotient.{mirror, raised-within}
+use Rattle.boxes_arithmetic.proofs.Quotient.{divisible-neg, capped-neg, mirror, raised-within}
 use Rattle.boxes_arithmetic.proofs.highest.Statement.{statement}
 use Rattle.boxes_arithmetic.proofs.highest.Tie as tie
 
-module _ (c : tie.Start) where
+module _ (at-start : tie.Start) where
   abbrev cap : ℤ
-  cap = c .args .cap
+  cap = at-start .args .cap
 
-  z-within : Between (negℤ cap) cap (negℤ (c .args .z))
-  z-within = let p = c .pre .1 .1 in record { low = omega (ints, p .1, neg cap, neg (c .args .z)); high = omega (ints, p .0, neg cap, neg (c .args .z)) }
+  abbrev outermost : ℤ
+  outermost = at-start .args .outermost
 
-  n-fits : SFits w64 (negℤ (c .args .n))
-  n-fits = fits64 (bound-neg (c .pre .0 .0)) tt
+  -- the quotient rounded up
+  abbrev ceiling : ℤ
+  ceiling = ceilDiv (at-start .args .dividend) (natAbs (at-start .args .divisor))
 
-  z-fits : SFits w64 (negℤ (c .args .z))
-  z-fits = fits64 (within-bound (c .pre .1 .0) z-within) tt
+  abbrev answer : ℤ
+  answer = maxZ outermost (clamp cap ceiling)
 
-  abbrev out : ℤ
-  out = maxZ (c .args .z) (clamp cap (ceilDiv (c .args .n) (natAbs (c .args .q))))
+  -- what is asked, of the negatives
+  divisible : Divisible (negℤ (at-start .args .dividend)) (at-start .args .divisor)
+  divisible = divisible-neg (at-start .pre .0)
 
-  out-fits : SFits w64 out
-  out-fits = fits64 (within-bound (c .pre .1 .0) (raised-within cap (c .args .z) (ceilDiv (c .args .n) (natAbs (c .args .q))) (c .pre .1 .1 .0) (c .pre .1 .1 .1))) tt
+  capped : Capped cap (negℤ outermost)
+  capped = capped-neg (at-start .pre .1)
+
+  dividend-fits : SFits w64 (negℤ (at-start .args .dividend))
+  dividend-fits = fits64 (divisible .dividend) tt
+
+  outermost-fits : SFits w64 (negℤ outermost)
+  outermost-fits = fits64 (within-bound (capped .small) (capped .within)) tt
+
+  answer-fits : SFits w64 answer
+  answer-fits = fits64 (within-bound (capped .small) (raised-within cap outermost ceiling (at-start .pre .1 .within))) tt
 
 sub-lowest : tie.Need-sub-lowest
-sub-lowest c = simp (toZ-ofZ, c .fits .n, zero-less) (n-fits c)
+sub-lowest at-start = simp (toZ-ofZ, at-start .fits .dividend, zero-less) (dividend-fits at-start)
 
 sub-lowest-2 : tie.Need-sub-lowest-2
-sub-lowest-2 c = simp (toZ-ofZ, c .fits .z, zero-less) (z-fits c)
+sub-lowest-2 at-start = simp (toZ-ofZ, at-start .fits .outermost, zero-less) (outermost-fits at-start)
 
 lowest-requires : tie.Need-lowest-requires
-lowest-requires c κs =
-    simp (toZ-ofZ, c .fits .n, c .fits .q, c .fits .cap, c .fits .z, zero-less, n-fits c, z-fits c)
-    ((bound-neg (c .pre .0 .0), c .pre .0 .1), (c .pre .1 .0, (z-within c .low, z-within c .high)))
+lowest-requires at-start κs =
+    let fits = at-start .fits in
+    simp (toZ-ofZ, fits .dividend, fits .divisor, fits .cap, fits .outermost, zero-less, dividend-fits at-start, outermost-fits at-start)
+    (divisible at-start, capped at-start)
 
--- what `lowest` answers for the negatives
-neg-is : (c : tie.After-lowest) → negℤ (c .lowest .result) ≡ out (c .before)
-unfolding ceilDiv
-neg-is c =
-    let s = c .before in
-    rw (c .lowest .ensures)
-    (simp (toZ-ofZ, s .fits .n, s .fits .q, s .fits .cap, s .fits .z, zero-less, n-fits s, z-fits s) (mirror (cap s) (s .args .z) _ (s .pre .1 .1 .0) (s .pre .1 .1 .1)))
+module _ (at-lowest : tie.After-lowest) where
+  lowest-fits : SFits w64 (at-lowest .lowest .result)
+  lowest-fits = search needs
+
+  -- the negative of what `lowest` answers
+  answer-is : negℤ (at-lowest .lowest .result) ≡ answer (at-lowest .before)
+  unfolding ceilDiv
+  answer-is =
+      let at-start = at-lowest .before in
+      let fits = at-start .fits in
+      rw (at-lowest .lowest .ensures)
+      (simp (toZ-ofZ, fits .dividend, fits .divisor, fits .cap, fits .outermost, zero-less, dividend-fits at-start, outermost-fits at-start)
+      (mirror (cap at-start) (outermost at-start) _ (at-start .pre .1 .within)))
 
 sub-result : tie.Need-sub-result
-sub-result c = let f : SFits w64 (c .lowest .result) = search needs in rw (toZ-ofZ f, zero-less, neg-is c) (out-fits (c .before))
+sub-result at-lowest = rw (toZ-ofZ (lowest-fits at-lowest), zero-less, answer-is at-lowest) (answer-fits (at-lowest .before))
 
 returns : tie.Need-returns
-returns c = let f : SFits w64 (c .lowest .result) = search needs in rw (toZ-ofZ f, zero-less, neg-is c) (toZ-ofZ (out-fits (c .before)))
+returns at-lowest = rw (toZ-ofZ (lowest-fits at-lowest), zero-less, answer-is at-lowest) (toZ-ofZ (answer-fits (at-lowest .before)))
 
 pub highest-spec : {M : Type 1} → statement M
 highest-spec = tie.close (tie.spec sub-lowest sub-lowest-2 lowest-requires sub-result returns)

@@ -1,68 +1,95 @@
--- `lowest` gives the lesser of z and of the clamped quotient: z, −cap or the quotient by two tests. Assumes nothing.
+-- `lowest` gives the lesser of the outermost so far and of the clamped quotient: by two tests, the outermost so far, −cap or the
+-- quotient. Assumes nothing.
 use mathlib.Core.Path.{_≡_, _∙_}
 use mir.Facts.{toZ-ofZ}
 use mir.Syntax.{w64}
 use mir.Val.{SFits, toZ, ofZ}
-use lib.IntN.{pos, negℤ, _-ℤ_, _*ℤ_}
+use lib.IntN.{ℤ, pos, negℤ, _-ℤ_, _*ℤ_}
 use borrow.Author.Needs.{needs}
-use Rattle.integers.specs.Bound.{Bound}
 use Rattle.integers.proofs.Z.{le-true, le-false, bound-neg, bound-mul, fits64}
+use Rattle.boxes_arithmetic.specs.Limits.{Divisible, Capped}
 use Rattle.boxes_arithmetic.proofs.Bounds.{zero-less, within-bound}
 use Rattle.boxes_arithmetic.proofs.Quotient.{kept, saturated, divided}
 use Rattle.boxes_arithmetic.proofs.lowest.Statement.{statement}
 use Rattle.boxes_arithmetic.proofs.lowest.Tie as tie
 
-module _ (c : tie.Start) where
-  z-bound : Bound (c .args .z) 1000
-  z-bound = let p = c .pre .1 in within-bound (p .0) (record { low = p .1 .0; high = p .1 .1 })
+module _ (at-start : tie.Start) where
+  abbrev q : ℤ
+  q = at-start .args .divisor
 
-  zq-fits : SFits w64 (c .args .z *ℤ c .args .q)
-  zq-fits = fits64 (bound-mul z-bound (c .pre .0 .1 .1)) tt
+  abbrev cap : ℤ
+  cap = at-start .args .cap
 
-  low-fits : SFits w64 (negℤ (c .args .cap))
-  low-fits = fits64 (bound-neg (c .pre .1 .0)) tt
+  abbrev outermost : ℤ
+  outermost = at-start .args .outermost
 
-  low-is : toZ w64 (ofZ w64 (pos 0 -ℤ toZ w64 (ofZ w64 (c .args .cap)))) ≡ negℤ (c .args .cap)
-  low-is = rw (toZ-ofZ (c .fits .cap), zero-less) (toZ-ofZ low-fits)
+  divisible : Divisible (at-start .args .dividend) q
+  divisible = at-start .pre .0
 
-  lowq-fits : SFits w64 (negℤ (c .args .cap) *ℤ c .args .q)
-  lowq-fits = fits64 (bound-mul (bound-neg (c .pre .1 .0)) (c .pre .0 .1 .1)) tt
+  capped : Capped cap outermost
+  capped = at-start .pre .1
+
+  -- the products that are compared with the dividend
+  outermost-fits : SFits w64 (outermost *ℤ q)
+  outermost-fits = fits64 (bound-mul (within-bound (capped .small) (capped .within)) (divisible .divisor)) tt
+
+  low-fits : SFits w64 (negℤ cap *ℤ q)
+  low-fits = fits64 (bound-mul (bound-neg (capped .small)) (divisible .divisor)) tt
+
+  -- −cap
+  neg-fits : SFits w64 (negℤ cap)
+  neg-fits = fits64 (bound-neg (capped .small)) tt
+
+  low-is : toZ w64 (ofZ w64 (pos 0 -ℤ toZ w64 (ofZ w64 cap))) ≡ negℤ cap
+  low-is = rw (toZ-ofZ (at-start .fits .cap), zero-less) (toZ-ofZ neg-fits)
 
 mul-if1 : tie.Need-mul-if1
-mul-if1 c = simp (toZ-ofZ, c .fits .z, c .fits .q) (zq-fits c)
-
-returns : tie.Need-returns
-returns c =
-    let s = c .before in
-    let p = s .pre in
-    let t = simp (toZ-ofZ, s .fits .z, s .fits .q, s .fits .n, zq-fits s) at (c .if1 .taken) in
-    toZ-ofZ (s .fits .z) ∙ kept (s .args .cap) (s .args .n) (s .args .q) (s .args .z) (p .0 .1 .0) (p .1 .1 .0) (p .1 .1 .1) (le-true _ _ t)
+mul-if1 at-start = simp (toZ-ofZ, at-start .fits .outermost, at-start .fits .divisor) (outermost-fits at-start)
 
 sub-low : tie.Need-sub-low
-sub-low c = let s = c .before in simp (toZ-ofZ, s .fits .cap, zero-less) (low-fits s)
+sub-low at-low =
+    let at-start = at-low .before in
+    simp (toZ-ofZ, at-start .fits .cap, zero-less) (neg-fits at-start)
 
 mul-if2 : tie.Need-mul-if2
-mul-if2 c = let s = c .before in simp (low-is s, toZ-ofZ, s .fits .q) (lowq-fits s)
+mul-if2 at-low =
+    let at-start = at-low .before in
+    simp (low-is at-start, toZ-ofZ, at-start .fits .divisor) (low-fits at-start)
 
+floor-div-requires : tie.Need-floor-div-requires
+floor-div-requires c κs =
+    let at-start = c .before .before in
+    simp (toZ-ofZ, at-start .fits .dividend, at-start .fits .divisor) (divisible at-start)
+
+-- the outermost so far
+returns : tie.Need-returns
+returns at-return =
+    let at-start = at-return .before in
+    let fits = at-start .fits in
+    let test = simp (toZ-ofZ, fits .outermost, fits .divisor, fits .dividend, outermost-fits at-start) at (at-return .if1 .taken) in
+    toZ-ofZ (fits .outermost) ∙ kept (divisible at-start) (capped at-start) (le-true _ _ test)
+
+-- −cap
 returns-2 : tie.Need-returns-2
-returns-2 c =
-    let s = c .before .before in
-    let p = s .pre in
-    let t = simp (low-is s, toZ-ofZ, s .fits .q, lowq-fits s, s .fits .n) at (c .if2 .taken) in
-    low-is s ∙ saturated (s .args .cap) (s .args .n) (s .args .q) (s .args .z) (p .0 .1 .0) (p .1 .1 .0) (p .1 .1 .1) (le-true _ _ t)
+returns-2 at-return =
+    let at-start = at-return .before .before in
+    let fits = at-start .fits in
+    let test = simp (low-is at-start, toZ-ofZ, fits .divisor, low-fits at-start, fits .dividend) at (at-return .if2 .taken) in
+    low-is at-start ∙ saturated (divisible at-start) (capped at-start) (le-true _ _ test)
 
+-- the quotient
 returns-3 : tie.Need-returns-3
-returns-3 c =
-    let d = c .before in
-    let s = d .before .before in
-    let p = s .pre in
-    let f : SFits w64 (c .floor-div .result) = search needs in
-    let t = simp (toZ-ofZ, s .fits .z, s .fits .q, s .fits .n, zq-fits s) at (d .before .if1 .left) in
-    let u = simp (low-is s, toZ-ofZ, s .fits .q, lowq-fits s, s .fits .n) at (d .if2 .left) in
-    toZ-ofZ f
-    ∙ (c .floor-div .ensures
-    ∙ simp (toZ-ofZ, s .fits .n, s .fits .q)
-    (divided (s .args .cap) (s .args .n) (s .args .q) (s .args .z) (p .0 .1 .0) (p .1 .1 .0) (p .1 .1 .1) (le-false _ _ t) (le-false _ _ u)))
+returns-3 at-return =
+    let second = at-return .before in
+    let first = second .before in
+    let at-start = first .before in
+    let fits = at-start .fits in
+    let quotient-fits : SFits w64 (at-return .floor-div .result) = search needs in
+    let below = simp (toZ-ofZ, fits .outermost, fits .divisor, fits .dividend, outermost-fits at-start) at (first .if1 .left) in
+    let above = simp (low-is at-start, toZ-ofZ, fits .divisor, low-fits at-start, fits .dividend) at (second .if2 .left) in
+    toZ-ofZ quotient-fits
+    ∙ (at-return .floor-div .ensures
+    ∙ simp (toZ-ofZ, fits .dividend, fits .divisor) (divided (divisible at-start) (capped at-start) (le-false _ _ below) (le-false _ _ above)))
 
 pub lowest-spec : {M : Type 1} → statement M
-lowest-spec = tie.close (tie.spec mul-if1 returns sub-low mul-if2 (λ c κs. search needs) returns-2 returns-3)
+lowest-spec = tie.close (tie.spec mul-if1 returns sub-low mul-if2 floor-div-requires returns-2 returns-3)
