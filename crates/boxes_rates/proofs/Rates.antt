@@ -1,6 +1,6 @@
 -- Laws about bands, laws and rates. Assumes nothing.
 use mathlib.Core.Path.{_≡_, refl}
-use mathlib.Core.Bool.{Bool, true, false, cond}
+use mathlib.Core.Bool.{Bool, true, false}
 use mathlib.Core.List.{List}
 use Prim.Native.Nat.{ℕ, _+_, _≤_, _<_}
 use native.Mathlib.Numerals.{add-one}
@@ -20,14 +20,23 @@ unfolding outermost
 outermost-more up z n f = rw add-one refl
 
 -- the law's commands in band k
-module _ (b : Bool) (u : ℤ) (v : List ℤ) (k : ℕ) where
-  pub least-is : leastOf (lawOf b u) v k ≡ cond b (safetyLeast v k) u
+module _ {b : Bool} (u : ℤ) (v : List ℤ) (k : ℕ) where
+  pub least-plain : b ≡ true → leastOf (lawOf b u) v k ≡ safetyLeast v k
   unfolding leastOf lawOf
-  least-is = elim b [ true ↦ refl | false ↦ refl ]
+  least-plain e = rw e refl
 
-  pub greatest-is : greatestOf (lawOf b u) v k ≡ cond b (safetyGreatest v k) u
+  pub greatest-plain : b ≡ true → greatestOf (lawOf b u) v k ≡ safetyGreatest v k
   unfolding greatestOf lawOf
-  greatest-is = elim b [ true ↦ refl | false ↦ refl ]
+  greatest-plain e = rw e refl
+
+  -- one command is the least and the greatest
+  pub least-one : b ≡ false → leastOf (lawOf b u) v k ≡ u
+  unfolding leastOf lawOf
+  least-one e = rw e refl
+
+  pub greatest-one : b ≡ false → greatestOf (lawOf b u) v k ≡ u
+  unfolding greatestOf lawOf
+  greatest-one e = rw e refl
 
 -- band k and the numbers from l to h
 module _ (v : List ℤ) (bands k : ℕ) (l h : ℤ) where

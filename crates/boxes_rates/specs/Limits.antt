@@ -1,14 +1,72 @@
--- How far the numbers go that the code is given, and what it asks of its caller.
+-- How far the numbers go that the code is given, what it asks of its caller, and what it promises.
+use mathlib.Core.Path.{_≡_}
+use mathlib.Core.Bool.{Bool}
 use mathlib.Core.List.{List}
-use Prim.Native.Nat.{ℕ, _≤_}
-use lib.IntN.{ℤ}
-use Rattle.machine_spec.specs.Machine.{Machine}
-use Rattle.boxes_arithmetic.specs.Limits.{SidesWithin, limit}
+use Prim.Native.Nat.{ℕ, _+_, _*_, _≤_, _<_}
+use lib.IntN.{ℤ, pos, negℤ, _*ℤ_}
+use lib.Signed.{_≤ℤ_}
+use Rattle.integers.specs.Bound.{Bound}
+use Rattle.sheet_spec.specs.Slots.{N, rowSize, slots, Row, rowAt}
+use Rattle.sheet_spec.specs.Valid.{Between}
+use Rattle.machine_spec.specs.Machine.{Machine, cap, least, greatest}
+use Rattle.machine_spec.specs.Rate.{bound, outer}
+use Rattle.boxes_arithmetic.specs.Limits.{Capped, SidesWithin, limit, word}
 use Rattle.boxes_rates.specs.Plant.{Usable}
 
 -- no number N of a row over a box that the code takes is greater
 abbrev pub rowLimit : ℕ
 rowLimit = 9000000000000000000
+
+-- nor the part of a row's N that a command has
+abbrev pub termLimit : ℕ
+termLimit = word * word
+
+-- ---- a row of the sheet
+
+-- the row at a slot can be bounded over the box B of n variables
+pub record RowAsked (n row : ℕ) (B : List ℤ) : Type 0 where
+  pub vars : n ≤ N
+  pub place : row + rowSize ≤ slots
+  pub sides : SidesWithin limit B
+
+-- t is the outer one of b·u over the law's commands u in a band
+pub record CommandTerm (up : Bool) (m : Machine) (r : Row) (band : ℕ) (t : ℤ) : Type 0 where
+  pub same : t ≡ outer up (r .b *ℤ least m band) (r .b *ℤ greatest m band)
+  pub near : Bound t termLimit
+
+-- x is the row's N bounded over the box B and over the commands whose outer term is t
+pub record RowBounded (up : Bool) (n : ℕ) (r : Row) (B : List ℤ) (t x : ℤ) : Type 0 where
+  pub same : (u v : ℤ) → t ≡ outer up (r .b *ℤ u) (r .b *ℤ v) → x ≡ bound up n r B u v
+  pub near : Bound x rowLimit
+
+-- the allowed change by the row at a slot can be worked out where x is the row's N, beside the outermost so far, z
+pub record ChangeAsked (cap : ℤ) (v : List ℤ) (row : ℕ) (x z : ℤ) : Type 0 where
+  pub place : row + rowSize ≤ slots
+  pub divisor : pos 1 ≤ℤ rowAt v row .q
+  pub number : Bound x rowLimit
+  pub capped : Capped cap z
+
+-- ---- a rate over a box
+
+-- the rate of variable i over the box B can be worked out
+pub record RateAsked (m : Machine) (B : List ℤ) (i : ℕ) : Type 0 where
+  pub usable : Usable m
+  pub sides : SidesWithin limit B
+  pub var : i < m .n
+
+-- so can a band's share in it, beside the outermost so far, z
+pub record BandAsked (m : Machine) (B : List ℤ) (i band : ℕ) (z : ℤ) : Type 0 where
+  pub rate : RateAsked m B i
+  pub among : band < m .bands
+  pub within : Between (negℤ (cap m i)) (cap m i) z
+
+-- ---- the rates of a round
+
+-- a box can be cut off at `reach` from a face of S, at most 1,001 caps
+pub record NarrowAsked (S : List ℤ) (reach : ℤ) (i : ℕ) : Type 0 where
+  pub room : i < N
+  pub near : Bound reach 1001000
+  pub start : SidesWithin limit S
 
 -- the rates of a step of k ticks from the box S can be worked out with the working box E
 pub record RatesAsked (m : Machine) (S : List ℤ) (k : ℕ) (E : List ℤ) : Type 0 where

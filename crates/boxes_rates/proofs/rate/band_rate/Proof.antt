@@ -1,6 +1,7 @@
--- `band_rate` gives the outer one of z and of a band's share in a rate: its row's if it is met, or else z, which the
--- neutral value leaves as it is. Assumes nothing.
+-- `band_rate` gives the outer one of the outermost so far and of a band's share in a rate: its row's where the band is met, or else
+-- the outermost so far, which the neutral value leaves as it is. Assumes nothing.
 use mathlib.Core.Path.{_≡_, refl, sym, _∙_}
+use mathlib.Core.Bool.{Bool}
 use mir.Facts.{toZ-ofZ}
 use mir.Syntax.{w64}
 use mir.Val.{SFits}
@@ -13,30 +14,43 @@ use Rattle.machine_spec.proofs.Sound.{outer-neutral}
 use Rattle.boxes_rates.proofs.rate.band_rate.Statement.{statement}
 use Rattle.boxes_rates.proofs.rate.band_rate.Tie as tie
 
-module _ (c : tie.After-band-meets) where
-  abbrev s : tie.Start
-  s = c .before .before .before
+-- the band is met, by the definition
+abbrev met : tie.Start → Bool
+met at-start =
+    let a = at-start .args in
+    let B = a .over .now in
+    bandMeets (a .sheet .now) (a .plant .bands) (a .band) (lo B (a .plant .var)) (hi B (a .plant .var))
 
-  met-is : let b = s .args .b .now in let p = s .args .p in c .band-meets .result ≡ bandMeets (s .args .sheet .now) (p .bands) (s .args .k) (lo b (p .var)) (hi b (p .var))
-  met-is = c .band-meets .ensures ∙ simp (told, c .before .band-meets-arg2 .given, c .before .before .band-meets-arg .given)
+module _ (at-test : tie.After-band-meets) where
+  abbrev at-start : tie.Start
+  at-start = at-test .before .before .before
+
+  met-is : at-test .band-meets .result ≡ met at-start
+  met-is = let at-upper = at-test .before in at-test .band-meets .ensures ∙ simp (told, at-upper .band-meets-arg2 .given, at-upper .before .band-meets-arg .given)
+
+band-meets-requires : tie.Need-band-meets-requires
+band-meets-requires c κs = let asked = c .before .before .pre in (asked .among, asked .rate .usable .bands)
 
 row-rate-requires : tie.Need-row-rate-requires
 row-rate-requires c κs =
-    let p = s (c .before) .pre in
-    (p .0, (p .1 .0, (sym (met-is (c .before)) ∙ c .if1 .taken, rw (toZ-ofZ (s (c .before) .fits .z)) (p .1 .1))))
+    let at-test = c .before in
+    (rw (toZ-ofZ (at-start at-test .fits .outermost)) (at-start at-test .pre), sym (met-is at-test) ∙ c .if1 .taken)
 
+-- the band is met
 returns : tie.Need-returns
-returns c =
-    let f : SFits w64 (c .row-rate .result) = search needs in
-    toZ-ofZ f ∙ (c .row-rate .ensures ∙ rw (toZ-ofZ (s (c .before .before) .fits .z)) refl)
+returns at-return =
+    let at-test = at-return .before .before in
+    let rate-fits : SFits w64 (at-return .row-rate .result) = search needs in
+    toZ-ofZ rate-fits ∙ (at-return .row-rate .ensures ∙ rw (toZ-ofZ (at-start at-test .fits .outermost)) refl)
 
+-- it is not
 returns-2 : tie.Need-returns-2
 unfolding bandRate
-returns-2 c =
-    let d = s (c .before) in
-    let w = d .pre .1 .1 in
-    toZ-ofZ (d .fits .z)
-    ∙ rw (sym (met-is (c .before)) ∙ c .if1 .left) (sym (outer-neutral (record { low = w .0; high = w .1 }) (d .args .up)))
+returns-2 at-return =
+    let at-test = at-return .before in
+    let start = at-start at-test in
+    toZ-ofZ (start .fits .outermost)
+    ∙ rw (sym (met-is at-test) ∙ at-return .if1 .left) (sym (outer-neutral (start .pre .within) (start .args .up)))
 
 pub band-rate-spec : {M : Type 1} → statement M
 band-rate-spec =
@@ -47,7 +61,7 @@ band-rate-spec =
     (λ c. search needs)
     (λ c. search needs)
     (λ c. search needs)
-    (λ c κs. let p = c .before .before .pre in (p .1 .0 .1, p .0 .0 .bands))
+    band-meets-requires
     row-rate-requires
     returns
     returns-2)

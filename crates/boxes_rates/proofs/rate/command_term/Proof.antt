@@ -1,6 +1,6 @@
--- `command_term` is the outer product of the row's b and the law's commands: under one command there is only one. Assumes nothing.
-use mathlib.Core.Path.{_≡_, refl, sym, _∙_, subst}
-use Prim.Native.Nat.{_*_}
+-- `command_term` gives the outer product of the row's b and the law's commands: under one command there is only one product.
+-- Assumes nothing.
+use mathlib.Core.Path.{_≡_, sym, ap, ap₂, _∙_, subst}
 use lib.IntN.{ℤ, _*ℤ_}
 use mir.Facts.{toZ-ofZ}
 use mir.Syntax.{w32, w64}
@@ -9,65 +9,94 @@ use borrow.Author.Needs.{needs}
 use Rattle.integers.specs.Bound.{Bound}
 use Rattle.integers.proofs.Z.{told, fits64}
 use Rattle.sheet_spec.specs.Slots.{rowAt}
-use Rattle.boxes_arithmetic.specs.Limits.{word}
 use Rattle.machine_spec.specs.Machine.{Machine, least, greatest}
 use Rattle.machine_spec.specs.Rate.{outer}
 use Rattle.machine_spec.proofs.Face.{outer-one}
+use Rattle.boxes_rates.specs.Limits.{termLimit}
 use Rattle.boxes_rates.specs.Plant.{machineOf}
-use Rattle.boxes_rates.proofs.Rates.{least-is, greatest-is}
+use Rattle.boxes_rates.proofs.Rates.{least-plain, greatest-plain, least-one, greatest-one}
 use Rattle.boxes_rates.proofs.rate.command_term.Statement.{statement}
 use Rattle.boxes_rates.proofs.rate.command_term.Tie as tie
 
-module _ (s : tie.Start) where
+module _ (at-start : tie.Start) where
   abbrev M : Machine
-  M = machineOf (s .args .p) (s .args .sheet .now)
+  M = machineOf (at-start .args .plant) (at-start .args .sheet .now)
+
+  abbrev b : ℤ
+  b = rowAt (at-start .args .sheet .now) (at-start .args .row) .b
 
   -- b times the law's least and greatest command
-  abbrev first : ℤ
-  first = rowAt (s .args .sheet .now) (s .args .row) .b *ℤ least M (s .args .k)
+  abbrev least-term : ℤ
+  least-term = b *ℤ least M (at-start .args .band)
 
-  abbrev last : ℤ
-  last = rowAt (s .args .sheet .now) (s .args .row) .b *ℤ greatest M (s .args .k)
+  abbrev greatest-term : ℤ
+  greatest-term = b *ℤ greatest M (at-start .args .band)
 
-first-is : (c : tie.After-product) → c .product .result ≡ first (c .before .before .before .before)
-first-is c =
-    let s = c .before .before .before .before .args in
-    rw (least-is (s .p .baseline) (s .p .command) (s .sheet .now) (s .k), c .before .before .if1 .taken)
-    (c .product .ensures .0 ∙ simp (told, c .before .before .before .b .given, c .before .product-arg .given))
+  command-fits : SFits w32 (at-start .args .plant .command)
+  command-fits = search needs
 
-last-is : (c : tie.After-product2) → c .product2 .result ≡ last (c .before .before .before .before .before .before)
-last-is c =
-    let d = c .before .before .before .before in
-    let s = d .before .before .args in
-    rw (greatest-is (s .p .baseline) (s .p .command) (s .sheet .now) (s .k), d .if1 .taken)
-    (c .product2 .ensures .0 ∙ simp (told, d .before .b .given, c .before .product-arg2 .given))
+-- the plain law: b times the band's least command
+module _ (at-least : tie.After-product) where
+  abbrev plain : tie.Then1
+  plain = at-least .before .before
 
+  least-term-is : at-least .product .result ≡ least-term (plain .before .before)
+  least-term-is =
+      let a = plain .before .before .args in
+      at-least .product .ensures .0
+      ∙ simp (told, plain .before .coefficient .given, at-least .before .product-arg .given)
+      (ap (λ (z : ℤ). b (plain .before .before) *ℤ z) (sym (least-plain (a .plant .command) (a .sheet .now) (a .band) (plain .if1 .taken))))
+
+-- and its greatest
+module _ (at-greatest : tie.After-product2) where
+  abbrev at-least : tie.After-product
+  at-least = at-greatest .before .before
+
+  abbrev law : tie.Then1
+  law = plain at-least
+
+  greatest-term-is : at-greatest .product2 .result ≡ greatest-term (law .before .before)
+  greatest-term-is =
+      let a = law .before .before .args in
+      at-greatest .product2 .ensures .0
+      ∙ simp (told, law .before .coefficient .given, at-greatest .before .product-arg2 .given)
+      (ap (λ (z : ℤ). b (law .before .before) *ℤ z) (sym (greatest-plain (a .plant .command) (a .sheet .now) (a .band) (law .if1 .taken))))
+
+-- the plain law
 returns : tie.Need-returns
-returns c =
-    let d = c .before in
-    let up = d .before .before .before .before .before .before .args .up in
-    let a = d .before .before in
-    let p = a .product .ensures .1 in
-    let q = d .product2 .ensures .1 in
-    let f : SFits w64 (c .outer .result) = search needs in
-    let e : c .outer .result ≡ outer up (a .product .result) (d .product2 .result) = c .outer .ensures ∙ simp (toZ-ofZ, fits64 p tt, fits64 q tt) in
-    rw (toZ-ofZ f) (
-      e ∙ rw (first-is a, last-is d) refl,
-      subst (λ (z : ℤ). Bound z (word * word)) (sym e) (outer-one (λ z. Bound z (word * word)) up p q),
-    )
+returns at-outer =
+    let at-greatest = at-outer .before in
+    let up = law at-greatest .before .before .args .up in
+    let least-near = at-least at-greatest .product .ensures .1 in
+    let greatest-near = at-greatest .product2 .ensures .1 in
+    let outer-fits : SFits w64 (at-outer .outer .result) = search needs in
+    let outer-is : at-outer .outer .result ≡ outer up (at-least at-greatest .product .result) (at-greatest .product2 .result) =
+    at-outer .outer .ensures ∙ simp (toZ-ofZ, fits64 least-near tt, fits64 greatest-near tt) in
+    rw (toZ-ofZ outer-fits)
+    (record {
+      same = outer-is ∙ ap₂ (outer up) (least-term-is (at-least at-greatest)) (greatest-term-is at-greatest);
+      near = subst (λ (z : ℤ). Bound z termLimit) (sym outer-is) (outer-one (λ z. Bound z termLimit) up least-near greatest-near);
+    })
 
+-- one command
 returns-2 : tie.Need-returns-2
-returns-2 c =
-    let d = c .before .before .before in
-    let s = d .before .args in
-    let e = c .before .before .if1 .left in
-    let b = c .product3 .ensures .1 in
-    let f : SFits w32 (s .p .command) = search needs in
-    rw (toZ-ofZ (fits64 b tt)) (
-      rw (least-is (s .p .baseline) (s .p .command) (s .sheet .now) (s .k), greatest-is (s .p .baseline) (s .p .command) (s .sheet .now) (s .k), e)
-          (c .product3 .ensures .0 ∙ simp (told, d .b .given, toZ-ofZ, f) (sym (outer-one (λ z. z ≡ rowAt (s .sheet .now) (s .row) .b *ℤ s .p .command) (s .up) refl refl))),
-      b,
-    )
+returns-2 at-product =
+    let one = at-product .before .before in
+    let at-coefficient = one .before in
+    let at-start = at-coefficient .before in
+    let a = at-start .args in
+    let least-is = least-one (a .plant .command) (a .sheet .now) (a .band) (one .if1 .left) in
+    let greatest-is = greatest-one (a .plant .command) (a .sheet .now) (a .band) (one .if1 .left) in
+    let near = at-product .product3 .ensures .1 in
+    let product-is : at-product .product3 .result ≡ b at-start *ℤ a .plant .command =
+    at-product .product3 .ensures .0 ∙ simp (told, at-coefficient .coefficient .given, toZ-ofZ, command-fits at-start) in
+    rw (toZ-ofZ (fits64 near tt))
+    (record {
+      same =
+          product-is
+          ∙ sym (outer-one (λ z. z ≡ b at-start *ℤ a .plant .command) (a .up) (ap (λ (u : ℤ). b at-start *ℤ u) least-is) (ap (λ (u : ℤ). b at-start *ℤ u) greatest-is));
+      near = near;
+    })
 
 pub command-term-spec : {M : Type 1} → statement M
 command-term-spec =

@@ -1,5 +1,6 @@
 -- `face_rate` gives the rate over a face's neighborhood, and puts the side that was cut back. Assumes nothing.
 use mathlib.Core.Path.{_≡_, refl, _∙_}
+use mathlib.Core.List.{List}
 use Prim.Native.Nat.{_+_, _<_}
 use native.Mathlib.Omega.{arith}
 use lib.IntN.{ℤ, pos, _*ℤ_}
@@ -11,72 +12,113 @@ use mir.Val.{SFits, toZ, ofZ}
 use borrow.Author.Needs.{needs}
 use Rattle.integers.specs.Bound.{Bound}
 use Rattle.integers.proofs.Z.{ints, told, up32, bound-lit, bound-less, bound-mul, fits64}
-use Rattle.sheet_spec.specs.Slots.{_!_, boxSize, cap}
+use Rattle.sheet_spec.specs.Slots.{_!_, N, boxSize, cap}
+use Rattle.machine_spec.specs.Machine.{Machine}
 use Rattle.machine_spec.specs.Rate.{neighborhood, faceRate}
+use Rattle.boxes_rates.specs.Limits.{RatesAsked}
+use Rattle.boxes_rates.specs.Plant.{machineOf}
 use Rattle.boxes_arithmetic.proofs.Bounds.{wide, times-low}
 use Rattle.boxes_rates.proofs.Cut.{cut-below, cut-back}
 use Rattle.boxes_rates.proofs.Bounds.{cap-bound, neighborhood-bound}
 use Rattle.boxes_rates.proofs.rate.face_rate.Statement.{statement}
 use Rattle.boxes_rates.proofs.rate.face_rate.Tie as tie
 
-module _ (c : tie.Start) where
+module _ (at-start : tie.Start) where
+  abbrev M : Machine
+  M = machineOf (at-start .args .plant) (at-start .args .sheet .now)
+
+  abbrev S : List ℤ
+  S = at-start .args .start .now
+
+  abbrev E : List ℤ
+  E = at-start .args .work .now
+
+  asked : RatesAsked M S (at-start .args .ticks) E
+  asked = at-start .pre .0
+
+  var : at-start .args .i < M .n
+  var = at-start .pre .1
+
+  room : at-start .args .i < N
+  room = omega (arith, asked .usable .vars, var)
+
+  -- one cap more than ticks
   abbrev reach : ℤ
-  reach = pos (c .args .k + 1) *ℤ cap (c .args .sheet .now) (c .args .i)
+  reach = pos (at-start .args .ticks + 1) *ℤ cap (at-start .args .sheet .now) (at-start .args .i)
 
   reach-bound : Bound reach 1001000
-  reach-bound = bound-mul {B = 1001} (bound-less (bound-lit (pos (c .args .k + 1))) (omega (arith, c .pre .0 .ticks))) (cap-bound (c .pre .0 .usable) (c .pre .1))
+  reach-bound = bound-mul {B = 1001} (bound-less (bound-lit (pos (at-start .args .ticks + 1))) (omega (arith, asked .ticks))) (cap-bound (asked .usable) var)
+
+  reach-fits : SFits w64 reach
+  reach-fits = fits64 reach-bound tt
 
   reach-low : pos 0 ≤ℤ reach
-  reach-low = times-low (c .args .k + 1) (cap (c .args .sheet .now) (c .args .i)) (omega (ints, c .pre .0 .usable .caps (c .args .i) (c .pre .1) .low))
+  reach-low = times-low (at-start .args .ticks + 1) (cap (at-start .args .sheet .now) (at-start .args .i)) (omega (ints, asked .usable .caps (at-start .args .i) var .low))
 
-  ticks-is : toZ w64 (c .args .k + 1) ≡ pos (c .args .k + 1)
-  ticks-is = toZ-pos w64 (omega (arith, c .pre .0 .ticks))
+  caps-are : toZ w64 (at-start .args .ticks + 1) ≡ pos (at-start .args .ticks + 1)
+  caps-are = toZ-pos w64 (omega (arith, asked .ticks))
 
--- the reach, as the code has it
-reach-is : (c : tie.After-reach) → let s = c .before in toZ w64 (ofZ w64 (toZ w64 (s .args .k + 1) *ℤ cap (s .args .sheet .now) (s .args .i))) ≡ reach s
-reach-is c = rw (ticks-is (c .before)) (toZ-ofZ (fits64 (reach-bound (c .before)) tt))
+  -- as the code has it
+  reach-is : toZ w64 (ofZ w64 (toZ w64 (at-start .args .ticks + 1) *ℤ cap (at-start .args .sheet .now) (at-start .args .i))) ≡ reach
+  reach-is = rw caps-are (toZ-ofZ reach-fits)
 
 mul-reach-2 : tie.Need-mul-reach-2
-mul-reach-2 c = simp (wide, c .reach .given, ticks-is (c .before)) (fits64 (reach-bound (c .before)) tt)
+mul-reach-2 at-reach =
+    let at-start = at-reach .before in
+    simp (wide, at-reach .reach .given, caps-are at-start) (reach-fits at-start)
 
 -- the place of the side that is cut
-side-below : (c : tie.After-cut-at) → c .cut-at .result < boxSize
-side-below c =
-    let s = c .before .before in
-    rw (c .cut-at .ensures) (cut-below (s .args .up) (s .args .i) (omega (arith, s .pre .0 .usable .vars, s .pre .1)))
+side-below : (at-side : tie.After-cut-at) → at-side .cut-at .result < boxSize
+side-below at-side =
+    let at-start = at-side .before .before in
+    rw (at-side .cut-at .ensures) (cut-below (at-start .args .up) (at-start .args .i) (room at-start))
 
 narrow-requires : tie.Need-narrow-requires
 narrow-requires c κs =
-    let d = c .before .before .before in
-    let s = d .before in
-    ((omega (arith, s .pre .0 .usable .vars, s .pre .1), simp (wide, d .reach .given, reach-is d) (reach-bound s)), s .pre .0 .start)
+    let at-reach = c .before .before .before in
+    let at-start = at-reach .before in
+    record { room = room at-start; near = simp (wide, at-reach .reach .given, reach-is at-start) (reach-bound at-start); start = asked at-start .start }
 
--- the narrowed box, and that it is the working box again with the saved side
-module _ (c : tie.After-narrow) where
-  abbrev cut : tie.After-cut-at
-  cut = c .before .before .before
+-- the narrowed box B, and that it is the working box again with the saved side
+module _ (at-narrow : tie.After-narrow) where
+  abbrev at-side : tie.After-cut-at
+  at-side = at-narrow .before .before .before
 
-  abbrev s : tie.Start
-  s = cut .before .before
+  abbrev at-reach : tie.After-reach
+  at-reach = at-side .before
 
-  box-is : c .narrow .last .1 .1 .1 .0 ≡ neighborhood (s .args .up) (s .args .s .now) (reach s) (s .args .e .now) (s .args .i)
-  box-is = c .narrow .ensures ∙ simp (wide, cut .before .reach .given, reach-is (cut .before))
+  abbrev start : tie.Start
+  start = at-reach .before
 
-  back : set (c .narrow .last .1 .1 .1 .0) (cut .cut-at .result) (toZ w64 (ofZ w64 (s .args .e .now ! (cut .cut-at .result)))) ≡ s .args .e .now
-  back = cut-back (s .args .up) (s .args .s .now) (reach s) (s .args .e .now) (s .args .i) box-is (cut .cut-at .ensures) (told w64 _ (c .before .before .old .given))
+  abbrev B : List ℤ
+  B = at-narrow .narrow .last .1 .1 .1 .0
+
+  narrowed : B ≡ neighborhood (start .args .up) (S start) (reach start) (E start) (start .args .i)
+  narrowed = at-narrow .narrow .ensures ∙ simp (wide, at-reach .reach .given, reach-is start)
+
+  put-back : set B (at-side .cut-at .result) (toZ w64 (ofZ w64 (E start ! (at-side .cut-at .result)))) ≡ E start
+  put-back = cut-back (start .args .up) (S start) (reach start) (E start) (start .args .i) narrowed (at-side .cut-at .ensures) (told w64 _ (at-narrow .before .before .old .given))
 
 rate-requires : tie.Need-rate-requires
 rate-requires c κs =
-    let e = c .before in
-    let a = s e .args in
-    let p = s e .pre in
-    ((p .0 .usable, rw (box-is e) (neighborhood-bound (a .up) (a .s .now) _ (a .e .now) (a .i) (reach-low (s e)) (p .0 .start) (p .0 .work))), p .1)
+    let at-narrow = c .before in
+    let at-start = start at-narrow in
+    record {
+      usable = asked at-start .usable;
+      sides = rw (narrowed at-narrow) (neighborhood-bound (at-start .args .up) (S at-start) _ (E at-start) (at-start .args .i) (reach-low at-start) (asked at-start .start) (asked at-start .work));
+      var = var at-start;
+    }
 
 returns : tie.Need-returns
 unfolding faceRate
-returns c =
-    let f : SFits w64 (c .rate .result) = search needs in
-    (toZ-ofZ f ∙ (c .rate .ensures ∙ rw (box-is (c .before .before)) refl), back (c .before .before))
+returns at-rate =
+    let at-narrow = at-rate .before .before in
+    let rate-fits : SFits w64 (at-rate .rate .result) = search needs in
+    (toZ-ofZ rate-fits ∙ (at-rate .rate .ensures ∙ rw (narrowed at-narrow) refl), put-back at-narrow)
+
+-- the side that is cut, once the rate is there
+after-rate : (c : tie.After-rate) → at-side (c .before .before) .cut-at .result < boxSize
+after-rate c = side-below (at-side (c .before .before))
 
 pub face-rate-spec : {M : Type 1} → statement M
 face-rate-spec =
@@ -94,6 +136,6 @@ face-rate-spec =
     side-below
     narrow-requires
     rate-requires
-    (λ c. omega (arith, side-below (c .before .before .before .before .before)))
-    (λ c. side-below (c .before .before .before .before .before))
+    (λ c. omega (arith, after-rate c))
+    (λ c. after-rate c)
     returns)

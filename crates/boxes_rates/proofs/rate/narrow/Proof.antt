@@ -10,38 +10,47 @@ use Rattle.machine_spec.specs.Rate.{neighborhood}
 use Rattle.boxes_rates.proofs.rate.narrow.Statement.{statement}
 use Rattle.boxes_rates.proofs.rate.narrow.Tie as tie
 
-module _ (c : tie.Start) where
-  under : SFits w64 (hi (c .args .s .now) (c .args .i) -ℤ c .args .reach)
-  under = fits64 (bound-sub (c .pre .1 .at _) (c .pre .0 .1)) tt
+-- where the box is cut off
+module _ (at-start : tie.Start) where
+  below-upper : SFits w64 (hi (at-start .args .start .now) (at-start .args .i) -ℤ at-start .args .reach)
+  below-upper = fits64 (bound-sub (at-start .pre .start .at _) (at-start .pre .near)) tt
 
-  over : SFits w64 (lo (c .args .s .now) (c .args .i) +ℤ c .args .reach)
-  over = fits64 (bound-sum (c .pre .1 .at _) (c .pre .0 .1)) tt
+  above-lower : SFits w64 (lo (at-start .args .start .now) (at-start .args .i) +ℤ at-start .args .reach)
+  above-lower = fits64 (bound-sum (at-start .pre .start .at _) (at-start .pre .near)) tt
 
 sub-max : tie.Need-sub-max
-sub-max c =
-    let s = c .before .before .before in
-    simp (told, c .max-arg2 .given, toZ-ofZ, s .fits .reach) (under s)
+sub-max at-side =
+    let at-start = at-side .before .before .before in
+    simp (told, at-side .max-arg2 .given, toZ-ofZ, at-start .fits .reach) (below-upper at-start)
 
 add-min : tie.Need-add-min
-add-min c =
-    let s = c .before .before .before in
-    simp (told, c .min-arg2 .given, toZ-ofZ, s .fits .reach) (over s)
+add-min at-side =
+    let at-start = at-side .before .before .before in
+    simp (told, at-side .min-arg2 .given, toZ-ofZ, at-start .fits .reach) (above-lower at-start)
 
+-- an upper face
 returns : tie.Need-returns
 unfolding neighborhood
-returns c =
-    let d = c .before .before .before in
-    let s = d .before in
-    let f : SFits w64 (c .max .result) = search needs in
-    rw (d .if1 .taken, toZ-ofZ f, c .max .ensures) (simp (toZ-ofZ, s .fits .reach, under s, told, c .before .max-arg2 .given, c .before .before .max-arg .given))
+returns at-max =
+    let at-side = at-max .before in
+    let at-work = at-side .before in
+    let upper = at-work .before in
+    let at-start = upper .before in
+    let max-fits : SFits w64 (at-max .max .result) = search needs in
+    rw (upper .if1 .taken, toZ-ofZ max-fits, at-max .max .ensures)
+    (simp (toZ-ofZ, at-start .fits .reach, below-upper at-start, told, at-side .max-arg2 .given, at-work .max-arg .given))
 
+-- a lower face
 returns-2 : tie.Need-returns-2
 unfolding neighborhood
-returns-2 c =
-    let d = c .before .before .before in
-    let s = d .before in
-    let f : SFits w64 (c .min .result) = search needs in
-    rw (d .if1 .left, toZ-ofZ f, c .min .ensures) (simp (toZ-ofZ, s .fits .reach, over s, told, c .before .min-arg2 .given, c .before .before .min-arg .given))
+returns-2 at-min =
+    let at-side = at-min .before in
+    let at-work = at-side .before in
+    let lower = at-work .before in
+    let at-start = lower .before in
+    let min-fits : SFits w64 (at-min .min .result) = search needs in
+    rw (lower .if1 .left, toZ-ofZ min-fits, at-min .min .ensures)
+    (simp (toZ-ofZ, at-start .fits .reach, above-lower at-start, told, at-side .min-arg2 .given, at-work .min-arg .given))
 
 pub narrow-spec : {M : Type 1} → statement M
 narrow-spec =

@@ -9,19 +9,25 @@ use Rattle.boxes_arithmetic.proofs.Bounds.{zero-less}
 use Rattle.boxes_rates.proofs.rate.neutral.Statement.{statement}
 use Rattle.boxes_rates.proofs.rate.neutral.Tie as tie
 
-neg-fits : (c : tie.Start) → SFits w64 (negℤ (c .args .cap))
-neg-fits c = fits64 (bound-neg (c .pre)) tt
+neg-fits : (at-start : tie.Start) → SFits w64 (negℤ (at-start .args .cap))
+neg-fits at-start = fits64 (bound-neg (at-start .pre)) tt
 
 sub-result : tie.Need-sub-result
-sub-result c = let s = c .before in simp (toZ-ofZ, s .fits .cap, zero-less) (neg-fits s)
+sub-result upper =
+    let at-start = upper .before in
+    simp (toZ-ofZ, at-start .fits .cap, zero-less) (neg-fits at-start)
 
 returns : tie.Need-returns
 unfolding neutral
-returns c = let s = c .before in rw (c .if1 .taken) (simp (toZ-ofZ, s .fits .cap, zero-less, neg-fits s))
+returns upper =
+    let at-start = upper .before in
+    rw (upper .if1 .taken) (simp (toZ-ofZ, at-start .fits .cap, zero-less, neg-fits at-start))
 
 returns-2 : tie.Need-returns-2
 unfolding neutral
-returns-2 c = rw (c .if1 .left) (toZ-ofZ (c .before .fits .cap))
+returns-2 lower =
+    let at-start = lower .before in
+    rw (lower .if1 .left) (toZ-ofZ (at-start .fits .cap))
 
 pub neutral-spec : {M : Type 1} → statement M
 neutral-spec = tie.close (tie.spec sub-result returns returns-2)

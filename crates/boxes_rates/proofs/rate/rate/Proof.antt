@@ -1,4 +1,5 @@
--- `rate` gives the outermost over all bands: after k turns, that of the first k. Assumes nothing.
+-- `rate` gives the outermost over all bands. Invariant: after so many turns, that of so many bands. Measure: the bands left.
+-- Assumes nothing.
 use mathlib.Core.Path.{_≡_, refl, _∙_}
 use Prim.Native.Nat.{_≤_, _-_}
 use native.Mathlib.Omega.{arith}
@@ -17,40 +18,47 @@ use Rattle.machine_spec.proofs.Sound.{outermost-within}
 use Rattle.boxes_rates.proofs.rate.rate.Statement.{statement}
 use Rattle.boxes_rates.proofs.rate.rate.Tie as tie
 
+-- z is the outermost so far
 abbrev Inv-loop : tie.InvT-loop
-Inv-loop up p sheet b i ic z₀ k₀ z k = (k ≤ p .bands) × (toZ w64 z ≡ outermost up (neutral up (cap (machineOf p sheet) i)) k (bandRate up (machineOf p sheet) b i))
+Inv-loop up plant sheet over i slot z₀ band₀ z band =
+    (band ≤ plant .bands) × (toZ w64 z ≡ outermost up (neutral up (cap (machineOf plant sheet) i)) band (bandRate up (machineOf plant sheet) over i))
 
 abbrev μ-loop : tie.MeasureT-loop
-μ-loop up p sheet b i ic z₀ k₀ z k = p .bands - k
+μ-loop up plant sheet over i slot z₀ band₀ z band = plant .bands - band
 
 neutral-requires : tie.Need-neutral-requires Inv-loop μ-loop
-neutral-requires c κs = let p = c .before .pre in simp (wide, c .neutral-arg .given) (cap-bound (p .0 .0) (p .1))
+neutral-requires at-cap κs =
+    let asked = at-cap .before .pre in
+    simp (wide, at-cap .neutral-arg .given) (cap-bound (asked .usable) (asked .var))
 
 loop-holds : tie.Need-loop-holds Inv-loop μ-loop
 unfolding outermost
-loop-holds c =
-    let f : SFits w64 (c .neutral .result) = search needs in
-    (omega arith, toZ-ofZ f ∙ (c .neutral .ensures ∙ simp (wide, c .before .neutral-arg .given)))
+loop-holds at-neutral =
+    let neutral-fits : SFits w64 (at-neutral .neutral .result) = search needs in
+    (omega arith, toZ-ofZ neutral-fits ∙ (at-neutral .neutral .ensures ∙ simp (wide, at-neutral .before .neutral-arg .given)))
 
 band-rate-requires : tie.Need-band-rate-requires Inv-loop μ-loop
 band-rate-requires c κs =
-    let d = c .before .before in
-    let s = d .before .before .before in
-    let p = s .pre in
-    let w = outermost-within (s .args .up) (machineOf (s .args .p) (s .args .sheet .now)) (s .args .b .now) (s .args .i) (d .loop .k) (omega (ints, p .0 .0 .caps (s .args .i) (p .1) .low)) in
-    (p .0, ((p .1, omega arith), rw (d .loop .inv .1) (w .low, w .high)))
+    let at-loop = c .before .before in
+    let at-start = at-loop .before .before .before in
+    let asked = at-start .pre in
+    let a = at-start .args in
+    let within = outermost-within (a .up) (machineOf (a .plant) (a .sheet .now)) (a .over .now) (a .i) (at-loop .loop .band) (omega (ints, asked .usable .caps (a .i) (asked .var) .low)) in
+    record { rate = asked; among = omega arith; within = rw (at-loop .loop .inv .1) within }
 
 loop-again : tie.Need-loop-again Inv-loop μ-loop
-loop-again c =
-    let f : SFits w64 (c .band-rate .result) = search needs in
-    (omega arith, rw outermost-more (toZ-ofZ f ∙ (c .band-rate .ensures ∙ rw (c .before .before .before .loop .inv .1) refl)))
+loop-again at-band =
+    let at-loop = at-band .before .before .before in
+    let band-fits : SFits w64 (at-band .band-rate .result) = search needs in
+    (omega arith, rw outermost-more (toZ-ofZ band-fits ∙ (at-band .band-rate .ensures ∙ rw (at-loop .loop .inv .1) refl)))
 
 returns : tie.Need-returns Inv-loop μ-loop
 unfolding rate
-returns c =
-    let d = c .before .before in
-    let e : d .loop .k ≡ d .before .before .before .args .p .bands = omega arith in
-    rw e at (d .loop .inv .1)
+returns at-return =
+    let at-loop = at-return .before .before in
+    let at-start = at-loop .before .before .before in
+    let all : at-loop .loop .band ≡ at-start .args .plant .bands = omega arith in
+    rw all at (at-loop .loop .inv .1)
 
 pub rate-spec : {M : Type 1} → statement M
 rate-spec =

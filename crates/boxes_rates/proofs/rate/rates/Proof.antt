@@ -1,71 +1,97 @@
--- `rates` writes the rates of all faces: after i turns, those of the first i variables, with the working box as it was.
--- Assumes nothing.
-use mathlib.Core.Path.{_≡_, refl, _∙_}
-use Prim.Native.Nat.{_≤_, _-_}
+-- `rates` writes the rates of all faces, as a box. Invariant: after i turns, those of the first i variables; the working box is as
+-- it was. Measure: the variables left. Assumes nothing.
+use mathlib.Core.Path.{_≡_, refl, ap, _∙_}
+use mathlib.Core.List.{List}
+use Prim.Native.Nat.{ℕ, _≤_, _-_}
 use native.Mathlib.Omega.{arith}
-use mathlib.Core.Bool.{true, false}
+use mathlib.Core.Bool.{Bool, true, false}
+use lib.IntN.{ℤ}
 use mir.Facts.{toZ-ofZ}
 use mir.Syntax.{w64}
 use mir.Val.{SFits}
 use borrow.Author.Needs.{needs}
 use Rattle.sheet_spec.specs.Slots.{N}
 use Rattle.machine_spec.specs.Box.{boxOf}
+use Rattle.machine_spec.specs.Machine.{Machine}
 use Rattle.machine_spec.specs.Rate.{faceRate, rates}
+use Rattle.boxes_rates.specs.Limits.{RatesAsked}
 use Rattle.boxes_rates.specs.Plant.{machineOf}
 use Rattle.machine_spec.proofs.Box.{sides-more}
 use Rattle.boxes_rates.proofs.rate.rates.Statement.{statement}
 use Rattle.boxes_rates.proofs.rate.rates.Tie as tie
 
+-- F is the working box, E at first, and R has the rates of the first i variables
+record Invariant (m : Machine) (S : List ℤ) (k : ℕ) (E F R : List ℤ) (i : ℕ) : Type 0 where
+  turns : i ≤ m .n
+  room : m .n ≤ N
+  work : F ≡ E
+  rated : R ≡ boxOf i (faceRate false m S k E) (faceRate true m S k E)
+
 abbrev Inv-loop : tie.InvT-loop
-Inv-loop p sheet s k e₀ r₀ i₀ e r i =
-    (i ≤ p .n) × ((p .n ≤ N) × ((e ≡ e₀) × (r ≡ boxOf i (faceRate false (machineOf p sheet) s k e₀) (faceRate true (machineOf p sheet) s k e₀))))
+Inv-loop plant sheet start ticks work₀ rates₀ i₀ work rates i = Invariant (machineOf plant sheet) start ticks work₀ work rates i
 
 abbrev μ-loop : tie.MeasureT-loop
-μ-loop p sheet s k e₀ r₀ i₀ e r i = p .n - i
+μ-loop plant sheet start ticks work₀ rates₀ i₀ work rates i = plant .n - i
 
 loop-holds : tie.Need-loop-holds Inv-loop μ-loop
 unfolding boxOf
-loop-holds c = (omega arith, (c .before .pre .usable .vars, (refl, refl)))
+loop-holds c = record { turns = omega arith; room = c .before .pre .usable .vars; work = refl; rated = refl }
+
+module _ (at-loop : tie.At-loop Inv-loop μ-loop) where
+  abbrev at-start : tie.Start Inv-loop μ-loop
+  at-start = at-loop .before .before
+
+  abbrev M : Machine
+  M = machineOf (at-start .args .plant) (at-start .args .sheet .now)
+
+  abbrev E : List ℤ
+  E = at-start .args .work .now
+
+  -- the rate of a face of variable i with the working box F
+  abbrev face : Bool → List ℤ → ℤ
+  face up F = faceRate up M (at-start .args .start .now) (at-start .args .ticks) F (at-loop .loop .i)
+
+  -- it is asked for with the working box as it was
+  asked : {F : List ℤ} → F ≡ E → RatesAsked M (at-start .args .start .now) (at-start .args .ticks) F
+  asked same = let before = at-start .pre in record { usable = before .usable; ticks = before .ticks; start = before .start; work = rw same (before .work) }
+
+-- after the lower face
+module _ (at-lower : tie.After-face-rate Inv-loop μ-loop) where
+  abbrev loop : tie.At-loop Inv-loop μ-loop
+  loop = at-lower .before .before .before .before
+
+  same-work : at-lower .face-rate .last .1 .1 .1 .1 .1 .0 ≡ E loop
+  same-work = at-lower .face-rate .ensures .1 ∙ loop .loop .inv .work
 
 face-rate-requires : tie.Need-face-rate-requires Inv-loop μ-loop
-face-rate-requires c κs =
-    let d = c .before .before .before in
-    let p = d .before .before .pre in
-    (record { usable = p .usable; ticks = p .ticks; start = p .start; work = rw (d .loop .inv .1 .1 .0) (p .work) }, omega arith)
-
--- the working box after the first call
-same : (c : tie.After-face-rate Inv-loop μ-loop) → c .face-rate .last .1 .1 .1 .1 .1 .0 ≡ c .before .before .before .before .before .before .args .e .now
-same c = c .face-rate .ensures .1 ∙ c .before .before .before .before .loop .inv .1 .1 .0
+face-rate-requires c κs = let at-loop = c .before .before .before in (asked at-loop (at-loop .loop .inv .work), omega arith)
 
 face-rate-requires-2 : tie.Need-face-rate-requires-2 Inv-loop μ-loop
-face-rate-requires-2 c κs =
-    let p = c .before .before .before .before .before .before .before .pre in
-    (record { usable = p .usable; ticks = p .ticks; start = p .start; work = rw (same (c .before)) (p .work) }, omega arith)
+face-rate-requires-2 c κs = let at-lower = c .before in (asked (loop at-lower) (same-work at-lower), omega arith)
 
 loop-again : tie.Need-loop-again Inv-loop μ-loop
-loop-again c =
-    let b = c .before .before in
-    let l = b .before .before .before .before .loop in
-    let f : SFits w64 (c .face-rate2 .result) = search needs in
-    let g : SFits w64 (b .face-rate .result) = search needs in (
-      omega arith,
-      (
-        l .inv .1 .0,
-        (
-          c .face-rate2 .ensures .1 ∙ same b,
-          sides-more (l .i) _ _ (l .inv .1 .1 .1)
-              (toZ-ofZ g ∙ (b .face-rate .ensures .0 ∙ rw (l .inv .1 .1 .0) refl))
-              (toZ-ofZ f ∙ (c .face-rate2 .ensures .0 ∙ rw (same b) refl)),
-        ),
-      ),
-    )
+loop-again at-upper =
+    let at-lower = at-upper .before .before in
+    let inv = loop at-lower .loop .inv in
+    let upper-fits : SFits w64 (at-upper .face-rate2 .result) = search needs in
+    let lower-fits : SFits w64 (at-lower .face-rate .result) = search needs in
+    record {
+      turns = omega arith;
+      room = inv .room;
+      work = at-upper .face-rate2 .ensures .1 ∙ same-work at-lower;
+      rated =
+          sides-more (loop at-lower .loop .i) _ _ (inv .rated)
+          (toZ-ofZ lower-fits ∙ (at-lower .face-rate .ensures .0 ∙ ap (face (loop at-lower) false) (inv .work)))
+          (toZ-ofZ upper-fits ∙ (at-upper .face-rate2 .ensures .0 ∙ ap (face (loop at-lower) true) (same-work at-lower)));
+    }
 
 returns : tie.Need-returns Inv-loop μ-loop
 unfolding rates
-returns c =
-    let d = c .before .before in
-    let e : d .loop .i ≡ d .before .before .args .p .n = omega arith in
-    (rw e at (d .loop .inv .1 .1 .1), d .loop .inv .1 .1 .0)
+returns at-return =
+    let at-loop = at-return .before .before in
+    let inv = at-loop .loop .inv in
+    let all : at-loop .loop .i ≡ at-start at-loop .args .plant .n = omega (arith, inv .turns) in
+    (rw all at (inv .rated), inv .work)
 
 pub rates-spec : {M : Type 1} → statement M
 rates-spec =

@@ -1,5 +1,5 @@
--- `row_rate` gives the outer one of z and of a band's share in a rate if it is met: its row bounded, then the allowed
--- change. Assumes nothing.
+-- `row_rate` gives the outer one of the outermost so far and of a band's share in a rate where the band is met: its row bounded,
+-- then the allowed change. Assumes nothing.
 use mathlib.Core.Path.{_∙_}
 use Prim.Native.Nat.{_+_, _≤_}
 use native.Mathlib.Omega.{arith}
@@ -11,44 +11,61 @@ use Rattle.integers.proofs.Z.{up32, fits64}
 use Rattle.sheet_spec.specs.Slots.{rowSize, rowSlot, slots}
 use Rattle.machine_spec.specs.Machine.{Machine, least, greatest}
 use Rattle.machine_spec.specs.Rate.{bandRate}
+use Rattle.boxes_rates.specs.Limits.{BandAsked}
 use Rattle.boxes_rates.specs.Plant.{machineOf}
 use Rattle.boxes_arithmetic.proofs.Bounds.{wide}
 use Rattle.boxes_rates.proofs.Bounds.{cap-bound}
 use Rattle.boxes_rates.proofs.rate.row_rate.Statement.{statement}
 use Rattle.boxes_rates.proofs.rate.row_rate.Tie as tie
 
-abbrev M : tie.Start → Machine
-M s = machineOf (s .args .p) (s .args .sheet .now)
+module _ (at-start : tie.Start) where
+  abbrev M : Machine
+  M = machineOf (at-start .args .plant) (at-start .args .sheet .now)
 
-row-fits : (s : tie.Start) → rowSlot (s .args .k) (s .args .i) + rowSize ≤ slots
-row-fits s = let g = s .pre .0 .0 in omega (arith, g .vars, g .bands, s .pre .1 .0 .0, s .pre .1 .0 .1)
+  asked : BandAsked M (at-start .args .over .now) (at-start .args .i) (at-start .args .band) (at-start .args .outermost)
+  asked = at-start .pre .0
+
+  place : rowSlot (at-start .args .band) (at-start .args .i) + rowSize ≤ slots
+  place = let usable = asked .rate .usable in omega (arith, usable .vars, usable .bands, asked .rate .var, asked .among)
+
+command-term-requires : tie.Need-command-term-requires
+command-term-requires at-start κs = (place at-start, omega (arith, asked at-start .rate .usable .bands, asked at-start .among))
 
 bound-requires : tie.Need-bound-requires
-bound-requires c κs =
-    let s = c .before in
-    let b = c .command-term .ensures .1 in
-    ((s .pre .0 .0 .vars, row-fits s), (s .pre .0 .1, rw (toZ-ofZ (fits64 b tt)) b))
+bound-requires at-term κs =
+    let at-start = at-term .before in
+    let rate = asked at-start .rate in
+    let near = at-term .command-term .ensures .near in
+    (record { vars = rate .usable .vars; place = place at-start; sides = rate .sides }, rw (toZ-ofZ (fits64 near tt)) near)
 
 further-requires : tie.Need-further-requires
-further-requires c κs =
-    let s = c .before .before .before in
-    let g = s .pre .0 .0 in
-    let h = s .pre .1 .0 in
-    let b = c .before .bound .ensures .1 in
-    let z = s .pre .1 .1 .1 in (
-      (row-fits s, g .divisors (s .args .k) (s .args .i) (h .1) (h .0)),
-      ((simp (wide, c .further-arg .given) (cap-bound g (h .0)), rw (toZ-ofZ (fits64 b tt)) b), simp (wide, c .further-arg .given, toZ-ofZ, s .fits .z) z),
-    )
+further-requires at-cap κs =
+    let at-bound = at-cap .before in
+    let at-start = at-bound .before .before in
+    let rate = asked at-start .rate in
+    let near = at-bound .bound .ensures .near in
+    record {
+      place = place at-start;
+      divisor = rate .usable .divisors (at-start .args .band) (at-start .args .i) (asked at-start .among) (rate .var);
+      number = rw (toZ-ofZ (fits64 near tt)) near;
+      capped = simp (wide, at-cap .further-arg .given, toZ-ofZ, at-start .fits .outermost) (record { small = cap-bound (rate .usable) (rate .var); within = asked at-start .within });
+    }
 
 returns : tie.Need-returns
 unfolding bandRate
-returns c =
-    let b = c .before .before in
-    let t = b .before .command-term .ensures in
-    let s = b .before .before in
-    let f : SFits w64 (c .further .result) = search needs in
-    let m = b .bound .ensures .0 (least (M s) (s .args .k)) (greatest (M s) (s .args .k)) (toZ-ofZ (fits64 (t .1) tt) ∙ t .0) in
-    toZ-ofZ f ∙ (c .further .ensures ∙ rw (s .pre .1 .1 .0, toZ-ofZ (fits64 (b .bound .ensures .1) tt), m) (simp (wide, c .before .further-arg .given, toZ-ofZ, s .fits .z)))
+returns at-return =
+    let at-cap = at-return .before in
+    let at-bound = at-cap .before in
+    let at-term = at-bound .before in
+    let at-start = at-term .before in
+    let band = at-start .args .band in
+    let term = at-term .command-term .ensures in
+    let bounded = at-bound .bound .ensures in
+    let further-fits : SFits w64 (at-return .further .result) = search needs in
+    let number-is = bounded .same (least (M at-start) band) (greatest (M at-start) band) (toZ-ofZ (fits64 (term .near) tt) ∙ term .same) in
+    toZ-ofZ further-fits
+    ∙ (at-return .further .ensures
+    ∙ rw (at-start .pre .1, toZ-ofZ (fits64 (bounded .near) tt), number-is) (simp (wide, at-cap .further-arg .given, toZ-ofZ, at-start .fits .outermost)))
 
 pub row-rate-spec : {M : Type 1} → statement M
 row-rate-spec =
@@ -59,7 +76,7 @@ row-rate-spec =
     (λ c. search needs)
     (λ c. search needs)
     (λ c. search needs)
-    (λ c κs. (row-fits c, omega (arith, c .pre .0 .0 .bands, c .pre .1 .0 .1)))
+    command-term-requires
     bound-requires
     (λ c. search needs)
     (λ c. search needs)

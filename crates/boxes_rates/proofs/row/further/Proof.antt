@@ -1,4 +1,5 @@
--- `further` gives the outer one of z and of the outermost allowed change by a row. Assumes nothing.
+-- `further` gives the outer one of the outermost so far and of the outermost allowed change by a row, whose spread is put on the
+-- outer side of its N. Assumes nothing.
 use mathlib.Core.Path.{_≡_, _∙_}
 use mathlib.Core.List.{List}
 use Prim.Native.Nat.{_+_}
@@ -13,75 +14,104 @@ use Rattle.integers.proofs.Z.{up32, bound-sum, bound-sub, bound-less, fits64}
 use Rattle.sheet_spec.specs.Slots.{_!_, N, Row, rowAt}
 use Rattle.machine_spec.specs.Machine.{change}
 use Rattle.machine_spec.specs.Rate.{outer}
-use Rattle.boxes_arithmetic.specs.Limits.{word}
+use Rattle.boxes_arithmetic.specs.Limits.{Divisible, word}
+use Rattle.boxes_rates.specs.Limits.{rowLimit}
 use Rattle.boxes_rates.proofs.RowNumbers.{row-read, row-bound}
 use Rattle.boxes_rates.proofs.row.further.Statement.{statement}
 use Rattle.boxes_rates.proofs.row.further.Tie as tie
 
--- the row's numbers, and the spread put on either side
-module _ (c : tie.After-q) where
-  abbrev s : tie.Start
-  s = c .before .before
+-- the row's numbers, and its N with the spread on either side
+module _ (at-divisor : tie.After-divisor) where
+  abbrev at-spread : tie.After-spread
+  at-spread = at-divisor .before
+
+  abbrev at-start : tie.Start
+  at-start = at-spread .before
 
   abbrev v : List ℤ
-  v = s .args .sheet .now
+  v = at-start .args .sheet .now
 
-  abbrev r : Row
-  r = rowAt v (s .args .at)
+  abbrev row : Row
+  row = rowAt v (at-start .args .row)
 
-  d-is : toZ w64 (ofZ w64 (toZ w32 (ofZ w32 (v ! (s .args .at + (N + 2)))))) ≡ r .d
-  d-is = row-read v (s .args .at) 2 (c .before .d .given)
+  abbrev number : ℤ
+  number = at-start .args .number
 
-  q-is : toZ w64 (ofZ w64 (toZ w32 (ofZ w32 (v ! (s .args .at + (N + 3)))))) ≡ r .q
-  q-is = row-read v (s .args .at) 3 (c .q .given)
+  spread-is : toZ w64 (ofZ w64 (toZ w32 (ofZ w32 (v ! (at-start .args .row + (N + 2)))))) ≡ row .d
+  spread-is = row-read v (at-start .args .row) 2 (at-spread .spread .given)
 
-  d-bound : Bound (r .d) word
-  d-bound = row-bound v (s .args .at) 2 (c .before .d .given)
+  divisor-is : toZ w64 (ofZ w64 (toZ w32 (ofZ w32 (v ! (at-start .args .row + (N + 3)))))) ≡ row .q
+  divisor-is = row-read v (at-start .args .row) 3 (at-divisor .divisor .given)
 
-  q-bound : Bound (r .q) word
-  q-bound = row-bound v (s .args .at) 3 (c .q .given)
+  spread-bound : Bound (row .d) word
+  spread-bound = row-bound v (at-start .args .row) 2 (at-spread .spread .given)
 
-  over : Bound (s .args .m +ℤ r .d) 9223372036854775807
-  over = bound-less (bound-sum (s .pre .1 .0 .1) d-bound) (lit≤ tt)
+  divisible : {x : ℤ} → Bound x (rowLimit + word) → Divisible x (row .q)
+  divisible near = record {
+    dividend = bound-less near (lit≤ tt);
+    positive = at-start .pre .divisor;
+    divisor = row-bound v (at-start .args .row) 3 (at-divisor .divisor .given);
+  }
 
-  under : Bound (s .args .m -ℤ r .d) 9223372036854775807
-  under = bound-less (bound-sub (s .pre .1 .0 .1) d-bound) (lit≤ tt)
+  above : Divisible (number +ℤ row .d) (row .q)
+  above = divisible (bound-sum (at-start .pre .number) spread-bound)
+
+  below : Divisible (number -ℤ row .d) (row .q)
+  below = divisible (bound-sub (at-start .pre .number) spread-bound)
+
+  above-fits : SFits w64 (number +ℤ row .d)
+  above-fits = fits64 (above .dividend) tt
+
+  below-fits : SFits w64 (number -ℤ row .d)
+  below-fits = fits64 (below .dividend) tt
 
 add-highest : tie.Need-add-highest
-add-highest c = let e = c .before in simp (toZ-ofZ, s e .fits .m, d-is e) (fits64 (over e) tt)
+add-highest c =
+    let at-divisor = c .before in
+    simp (toZ-ofZ, at-start at-divisor .fits .number, spread-is at-divisor) (above-fits at-divisor)
 
 highest-requires : tie.Need-highest-requires
 highest-requires c κs =
-    let e = c .before in
-    let p = s e .pre in
-    simp (toZ-ofZ, s e .fits .m, d-is e, q-is e, fits64 (over e) tt, s e .fits .z, s e .fits .cap)
-    ((over e, (p .0 .1, q-bound e)), (p .1 .0 .0, p .1 .1))
+    let at-divisor = c .before in
+    let fits = at-start at-divisor .fits in
+    simp (toZ-ofZ, fits .number, spread-is at-divisor, divisor-is at-divisor, above-fits at-divisor, fits .outermost, fits .cap)
+    (above at-divisor, at-start at-divisor .pre .capped)
 
 sub-lowest : tie.Need-sub-lowest
-sub-lowest c = let e = c .before in simp (toZ-ofZ, s e .fits .m, d-is e) (fits64 (under e) tt)
+sub-lowest c =
+    let at-divisor = c .before in
+    simp (toZ-ofZ, at-start at-divisor .fits .number, spread-is at-divisor) (below-fits at-divisor)
 
 lowest-requires : tie.Need-lowest-requires
 lowest-requires c κs =
-    let e = c .before in
-    let p = s e .pre in
-    simp (toZ-ofZ, s e .fits .m, d-is e, q-is e, fits64 (under e) tt, s e .fits .z, s e .fits .cap)
-    ((under e, (p .0 .1, q-bound e)), (p .1 .0 .0, p .1 .1))
+    let at-divisor = c .before in
+    let fits = at-start at-divisor .fits in
+    simp (toZ-ofZ, fits .number, spread-is at-divisor, divisor-is at-divisor, below-fits at-divisor, fits .outermost, fits .cap)
+    (below at-divisor, at-start at-divisor .pre .capped)
 
+-- an upper face
 returns : tie.Need-returns
 unfolding outer change
-returns c =
-    let e = c .before .before in
-    let f : SFits w64 (c .highest .result) = search needs in
-    rw (c .before .if1 .taken)
-    (toZ-ofZ f ∙ (c .highest .ensures ∙ simp (toZ-ofZ, s e .fits .cap, s e .fits .z, s e .fits .m, d-is e, q-is e, fits64 (over e) tt)))
+returns at-highest =
+    let upper = at-highest .before in
+    let at-divisor = upper .before in
+    let fits = at-start at-divisor .fits in
+    let highest-fits : SFits w64 (at-highest .highest .result) = search needs in
+    rw (upper .if1 .taken)
+    (toZ-ofZ highest-fits
+    ∙ (at-highest .highest .ensures ∙ simp (toZ-ofZ, fits .cap, fits .outermost, fits .number, spread-is at-divisor, divisor-is at-divisor, above-fits at-divisor)))
 
+-- a lower face
 returns-2 : tie.Need-returns-2
 unfolding outer change
-returns-2 c =
-    let e = c .before .before in
-    let f : SFits w64 (c .lowest .result) = search needs in
-    rw (c .before .if1 .left)
-    (toZ-ofZ f ∙ (c .lowest .ensures ∙ simp (toZ-ofZ, s e .fits .cap, s e .fits .z, s e .fits .m, d-is e, q-is e, fits64 (under e) tt)))
+returns-2 at-lowest =
+    let lower = at-lowest .before in
+    let at-divisor = lower .before in
+    let fits = at-start at-divisor .fits in
+    let lowest-fits : SFits w64 (at-lowest .lowest .result) = search needs in
+    rw (lower .if1 .left)
+    (toZ-ofZ lowest-fits
+    ∙ (at-lowest .lowest .ensures ∙ simp (toZ-ofZ, fits .cap, fits .outermost, fits .number, spread-is at-divisor, divisor-is at-divisor, below-fits at-divisor)))
 
 pub further-spec : {M : Type 1} → statement M
 further-spec =

@@ -1,34 +1,43 @@
--- `product` has room for its result. Assumes nothing.
+-- `product` gives a coefficient times a command, which 64 bits have room for. Assumes nothing.
 use mathlib.Core.Path.{refl}
-use Prim.Native.Nat.{_*_}
 use lib.IntN.{_*ℤ_}
 use mir.Facts.{toZ-ofZ}
 use mir.Syntax.{w64}
 use mir.Val.{SFits}
 use Rattle.integers.specs.Bound.{Bound}
 use Rattle.integers.proofs.Z.{up32, bound-of, bound-mul, fits64}
-use Rattle.boxes_arithmetic.specs.Limits.{word}
+use Rattle.boxes_rates.specs.Limits.{termLimit}
 use Rattle.boxes_rates.proofs.row.product.Statement.{statement}
 use Rattle.boxes_rates.proofs.row.product.Tie as tie
 
-module _ (c : tie.Start) where
-  near : Bound (c .args .a *ℤ c .args .u) (word * word)
-  near = bound-mul (bound-of (c .fits .a)) (bound-of (c .fits .u))
+module _ (at-start : tie.Start) where
+  near : Bound (at-start .args .coefficient *ℤ at-start .args .command) termLimit
+  near = bound-mul (bound-of (at-start .fits .coefficient)) (bound-of (at-start .fits .command))
 
-  fits : SFits w64 (c .args .a *ℤ c .args .u)
-  fits = fits64 near tt
+  coefficient-fits : SFits w64 (at-start .args .coefficient)
+  coefficient-fits = up32 (at-start .fits .coefficient)
+
+  command-fits : SFits w64 (at-start .args .command)
+  command-fits = up32 (at-start .fits .command)
+
+  product-fits : SFits w64 (at-start .args .coefficient *ℤ at-start .args .command)
+  product-fits = fits64 near tt
 
 cast-result : tie.Need-cast-result
-cast-result c = simp (toZ-ofZ, c .fits .a) (up32 (c .fits .a))
+cast-result at-start = simp (toZ-ofZ, at-start .fits .coefficient) (coefficient-fits at-start)
 
 cast-result-2 : tie.Need-cast-result-2
-cast-result-2 c = simp (toZ-ofZ, c .fits .u) (up32 (c .fits .u))
+cast-result-2 at-start = simp (toZ-ofZ, at-start .fits .command) (command-fits at-start)
 
 mul-result : tie.Need-mul-result
-mul-result c = simp (toZ-ofZ, c .fits .a, c .fits .u, up32 (c .fits .a), up32 (c .fits .u)) (fits c)
+mul-result at-start =
+    let fits = at-start .fits in
+    simp (toZ-ofZ, fits .coefficient, fits .command, coefficient-fits at-start, command-fits at-start) (product-fits at-start)
 
 returns : tie.Need-returns
-returns c = simp (toZ-ofZ, c .fits .a, c .fits .u, up32 (c .fits .a), up32 (c .fits .u), fits c) (refl, near c)
+returns at-start =
+    let fits = at-start .fits in
+    simp (toZ-ofZ, fits .coefficient, fits .command, coefficient-fits at-start, command-fits at-start, product-fits at-start) (refl, near at-start)
 
 pub product-spec : {M : Type 1} → statement M
 product-spec = tie.close (tie.spec cast-result cast-result-2 mul-result returns)

@@ -1,38 +1,47 @@
--- `term` gives the outer one of two products. Assumes nothing.
+-- `term` gives the outer one of a coefficient's products with two numbers. Assumes nothing.
 use mathlib.Core.Path.{_∙_}
 use mir.Facts.{toZ-ofZ}
 use mir.Syntax.{w64}
 use mir.Val.{SFits}
-use lib.IntN.{_*ℤ_}
+use lib.IntN.{ℤ, _*ℤ_}
 use borrow.Author.Needs.{needs}
+use Rattle.integers.specs.Bound.{Bound}
 use Rattle.integers.proofs.Z.{up32, bound-of, bound-mul, fits64}
+use Rattle.boxes_arithmetic.specs.Limits.{word}
 use Rattle.boxes_rates.proofs.row.term.Statement.{statement}
 use Rattle.boxes_rates.proofs.row.term.Tie as tie
 
-module _ (c : tie.Start) where
-  a-fits : SFits w64 (c .args .a)
-  a-fits = up32 (c .fits .a)
+module _ (at-start : tie.Start) where
+  abbrev a : ℤ
+  a = at-start .args .coefficient
 
-  lo-fits : SFits w64 (c .args .a *ℤ c .args .lo)
-  lo-fits = fits64 (bound-mul (bound-of (c .fits .a)) (c .pre .0)) tt
+  a-fits : SFits w64 a
+  a-fits = up32 (at-start .fits .coefficient)
 
-  hi-fits : SFits w64 (c .args .a *ℤ c .args .hi)
-  hi-fits = fits64 (bound-mul (bound-of (c .fits .a)) (c .pre .1)) tt
+  product-fits : {x : ℤ} → Bound x word → SFits w64 (a *ℤ x)
+  product-fits near = fits64 (bound-mul (bound-of (at-start .fits .coefficient)) near) tt
 
-cast-y : tie.Need-cast-y
-cast-y c = simp (toZ-ofZ, c .fits .a) (a-fits c)
+  lo-fits : SFits w64 (a *ℤ at-start .args .lo)
+  lo-fits = product-fits (at-start .pre .0)
+
+  hi-fits : SFits w64 (a *ℤ at-start .args .hi)
+  hi-fits = product-fits (at-start .pre .1)
+
+cast-factor : tie.Need-cast-factor
+cast-factor at-start = simp (toZ-ofZ, at-start .fits .coefficient) (a-fits at-start)
 
 mul-outer : tie.Need-mul-outer
-mul-outer c = simp (toZ-ofZ, c .fits .a, a-fits c, c .fits .lo) (lo-fits c)
+mul-outer at-start = simp (toZ-ofZ, at-start .fits .coefficient, a-fits at-start, at-start .fits .lo) (lo-fits at-start)
 
 mul-outer-2 : tie.Need-mul-outer-2
-mul-outer-2 c = simp (toZ-ofZ, c .fits .a, a-fits c, c .fits .hi) (hi-fits c)
+mul-outer-2 at-start = simp (toZ-ofZ, at-start .fits .coefficient, a-fits at-start, at-start .fits .hi) (hi-fits at-start)
 
 returns : tie.Need-returns
-returns c =
-    let s = c .before in
-    let f : SFits w64 (c .outer .result) = search needs in
-    toZ-ofZ f ∙ (c .outer .ensures ∙ simp (toZ-ofZ, s .fits .a, a-fits s, s .fits .lo, s .fits .hi, lo-fits s, hi-fits s))
+returns at-outer =
+    let at-start = at-outer .before in
+    let fits = at-start .fits in
+    let outer-fits : SFits w64 (at-outer .outer .result) = search needs in
+    toZ-ofZ outer-fits ∙ (at-outer .outer .ensures ∙ simp (toZ-ofZ, fits .coefficient, a-fits at-start, fits .lo, fits .hi, lo-fits at-start, hi-fits at-start))
 
 pub term-spec : {M : Type 1} → statement M
-term-spec = tie.close (tie.spec cast-y mul-outer mul-outer-2 (λ c κs. tt) returns)
+term-spec = tie.close (tie.spec cast-factor mul-outer mul-outer-2 (λ c κs. tt) returns)

@@ -1,6 +1,9 @@
--- `weighted` gives the sum of a row's terms over a box: after j turns, that of the first j. Assumes nothing.
+-- `weighted` gives the sum of a row's terms over a box. Invariant: after j turns, the sum of the first j, and how far it goes.
+-- Measure: the variables left. Assumes nothing.
 use mathlib.Core.Path.{_≡_, refl, _∙_}
-use Prim.Native.Nat.{_≤_, _-_, _+_, _*_}
+use mathlib.Core.Bool.{Bool}
+use mathlib.Core.List.{List}
+use Prim.Native.Nat.{ℕ, _≤_, _-_, _+_, _*_}
 use native.Mathlib.Omega.{arith}
 use lib.IntN.{ℤ, pos, _+ℤ_, _*ℤ_}
 use mir.Facts.{toZ-ofZ}
@@ -9,7 +12,7 @@ use mir.Val.{SFits, toZ}
 use borrow.Author.Needs.{sfits-of}
 use Rattle.integers.specs.Bound.{Bound}
 use Rattle.integers.proofs.Z.{told, bound-of, bound-read, bound-sum, bound-mul, bound-less, bound-lit, fits64, fits-by}
-use Rattle.sheet_spec.specs.Slots.{_!_, N, rowAt}
+use Rattle.sheet_spec.specs.Slots.{_!_, N, Row, rowAt}
 use Rattle.machine_spec.specs.Box.{lo, hi, sum}
 use Rattle.machine_spec.specs.Rate.{outer, weighted}
 use Rattle.boxes_arithmetic.specs.Limits.{limit, word}
@@ -18,64 +21,100 @@ use Rattle.machine_spec.proofs.Face.{outer-one}
 use Rattle.boxes_rates.proofs.row.weighted.Statement.{statement}
 use Rattle.boxes_rates.proofs.row.weighted.Tie as tie
 
+-- s is the sum of the first j of the n terms
+record Invariant (up : Bool) (n : ℕ) (r : Row) (B : List ℤ) (s : ℤ) (j : ℕ) : Type 0 where
+  turns : j ≤ n
+  same : s ≡ weighted up j r B
+  near : Bound (weighted up j r B) (j * (word * limit))
+
 abbrev Inv-loop : tie.InvT-loop
-Inv-loop up n sheet at b s₀ j₀ s j = (j ≤ n) × ((toZ w64 s ≡ weighted up j (rowAt sheet at) b) × Bound (weighted up j (rowAt sheet at) b) (j * (word * limit)))
+Inv-loop up n sheet row over sum₀ j₀ sum j = Invariant up n (rowAt sheet row) over (toZ w64 sum) j
 
 abbrev μ-loop : tie.MeasureT-loop
-μ-loop up n sheet at b s₀ j₀ s j = n - j
+μ-loop up n sheet row over sum₀ j₀ sum j = n - j
 
 loop-holds : tie.Need-loop-holds Inv-loop μ-loop
 unfolding weighted sum
-loop-holds c = (omega arith, (refl, bound-lit (pos 0)))
+loop-holds c = record { turns = omega arith; same = refl; near = bound-lit (pos 0) }
 
 term-requires : tie.Need-term-requires Inv-loop μ-loop
-term-requires c κs =
-    let s = c .before .before .before .before .before .pre .1 in
-    (bound-less (bound-read (sfits-of (c .before .term-arg2 .given)) (s .at _)) (omega arith), bound-less (bound-read (sfits-of (c .term-arg3 .given)) (s .at _)) (omega arith))
+term-requires at-upper κs =
+    let at-lower = at-upper .before in
+    let sides = at-lower .before .before .before .before .pre .sides in
+    (bound-less (bound-read (sfits-of (at-lower .term-arg2 .given)) (sides .at _)) (omega arith), bound-less (bound-read (sfits-of (at-upper .term-arg3 .given)) (sides .at _)) (omega arith))
 
 -- the term, and the sum with it
-module _ (c : tie.After-term Inv-loop μ-loop) where
-  abbrev d : tie.At-loop Inv-loop μ-loop
-  d = c .before .before .before .before .before
+module _ (at-term : tie.After-term Inv-loop μ-loop) where
+  -- the upper side, the lower side and the coefficient are read
+  abbrev at-upper : tie.After-term-arg3 Inv-loop μ-loop
+  at-upper = at-term .before
 
-  abbrev s : tie.Start Inv-loop μ-loop
-  s = d .before
+  abbrev at-lower : tie.After-term-arg2 Inv-loop μ-loop
+  at-lower = at-upper .before
 
-  abbrev S : ℤ
-  S = weighted (s .args .up) (d .loop .j) (rowAt (s .args .sheet .now) (s .args .at)) (s .args .b .now)
+  abbrev at-coefficient : tie.After-term-arg Inv-loop μ-loop
+  at-coefficient = at-lower .before
+
+  abbrev at-loop : tie.At-loop Inv-loop μ-loop
+  at-loop = at-coefficient .before .before
+
+  abbrev at-start : tie.Start Inv-loop μ-loop
+  at-start = at-loop .before
+
+  abbrev up : Bool
+  up = at-start .args .up
+
+  abbrev B : List ℤ
+  B = at-start .args .over .now
+
+  abbrev j : ℕ
+  j = at-loop .loop .j
+
+  -- the sum so far, the coefficient and the term
+  abbrev s : ℤ
+  s = weighted up j (rowAt (at-start .args .sheet .now) (at-start .args .row)) B
 
   abbrev a : ℤ
-  a = s .args .sheet .now ! (s .args .at + d .loop .j)
+  a = at-start .args .sheet .now ! (at-start .args .row + j)
 
   abbrev t : ℤ
-  t = outer (s .args .up) (a *ℤ lo (s .args .b .now) (d .loop .j)) (a *ℤ hi (s .args .b .now) (d .loop .j))
+  t = outer up (a *ℤ lo B j) (a *ℤ hi B j)
 
-  t-is : c .term .result ≡ t
-  t-is = c .term .ensures ∙ simp (told, c .before .term-arg3 .given, c .before .before .term-arg2 .given, c .before .before .before .term-arg .given)
+  term-is : at-term .term .result ≡ t
+  term-is = at-term .term .ensures ∙ simp (told, at-upper .term-arg3 .given, at-lower .term-arg2 .given, at-coefficient .term-arg .given)
 
-  t-bound : Bound t (word * limit)
-  t-bound =
-      let k = bound-of {w = w32} {z = a} (sfits-of (c .before .before .before .term-arg .given)) in
-      outer-one (λ z. Bound z (word * limit)) (s .args .up) (bound-mul k (s .pre .1 .at (d .loop .j))) (bound-mul k (s .pre .1 .at (d .loop .j + N)))
+  term-bound : Bound t (word * limit)
+  term-bound =
+      let coefficient = bound-of {w = w32} {z = a} (sfits-of (at-coefficient .term-arg .given)) in
+      let sides = at-start .pre .sides in
+      outer-one (λ z. Bound z (word * limit)) up (bound-mul coefficient (sides .at j)) (bound-mul coefficient (sides .at (j + N)))
 
-  sum-bound : Bound (S +ℤ t) ((d .loop .j + 1) * (word * limit))
-  sum-bound = bound-less (bound-sum (d .loop .inv .1 .1) t-bound) (omega arith)
+  term-fits : SFits w64 t
+  term-fits = fits64 term-bound tt
 
-  sum-fits : SFits w64 (S +ℤ t)
-  sum-fits = fits-by sum-bound (omega arith)
+  sum-bound : Bound (s +ℤ t) ((j + 1) * (word * limit))
+  sum-bound = bound-less (bound-sum (at-loop .loop .inv .near) term-bound) (omega arith)
 
-add-s : tie.Need-add-s Inv-loop μ-loop
-add-s c = simp (d c .loop .inv .1 .0, t-is c, toZ-ofZ, fits64 (t-bound c) tt) (sum-fits c)
+  sum-fits : SFits w64 (s +ℤ t)
+  sum-fits = fits-by sum-bound (omega (arith, at-start .pre .vars, at-loop .loop .inv .turns))
+
+add-sum : tie.Need-add-sum Inv-loop μ-loop
+add-sum at-term = simp (at-loop at-term .loop .inv .same, term-is at-term, toZ-ofZ, term-fits at-term) (sum-fits at-term)
 
 loop-again : tie.Need-loop-again Inv-loop μ-loop
 unfolding weighted
-loop-again c = (omega arith, (simp (d c .loop .inv .1 .0, t-is c, toZ-ofZ, fits64 (t-bound c) tt, sum-fits c, sum-more), rw sum-more (sum-bound c)))
+loop-again at-term = record {
+  turns = omega arith;
+  same = simp (at-loop at-term .loop .inv .same, term-is at-term, toZ-ofZ, term-fits at-term, sum-fits at-term, sum-more);
+  near = rw sum-more (sum-bound at-term);
+}
 
 returns : tie.Need-returns Inv-loop μ-loop
-returns c =
-    let e : c .before .loop .j ≡ c .before .before .args .n = omega arith in
-    let i = c .before .loop .inv .1 in
-    (rw e at (i .0), bound-less {B = c .before .loop .j * (word * limit)} (rw (i .0) (i .1)) (omega arith))
+returns at-return =
+    let at-loop = at-return .before in
+    let inv = at-loop .loop .inv in
+    let all : at-loop .loop .j ≡ at-loop .before .args .n = omega (arith, inv .turns) in
+    (rw all at (inv .same), bound-less {B = at-loop .loop .j * (word * limit)} (rw (inv .same) (inv .near)) (omega (arith, at-loop .before .pre .vars, inv .turns)))
 
 pub weighted-spec : {M : Type 1} → statement M
 weighted-spec =
@@ -93,7 +132,7 @@ weighted-spec =
     (λ c. omega arith)
     (λ c. omega arith)
     term-requires
-    add-s
+    add-sum
     (λ c. omega arith)
     (λ c. omega arith)
     loop-again
