@@ -9,12 +9,12 @@ use Rattle.integers.proofs.Z.{ints, flat, min-is, max-is, prod, neg, le-by, mul
 use Rattle.integers.proofs.Division.{floor-lo, floor-most}
 use Rattle.sheet_spec.specs.Valid.{Between}
 use Rattle.machine_spec.specs.Machine.{clamp}
-use Rattle.boxes_arithmetic.specs.Limits.{Divisible, Capped}
+use Rattle.boxes_arithmetic.specs.Limits.{DivisionAsked, Capped}
 
 -- ---- negatives
 
-pub divisible-neg : {x q : ℤ} → Divisible x q → Divisible (negℤ x) q
-divisible-neg d = record { dividend = bound-neg (d .dividend); positive = d .positive; divisor = d .divisor }
+pub division-neg : {x q : ℤ} → DivisionAsked x q → DivisionAsked (negℤ x) q
+division-neg d = record { dividend = bound-neg (d .dividend); positive = d .positive; divisor = d .divisor }
 
 pub capped-neg : {c z : ℤ} → Capped c z → Capped c (negℤ z)
 capped-neg {c} {z} w = record {
@@ -66,15 +66,15 @@ module _ (x : ℤ) (b : ℕ) (y : ℤ) (one : pos 1 ≤ℤ pos b) where
 
 -- ---- the answer in each case
 
-pub kept : {c z x q : ℤ} → Divisible x q → Capped c z → (z *ℤ q) ≤ℤ x → z ≡ minZ z (clamp c (floorDiv x (natAbs q)))
+pub kept : {c z x q : ℤ} → DivisionAsked x q → Capped c z → (z *ℤ q) ≤ℤ x → z ≡ minZ z (clamp c (floorDiv x (natAbs q)))
 kept {q = negsuc b} d w h = absurd (d .positive .le)
 kept {c} {z} {x} {q = pos b} d w h = above c z (floorDiv x b) (w .within) (at-least x b z (d .positive) h)
 
-pub saturated : {c z x q : ℤ} → Divisible x q → Capped c z → x ≤ℤ (negℤ c *ℤ q) → negℤ c ≡ minZ z (clamp c (floorDiv x (natAbs q)))
+pub saturated : {c z x q : ℤ} → DivisionAsked x q → Capped c z → x ≤ℤ (negℤ c *ℤ q) → negℤ c ≡ minZ z (clamp c (floorDiv x (natAbs q)))
 saturated {q = negsuc b} d w h = absurd (d .positive .le)
 saturated {c} {z} {x} {q = pos b} d w h = below c z (floorDiv x b) (w .within) (at-most x b (negℤ c) (d .positive) h)
 
-pub divided : {c z x q : ℤ} → Divisible x q → Capped c z → x <ℤ (z *ℤ q) → (negℤ c *ℤ q) <ℤ x → floorDiv x (natAbs q) ≡ minZ z (clamp c (floorDiv x (natAbs q)))
+pub divided : {c z x q : ℤ} → DivisionAsked x q → Capped c z → x <ℤ (z *ℤ q) → (negℤ c *ℤ q) <ℤ x → floorDiv x (natAbs q) ≡ minZ z (clamp c (floorDiv x (natAbs q)))
 divided {q = negsuc b} d w h l = absurd (d .positive .le)
 divided {c} {z} {x} {q = pos b} d w h l =
     between c z (floorDiv x b) (w .within) (at-least x b (negℤ c) (d .positive) (omega ints)) (at-most x b z (d .positive) (omega ints))

@@ -20,7 +20,7 @@ abbrev pub word : ℕ
 word = 2147483648
 
 -- x can be divided by q: the negative of x also fits 64 bits, and q is positive
-pub record Divisible (x q : ℤ) : Type 0 where
+pub record DivisionAsked (x q : ℤ) : Type 0 where
   pub dividend : Bound x 9223372036854775807
   pub positive : pos 1 ≤ℤ q
   pub divisor : Bound q word

@@ -9,7 +9,7 @@ ghost use Rattle.integers.specs.Order.{minZ, maxZ};
 ghost use Rattle.integers.specs.Division.{ceilDiv, floorDiv};
 ghost use Rattle.machine_spec.specs.Machine.{clamp};
 ghost use Rattle.machine_spec.specs.Rate.{outer};
-ghost use Rattle.boxes_arithmetic.specs.Limits.{Capped, Divisible};
+ghost use Rattle.boxes_arithmetic.specs.Limits.{Capped, DivisionAsked};
 
 pub fn min(a: i64, b: i64) -> i64
     ensures { λ r. ⌜ r ≡ minZ a b ⌝ }
@@ -32,7 +32,7 @@ pub fn outer(up: bool, a: i64, b: i64) -> i64
 
 // The quotient, rounded down.
 pub fn floor_div(dividend: i64, divisor: i64) -> i64
-    requires { ⌜ Divisible dividend divisor ⌝ }
+    requires { ⌜ DivisionAsked dividend divisor ⌝ }
     ensures { λ r. ⌜ r ≡ floorDiv dividend (natAbs divisor) ⌝ }
 {
     let quotient = dividend / divisor;
@@ -43,7 +43,7 @@ pub fn floor_div(dividend: i64, divisor: i64) -> i64
 // The lesser of the outermost so far and of the quotient, rounded down and clamped by the cap. It divides only if the quotient is
 // the answer.
 pub fn lowest(cap: i64, dividend: i64, divisor: i64, outermost: i64) -> i64
-    requires { ⌜ Divisible dividend divisor × Capped cap outermost ⌝ }
+    requires { ⌜ DivisionAsked dividend divisor × Capped cap outermost ⌝ }
     ensures { λ r. ⌜ r ≡ minZ outermost (clamp cap (floorDiv dividend (natAbs divisor))) ⌝ }
 {
     if outermost * divisor <= dividend {
@@ -59,7 +59,7 @@ pub fn lowest(cap: i64, dividend: i64, divisor: i64, outermost: i64) -> i64
 
 // The greater of the outermost so far and of the quotient, rounded up and clamped by the cap: `lowest` of the negatives.
 pub fn highest(cap: i64, dividend: i64, divisor: i64, outermost: i64) -> i64
-    requires { ⌜ Divisible dividend divisor × Capped cap outermost ⌝ }
+    requires { ⌜ DivisionAsked dividend divisor × Capped cap outermost ⌝ }
     ensures { λ r. ⌜ r ≡ maxZ outermost (clamp cap (ceilDiv dividend (natAbs divisor))) ⌝ }
 {
     -lowest(cap, -dividend, divisor, -outermost)

@@ -10,9 +10,9 @@ use Rattle.integers.specs.Order.{maxZ}
 use Rattle.integers.specs.Division.{ceilDiv}
 use Rattle.integers.proofs.Z.{fits64}
 use Rattle.machine_spec.specs.Machine.{clamp}
-use Rattle.boxes_arithmetic.specs.Limits.{Divisible, Capped}
+use Rattle.boxes_arithmetic.specs.Limits.{DivisionAsked, Capped}
 use Rattle.boxes_arithmetic.proofs.Bounds.{zero-less, within-bound}
-use Rattle.boxes_arithmetic.proofs.Quotient.{divisible-neg, capped-neg, mirror, raised-within}
+use Rattle.boxes_arithmetic.proofs.Quotient.{division-neg, capped-neg, mirror, raised-within}
 use Rattle.boxes_arithmetic.proofs.highest.Statement.{statement}
 use Rattle.boxes_arithmetic.proofs.highest.Tie as tie
 
@@ -31,14 +31,14 @@ module _ (at-start : tie.Start) where
   answer = maxZ outermost (clamp cap ceiling)
 
   -- what is asked, of the negatives
-  divisible : Divisible (negℤ (at-start .args .dividend)) (at-start .args .divisor)
-  divisible = divisible-neg (at-start .pre .0)
+  division : DivisionAsked (negℤ (at-start .args .dividend)) (at-start .args .divisor)
+  division = division-neg (at-start .pre .0)
 
   capped : Capped cap (negℤ outermost)
   capped = capped-neg (at-start .pre .1)
 
   dividend-fits : SFits w64 (negℤ (at-start .args .dividend))
-  dividend-fits = fits64 (divisible .dividend) tt
+  dividend-fits = fits64 (division .dividend) tt
 
   outermost-fits : SFits w64 (negℤ outermost)
   outermost-fits = fits64 (within-bound (capped .small) (capped .within)) tt
@@ -56,7 +56,7 @@ lowest-requires : tie.Need-lowest-requires
 lowest-requires at-start κs =
     let fits = at-start .fits in
     simp (toZ-ofZ, fits .dividend, fits .divisor, fits .cap, fits .outermost, zero-less, dividend-fits at-start, outermost-fits at-start)
-    (divisible at-start, capped at-start)
+    (division at-start, capped at-start)
 
 module _ (at-lowest : tie.After-lowest) where
   lowest-fits : SFits w64 (at-lowest .lowest .result)

@@ -7,7 +7,7 @@ use mir.Val.{SFits, toZ, ofZ}
 use lib.IntN.{ℤ, pos, negℤ, _-ℤ_, _*ℤ_}
 use borrow.Author.Needs.{needs}
 use Rattle.integers.proofs.Z.{le-true, le-false, bound-neg, bound-mul, fits64}
-use Rattle.boxes_arithmetic.specs.Limits.{Divisible, Capped}
+use Rattle.boxes_arithmetic.specs.Limits.{DivisionAsked, Capped}
 use Rattle.boxes_arithmetic.proofs.Bounds.{zero-less, within-bound}
 use Rattle.boxes_arithmetic.proofs.Quotient.{kept, saturated, divided}
 use Rattle.boxes_arithmetic.proofs.lowest.Statement.{statement}
@@ -23,18 +23,18 @@ module _ (at-start : tie.Start) where
   abbrev outermost : ℤ
   outermost = at-start .args .outermost
 
-  divisible : Divisible (at-start .args .dividend) q
-  divisible = at-start .pre .0
+  division : DivisionAsked (at-start .args .dividend) q
+  division = at-start .pre .0
 
   capped : Capped cap outermost
   capped = at-start .pre .1
 
   -- the products that are compared with the dividend
   outermost-fits : SFits w64 (outermost *ℤ q)
-  outermost-fits = fits64 (bound-mul (within-bound (capped .small) (capped .within)) (divisible .divisor)) tt
+  outermost-fits = fits64 (bound-mul (within-bound (capped .small) (capped .within)) (division .divisor)) tt
 
   low-fits : SFits w64 (negℤ cap *ℤ q)
-  low-fits = fits64 (bound-mul (bound-neg (capped .small)) (divisible .divisor)) tt
+  low-fits = fits64 (bound-mul (bound-neg (capped .small)) (division .divisor)) tt
 
   -- −cap
   neg-fits : SFits w64 (negℤ cap)
@@ -59,7 +59,7 @@ mul-if2 at-low =
 floor-div-requires : tie.Need-floor-div-requires
 floor-div-requires c κs =
     let at-start = c .before .before in
-    simp (toZ-ofZ, at-start .fits .dividend, at-start .fits .divisor) (divisible at-start)
+    simp (toZ-ofZ, at-start .fits .dividend, at-start .fits .divisor) (division at-start)
 
 -- the outermost so far
 returns : tie.Need-returns
@@ -67,7 +67,7 @@ returns at-return =
     let at-start = at-return .before in
     let fits = at-start .fits in
     let test = simp (toZ-ofZ, fits .outermost, fits .divisor, fits .dividend, outermost-fits at-start) at (at-return .if1 .taken) in
-    toZ-ofZ (fits .outermost) ∙ kept (divisible at-start) (capped at-start) (le-true _ _ test)
+    toZ-ofZ (fits .outermost) ∙ kept (division at-start) (capped at-start) (le-true _ _ test)
 
 -- −cap
 returns-2 : tie.Need-returns-2
@@ -75,7 +75,7 @@ returns-2 at-return =
     let at-start = at-return .before .before in
     let fits = at-start .fits in
     let test = simp (low-is at-start, toZ-ofZ, fits .divisor, low-fits at-start, fits .dividend) at (at-return .if2 .taken) in
-    low-is at-start ∙ saturated (divisible at-start) (capped at-start) (le-true _ _ test)
+    low-is at-start ∙ saturated (division at-start) (capped at-start) (le-true _ _ test)
 
 -- the quotient
 returns-3 : tie.Need-returns-3
@@ -89,7 +89,7 @@ returns-3 at-return =
     let above = simp (low-is at-start, toZ-ofZ, fits .divisor, low-fits at-start, fits .dividend) at (second .if2 .left) in
     toZ-ofZ quotient-fits
     ∙ (at-return .floor-div .ensures
-    ∙ simp (toZ-ofZ, fits .dividend, fits .divisor) (divided (divisible at-start) (capped at-start) (le-false _ _ below) (le-false _ _ above)))
+    ∙ simp (toZ-ofZ, fits .dividend, fits .divisor) (divided (division at-start) (capped at-start) (le-false _ _ below) (le-false _ _ above)))
 
 pub lowest-spec : {M : Type 1} → statement M
 lowest-spec = tie.close (tie.spec mul-if1 returns sub-low mul-if2 floor-div-requires returns-2 returns-3)

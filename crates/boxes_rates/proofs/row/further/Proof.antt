@@ -14,7 +14,7 @@ use Rattle.integers.proofs.Z.{up32, bound-sum, bound-sub, bound-less, fits64}
 use Rattle.sheet_spec.specs.Slots.{_!_, N, Row, rowAt}
 use Rattle.machine_spec.specs.Machine.{change}
 use Rattle.machine_spec.specs.Rate.{outer}
-use Rattle.boxes_arithmetic.specs.Limits.{Divisible, word}
+use Rattle.boxes_arithmetic.specs.Limits.{DivisionAsked, word}
 use Rattle.boxes_rates.specs.Limits.{rowLimit}
 use Rattle.boxes_rates.proofs.RowNumbers.{row-read, row-bound}
 use Rattle.boxes_rates.proofs.row.further.Statement.{statement}
@@ -46,18 +46,18 @@ module _ (at-divisor : tie.After-divisor) where
   spread-bound : Bound (row .d) word
   spread-bound = row-bound v (at-start .args .row) 2 (at-spread .spread .given)
 
-  divisible : {x : ℤ} → Bound x (rowLimit + word) → Divisible x (row .q)
-  divisible near = record {
+  division : {x : ℤ} → Bound x (rowLimit + word) → DivisionAsked x (row .q)
+  division near = record {
     dividend = bound-less near (lit≤ tt);
     positive = at-start .pre .divisor;
     divisor = row-bound v (at-start .args .row) 3 (at-divisor .divisor .given);
   }
 
-  above : Divisible (number +ℤ row .d) (row .q)
-  above = divisible (bound-sum (at-start .pre .number) spread-bound)
+  above : DivisionAsked (number +ℤ row .d) (row .q)
+  above = division (bound-sum (at-start .pre .number) spread-bound)
 
-  below : Divisible (number -ℤ row .d) (row .q)
-  below = divisible (bound-sub (at-start .pre .number) spread-bound)
+  below : DivisionAsked (number -ℤ row .d) (row .q)
+  below = division (bound-sub (at-start .pre .number) spread-bound)
 
   above-fits : SFits w64 (number +ℤ row .d)
   above-fits = fits64 (above .dividend) tt
