@@ -50,13 +50,26 @@ unfoldable pub lawRefusal : List ℤ → Law → ℕ
 lawRefusal v baseline = 0
 lawRefusal v (command u) = cond (leZ (leastCommand v) u && leZ u (greatestCommand v)) 0 14
 
--- 15: a box that is reversed or not within ±1,000,000
+-- a variable's sides: in order and within ±1,000,000
+abbrev pub maxSide : ℕ
+maxSide = 1000000
+
+abbrev pub inRange : ℤ → ℤ → Bool
+inRange l h = leZ (negℤ (pos maxSide)) l && leZ l h && leZ h (pos maxSide)
+
+-- 15: a box with a variable whose sides are not
 unfoldable pub sidesRefusal : ℕ → List ℤ → ℕ
-sidesRefusal n B = cond (all n (λ i. leZ (negℤ (pos 1000000)) (lo B i) && leZ (lo B i) (hi B i) && leZ (hi B i) (pos 1000000))) 0 15
+sidesRefusal n B = cond (all n (λ i. inRange (lo B i) (hi B i))) 0 15
+
+abbrev pub maxTicks : ℕ
+maxTicks = 1000
+
+abbrev pub maxWidth : ℕ
+maxWidth = 1000
 
 -- 16: the ticks or the width
 unfoldable pub ticksRefusal : ℕ → ℕ → ℕ
-ticksRefusal ticks w = cond (leb ticks 1000 && leb 1 w && leb w 1000) 0 16
+ticksRefusal ticks w = cond (leb ticks maxTicks && leb 1 w && leb w maxWidth) 0 16
 
 -- the refusals of a reach, after the sheet's own
 unfoldable pub reachRefusal : List ℤ → ℕ → ℕ → Law → List ℤ → ℕ

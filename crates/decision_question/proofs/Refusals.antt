@@ -15,60 +15,62 @@ use Rattle.boxes_arithmetic.specs.Limits.{SidesWithin}
 use Rattle.machine_spec.proofs.Box.{and-both}
 use Rattle.machine_spec.proofs.InPlace.{trim-sides}
 use Rattle.sheet_spec.specs.Refusals.{orElse}
-use Rattle.boxes_spec.specs.Reach.{lawRefusal, sidesRefusal}
+use Rattle.boxes_spec.specs.Reach.{lawRefusal, maxSide, sidesRefusal}
 use Rattle.boxes_spec.proofs.Count.{cond-zero}
 use Rattle.boxes_spec.proofs.Refusals.{or-stop, or-go, or-none}
 use Rattle.boxes_refusals.proofs.Turn.{sides-near}
-use Rattle.decision_spec.specs.Question.{questionLength, allowanceOf, commandOf, pairs, measured, formRefusal, allowanceRefusal, questionRefusal}
+use Rattle.decision_spec.specs.Question.{questionLength, maxAllowance, allowanceOf, commandOf, pairs, measured, formRefusal, allowanceRefusal, questionRefusal}
 
 pub form-length : (n : ℕ) (g : List ℕ) → formRefusal n g ≡ 0 → length g ≡ questionLength n
 unfolding formRefusal
-form-length n g e =
-    let a = and-both (eqb (length g) (questionLength n) && eqb (getD g 0 0) 81) _ (cond-zero _ 11 e) in
-    eqb-true (length g) (questionLength n) (and-both (eqb (length g) (questionLength n)) _ (a .0) .0)
+form-length n g passed =
+    let first-two = and-both (eqb (length g) (questionLength n) && eqb (getD g 0 0) 81) _ (cond-zero _ 11 passed) .0 in
+    eqb-true (length g) (questionLength n) (and-both (eqb (length g) (questionLength n)) _ first-two .0)
 
--- ---- the first refusal
+-- ---- the first refusal, of the sheet v and the question g
 
-module _ (v : List ℤ) (g : List ℕ) {a : ℕ} (p : a ≡ formRefusal (vars v) g) where
-  pub stop-form : (a ≡ 0 → ⊥) → a ≡ questionRefusal v g
+-- `form` is what the code found of the form
+module _ (v : List ℤ) (g : List ℕ) {form : ℕ} (form-is : form ≡ formRefusal (vars v) g) where
+  pub stop-form : (form ≡ 0 → ⊥) → form ≡ questionRefusal v g
   unfolding questionRefusal
-  stop-form n = or-stop _ p n
+  stop-form refused = or-stop _ form-is refused
 
-  module _ (e : a ≡ 0) where
-    pub stop-allowance : 1000000 < allowanceOf g → 13 ≡ questionRefusal v g
+  module _ (formed : form ≡ 0) where
+    pub stop-allowance : maxAllowance < allowanceOf g → 13 ≡ questionRefusal v g
     unfolding questionRefusal allowanceRefusal
-    stop-allowance h = or-stop {a = 13} {r = allowanceRefusal g} _ (rw (lt-leb (allowanceOf g) 1000000 h) refl) (λ z. omega arith) ∙ or-go _ p e
+    stop-allowance many = or-stop {a = 13} {r = allowanceRefusal g} _ (rw (lt-leb (allowanceOf g) maxAllowance many) refl) (λ none. omega arith) ∙ or-go _ form-is formed
 
-    module _ (few : allowanceOf g ≤ 1000000) {b : ℕ} (q : b ≡ lawRefusal v (command (commandOf g))) where
-      abbrev behind : ℕ
-      behind = orElse (lawRefusal v (command (commandOf g))) (sidesRefusal (vars v) (measured (vars v) g))
+    -- `law` is what the code found of the command
+    module _ (few : allowanceOf g ≤ maxAllowance) {law : ℕ} (law-is : law ≡ lawRefusal v (command (commandOf g))) where
+      abbrev rest : ℕ
+      rest = orElse (lawRefusal v (command (commandOf g))) (sidesRefusal (vars v) (measured (vars v) g))
 
-      go-law : behind ≡ questionRefusal v g
+      go-law : rest ≡ questionRefusal v g
       unfolding questionRefusal allowanceRefusal
-      go-law = or-go {a = 0} {r = allowanceRefusal g} behind (rw (le-leb (allowanceOf g) 1000000 few) refl) refl ∙ or-go _ p e
+      go-law = or-go {a = 0} {r = allowanceRefusal g} rest (rw (le-leb (allowanceOf g) maxAllowance few) refl) refl ∙ or-go _ form-is formed
 
-      pub stop-law : (b ≡ 0 → ⊥) → b ≡ questionRefusal v g
-      stop-law n = or-stop _ q n ∙ go-law
+      pub stop-law : (law ≡ 0 → ⊥) → law ≡ questionRefusal v g
+      stop-law refused = or-stop _ law-is refused ∙ go-law
 
-      pub stop-sides : b ≡ 0 → sidesRefusal (vars v) (measured (vars v) g) ≡ questionRefusal v g
-      stop-sides f = or-go _ q f ∙ go-law
+      pub stop-sides : law ≡ 0 → sidesRefusal (vars v) (measured (vars v) g) ≡ questionRefusal v g
+      stop-sides lawful = or-go _ law-is lawful ∙ go-law
 
 -- ---- a question that is not refused
 
 -- the measured box has nothing beyond its sides
 pub measured-trimmed : (n : ℕ) (g : List ℕ) → n ≤ N → trim n (measured n g) ≡ measured n g
 unfolding measured pairs
-measured-trimmed n g k = trim-sides n k _ _
+measured-trimmed n g room = trim-sides n room _ _
 
-module _ (v : List ℤ) (g : List ℕ) (e : questionRefusal v g ≡ 0) where
+module _ (v : List ℤ) (g : List ℕ) (passed : questionRefusal v g ≡ 0) where
   pub asked-length : length g ≡ questionLength (vars v)
   unfolding questionRefusal
-  asked-length = form-length (vars v) g (or-none (formRefusal (vars v) g) _ e .0)
+  asked-length = form-length (vars v) g (or-none (formRefusal (vars v) g) _ passed .0)
 
-  pub measured-near : vars v ≤ N → SidesWithin 1000000 (measured (vars v) g)
+  pub measured-near : vars v ≤ N → SidesWithin maxSide (measured (vars v) g)
   unfolding questionRefusal
-  measured-near k =
-      let a = or-none (formRefusal (vars v) g) _ e in
-      let b = or-none (allowanceRefusal g) _ (a .1) in
-      let c = or-none (lawRefusal v (command (commandOf g))) _ (b .1) in
-      subst (SidesWithin 1000000) (measured-trimmed (vars v) g k) (sides-near (vars v) (measured (vars v) g) (c .1))
+  measured-near room =
+      let after-form = or-none (formRefusal (vars v) g) _ passed .1 in
+      let after-allowance = or-none (allowanceRefusal g) _ after-form .1 in
+      let after-law = or-none (lawRefusal v (command (commandOf g))) _ after-allowance .1 in
+      subst (SidesWithin maxSide) (measured-trimmed (vars v) g room) (sides-near (vars v) (measured (vars v) g) after-law)

@@ -1,4 +1,4 @@
--- `allowance` reads a question's allowance. Assumes nothing.
+-- `allowance` gives a question's allowance. Assumes nothing.
 use borrow.Author.Needs.{needs}
 use Rattle.decision_spec.specs.Question.{allowanceOf}
 use Rattle.decision_question.proofs.allowance.Statement.{statement}
@@ -6,7 +6,7 @@ use Rattle.decision_question.proofs.allowance.Tie as tie
 
 returns : tie.Need-returns
 unfolding allowanceOf
-returns c = c .four .ensures
+returns at-return = at-return .four .ensures
 
 pub allowance-spec : {M : Type 1} → statement M
 allowance-spec = tie.close (tie.spec (λ c κs. search needs) returns)

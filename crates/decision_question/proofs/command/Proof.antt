@@ -1,4 +1,4 @@
--- `command` reads a question's command. Assumes nothing.
+-- `command` gives a question's command. Assumes nothing.
 use mathlib.Core.Path.{_∙_}
 use borrow.Author.Needs.{needs}
 use mir.Syntax.{w32}
@@ -11,7 +11,7 @@ use Rattle.decision_question.proofs.command.Tie as tie
 
 returns : tie.Need-returns
 unfolding commandOf decoded
-returns c = let f : SFits w32 (c .get-i32 .result) = search needs in toZ-ofZ f ∙ c .get-i32 .ensures
+returns at-return = let fits : SFits w32 (at-return .get-i32 .result) = search needs in toZ-ofZ fits ∙ at-return .get-i32 .ensures
 
 pub command-spec : {M : Type 1} → statement M
 command-spec = tie.close (tie.spec (λ c κs. search needs) returns)

@@ -1,4 +1,5 @@
--- `pairs` reads n pairs of sides: after i turns, the first i. Assumes nothing.
+-- `pairs` gives the box of n pairs of sides. Invariant: after i turns, the box of the first i pairs. Measure: the pairs left.
+-- Assumes nothing.
 use mathlib.Core.Path.{_≡_, refl, _∙_}
 use Prim.Native.Nat.{_≤_, _-_}
 use native.Mathlib.Omega.{arith}
@@ -14,25 +15,30 @@ use Rattle.decision_question.proofs.pairs.Statement.{statement}
 use Rattle.decision_question.proofs.pairs.Tie as tie
 
 abbrev Inv-loop : tie.InvT-loop
-Inv-loop n g at b₀ i₀ b i = (i ≤ n) × (b ≡ pairs i g at)
+Inv-loop n bytes at sides₀ i₀ sides i = (i ≤ n) × (sides ≡ pairs i bytes at)
 
 abbrev μ-loop : tie.MeasureT-loop
-μ-loop n g at b₀ i₀ b i = n - i
+μ-loop n bytes at sides₀ i₀ sides i = n - i
 
 loop-holds : tie.Need-loop-holds Inv-loop μ-loop
 unfolding pairs boxOf
-loop-holds c = (omega arith, refl)
+loop-holds at-start = (omega arith, refl)
 
 loop-again : tie.Need-loop-again Inv-loop μ-loop
 unfolding pairs decoded
-loop-again c =
-    let l = c .before .before .before .loop in
-    let f : SFits w32 (c .before .get-i32 .result) = search needs in
-    let g : SFits w32 (c .get-i322 .result) = search needs in
-    (omega arith, sides-more (l .i) _ _ (l .inv .1) (from32 f ∙ c .before .get-i32 .ensures) (from32 g ∙ c .get-i322 .ensures))
+loop-again at-upper =
+    let at-lower = at-upper .before in
+    let at-loop = at-lower .before .before in
+    let lower-fits : SFits w32 (at-lower .get-i32 .result) = search needs in
+    let upper-fits : SFits w32 (at-upper .get-i322 .result) = search needs in
+    (omega arith, sides-more (at-loop .loop .i) _ _ (at-loop .loop .inv .1) (from32 lower-fits ∙ at-lower .get-i32 .ensures) (from32 upper-fits ∙ at-upper .get-i322 .ensures))
 
 returns : tie.Need-returns Inv-loop μ-loop
-returns c = let e : c .before .loop .i ≡ c .before .before .before .args .n = omega arith in rw e at (c .before .loop .inv .1)
+returns at-return =
+    let at-loop = at-return .before in
+    let at-start = at-loop .before .before in
+    let all-read : at-loop .loop .i ≡ at-start .args .n = omega arith in
+    rw all-read at (at-loop .loop .inv .1)
 
 pub pairs-spec : {M : Type 1} → statement M
 pairs-spec =

@@ -1,5 +1,6 @@
--- `refusal` is the first refusal of the definition. Assumes nothing.
+-- `refusal` gives the first refusal of a question, or 0: the form, the allowance, the command, the measured box. Assumes nothing.
 use mathlib.Core.Path.{_≡_, sym, ap, _∙_}
+use mathlib.Core.List.{List}
 use Prim.Native.Nat.{ℕ, _≤_}
 use native.Mathlib.Omega.{arith}
 use lib.IntN.{ℤ}
@@ -11,68 +12,100 @@ use borrow.Author.Needs.{needs}
 use Rattle.sheet_spec.specs.Slots.{vars}
 use Rattle.machine_spec.specs.Machine.{command, lawOf}
 use Rattle.boxes_spec.specs.Reach.{lawRefusal, sidesRefusal}
-use Rattle.decision_spec.specs.Question.{questionLength, allowanceOf, commandOf, measured, formRefusal}
+use Rattle.decision_spec.specs.Question.{questionLength, maxAllowance, allowanceOf, commandOf, measured, formRefusal}
 use Rattle.decision_question.proofs.Refusals.{form-length, stop-form, stop-allowance, stop-law, stop-sides}
 use Rattle.decision_question.proofs.refusal.Statement.{statement}
 use Rattle.decision_question.proofs.refusal.Tie as tie
 
 -- after the test of the form
-module _ (c : tie.After-form-refusal) where
-  abbrev s : tie.Start
-  s = c .before .before
+module _ (at-form : tie.After-form-refusal) where
+  abbrev at-start : tie.Start
+  at-start = at-form .before .before
 
-  form-is : c .form-refusal .result ≡ formRefusal (vars (s .args .sheet .now)) (s .args .g .now)
-  form-is = c .form-refusal .ensures ∙ ap (λ (n : ℕ). formRefusal n (s .args .g .now)) (s .pre .0)
+  abbrev n : ℕ
+  n = at-start .args .n
 
-long : (c : tie.Else1) → length (s (c .before) .args .g .now) ≡ questionLength (s (c .before) .args .n)
-long c = form-length _ _ (sym (c .before .form-refusal .ensures) ∙ c .if1 .left)
+  abbrev v : List ℤ
+  v = at-start .args .sheet .now
+
+  abbrev g : List ℕ
+  g = at-start .args .question .now
+
+  form-is : at-form .form-refusal .result ≡ formRefusal (vars v) g
+  form-is = at-form .form-refusal .ensures ∙ ap (λ (i : ℕ). formRefusal i g) (at-start .pre .0)
+
+-- the form is right
+module _ (formed : tie.Else1) where
+  abbrev at-form : tie.After-form-refusal
+  at-form = formed .before
+
+  long : length (g at-form) ≡ questionLength (n at-form)
+  long = form-length _ _ (sym (at-form .form-refusal .ensures) ∙ formed .if1 .left)
 
 -- after the test of the command
-module _ (c : tie.After-law-refusal) where
-  abbrev a : tie.After-allowance
-  a = c .before .before .before
+module _ (at-law : tie.After-law-refusal) where
+  abbrev at-command : tie.After-command
+  at-command = at-law .before
 
-  abbrev f : tie.After-form-refusal
-  f = a .before .before
+  abbrev allowed : tie.Else2
+  allowed = at-command .before
 
-  law-is : c .law-refusal .result ≡ lawRefusal (s f .args .sheet .now) (command (commandOf (s f .args .g .now)))
+  abbrev at-allowance : tie.After-allowance
+  at-allowance = allowed .before
+
+  abbrev formed : tie.Else1
+  formed = at-allowance .before
+
+  abbrev tested : tie.After-form-refusal
+  tested = at-form formed
+
+  law-is : at-law .law-refusal .result ≡ lawRefusal (v tested) (command (commandOf (g tested)))
   unfolding lawOf
   law-is =
-      let k : SFits w32 (c .before .command .result) = search needs in
-      c .law-refusal .ensures ∙ ap (λ (u : ℤ). lawRefusal (s f .args .sheet .now) (command u)) (toZ-ofZ k ∙ c .before .command .ensures)
+      let fits : SFits w32 (at-command .command .result) = search needs in
+      at-law .law-refusal .ensures ∙ ap (λ (u : ℤ). lawRefusal (v tested) (command u)) (toZ-ofZ fits ∙ at-command .command .ensures)
 
-  few : allowanceOf (s f .args .g .now) ≤ 1000000
-  few = let l = c .before .before .if2 .left in omega (arith, a .allowance .ensures)
+  few : allowanceOf (g tested) ≤ maxAllowance
+  few = omega (arith, allowed .if2 .left, at-allowance .allowance .ensures)
 
+-- the form is refused
 returns : tie.Need-returns
-returns c = stop-form _ _ (form-is (c .before)) (c .if1 .taken)
+returns at-return = stop-form _ _ (form-is (at-return .before)) (at-return .if1 .taken)
 
 allowance-requires : tie.Need-allowance-requires
-allowance-requires c κs = omega (arith, long c)
+allowance-requires formed κs = omega (arith, long formed)
 
+-- the allowance is refused
 returns-2 : tie.Need-returns-2
-returns-2 c =
-    let d = c .before in
-    let f = d .before .before in
-    stop-allowance _ _ (form-is f) (d .before .if1 .left) (let t = c .if2 .taken in omega (arith, d .allowance .ensures))
+returns-2 at-return =
+    let at-allowance = at-return .before in
+    let formed = at-allowance .before in
+    stop-allowance _ _ (form-is (at-form formed)) (formed .if1 .left) (omega (arith, at-return .if2 .taken, at-allowance .allowance .ensures))
 
 command-requires : tie.Need-command-requires
-command-requires c κs = omega (arith, long (c .before .before))
+command-requires allowed κs = omega (arith, long (allowed .before .before))
 
+-- the command is refused
 returns-3 : tie.Need-returns-3
-returns-3 c = let d = c .before in stop-law _ _ (form-is (f d)) (a d .before .if1 .left) (few d) (law-is d) (c .if3 .taken)
+returns-3 at-return =
+    let at-law = at-return .before in
+    stop-law _ _ (form-is (tested at-law)) (formed at-law .if1 .left) (few at-law) (law-is at-law) (at-return .if3 .taken)
 
 measured-requires : tie.Need-measured-requires
-measured-requires c κs = let d = a (c .before) .before in (s (d .before) .pre .1, omega (arith, long d))
+measured-requires lawful κs =
+    let at-law = lawful .before in
+    (at-start (tested at-law) .pre .1, omega (arith, long (formed at-law)))
 
+-- what is found of the measured box
 returns-4 : tie.Need-returns-4
-returns-4 c =
-    let d = c .before .before .before .before in
-    let g = s (f d) .args .g .now in
-    let n = s (f d) .args .n in
-    c .sides-refusal .ensures ∙ ap (sidesRefusal n) (c .before .before .measured .ensures)
-    ∙ ap (λ (n : ℕ). sidesRefusal n (measured n g)) (s (f d) .pre .0)
-    ∙ stop-sides _ _ (form-is (f d)) (a d .before .if1 .left) (few d) (law-is d) (c .before .before .before .if3 .left)
+returns-4 at-return =
+    let at-box = at-return .before .before in
+    let lawful = at-box .before in
+    let at-law = lawful .before in
+    let at-form = tested at-law in
+    at-return .sides-refusal .ensures ∙ ap (sidesRefusal (n at-form)) (at-box .measured .ensures)
+    ∙ ap (λ (i : ℕ). sidesRefusal i (measured i (g at-form))) (at-start at-form .pre .0)
+    ∙ stop-sides _ _ (form-is at-form) (formed at-law .if1 .left) (few at-law) (law-is at-law) (lawful .if3 .left)
 
 pub refusal-spec : {M : Type 1} → statement M
 refusal-spec =
