@@ -3,6 +3,7 @@
 // specs/Recovery say what a case means in their terms.
 ghost use mathlib.Core.Path.{_≡_};
 ghost use Prim.Native.Nat.{ℕ, _+_, _*_, _^_, _≤_};
+ghost use Rattle.boxes_spec.specs.Reach.{maxWidth};
 ghost use Rattle.decision_spec.specs.Decision.{answered, packed, refused, spent, widthOf, isKeep};
 ghost use Rattle.decision_answers.specs.Recovery.{checkReplyOf};
 ghost use Rattle.decision_answers.specs.Decision.{replyOf};
@@ -32,11 +33,11 @@ const SPENT: u64 = 2;
 const REFUSED: u64 = 3;
 
 // A verdict that is not spent, as a recovery check's answer.
-pub fn recovery_of(d: Decision) -> Recovery
-    requires { ⌜ ((w c : ℕ) → replyOf d ≡ answered spent w c → ⊥) ⌝ }
-    ensures { λ r. ⌜ checkReplyOf r ≡ replyOf d ⌝ }
+pub fn recovery_of(decision: Decision) -> Recovery
+    requires { ⌜ ((w c : ℕ) → replyOf decision ≡ answered spent w c → ⊥) ⌝ }
+    ensures { λ r. ⌜ checkReplyOf r ≡ replyOf decision ⌝ }
 {
-    match d {
+    match decision {
         Decision::Keep { width, rounds } => Recovery::Pass {
             width: width,
             rounds: rounds,
@@ -54,10 +55,10 @@ pub fn recovery_of(d: Decision) -> Recovery
 }
 
 // A recovery check's answer with the codes of a decision.
-pub fn as_decision(r: Recovery) -> Decision
-    ensures { λ d. ⌜ replyOf d ≡ checkReplyOf r ⌝ }
+pub fn as_decision(recovery: Recovery) -> Decision
+    ensures { λ r. ⌜ replyOf r ≡ checkReplyOf recovery ⌝ }
 {
-    match r {
+    match recovery {
         Recovery::Pass { width, rounds } => Decision::Keep {
             width: width,
             rounds: rounds,
@@ -71,21 +72,26 @@ pub fn as_decision(r: Recovery) -> Decision
 }
 
 // Whether a recovery check passed.
-pub fn has_passed(a: Recovery) -> bool
-    ensures { λ r. ⌜ r ≡ isKeep (checkReplyOf a) ⌝ }
+pub fn has_passed(recovery: Recovery) -> bool
+    ensures { λ r. ⌜ r ≡ isKeep (checkReplyOf recovery) ⌝ }
 {
-    match a {
+    match recovery {
         Recovery::Pass { .. } => true,
         Recovery::Fail { .. } => false,
         Recovery::Refused { .. } => false,
     }
 }
 
+// The number of an answer has the rounds below the width, and the width below the code.
+const WIDTH_UNIT: u64 = 0x1_0000_0000;
+
+const CODE_UNIT: u64 = 0x1_0000_0000_0000;
+
 fn pack(code: u64, width: u32, rounds: u32) -> u64
-    requires { ⌜ (code ≤ 3) × (width ≤ 1000) ⌝ }
+    requires { ⌜ (code ≤ 3) × (width ≤ maxWidth) ⌝ }
     ensures { λ r. ⌜ r ≡ code * 2 ^ 48 + width * 2 ^ 32 + rounds ⌝ }
 {
-    code * 0x1_0000_0000_0000 + (width as u64) * 0x1_0000_0000 + (rounds as u64)
+    code * CODE_UNIT + (width as u64) * WIDTH_UNIT + (rounds as u64)
 }
 
 pub fn pack_refusal(number: u8) -> u64
@@ -94,11 +100,11 @@ pub fn pack_refusal(number: u8) -> u64
     pack(REFUSED, number as u32, 0)
 }
 
-pub fn pack_decision(d: Decision) -> u64
-    requires { ⌜ widthOf (replyOf d) ≤ 1000 ⌝ }
-    ensures { λ r. ⌜ r ≡ packed (replyOf d) ⌝ }
+pub fn pack_decision(decision: Decision) -> u64
+    requires { ⌜ widthOf (replyOf decision) ≤ maxWidth ⌝ }
+    ensures { λ r. ⌜ r ≡ packed (replyOf decision) ⌝ }
 {
-    match d {
+    match decision {
         Decision::Keep { width, rounds } => pack(KEEP, width, rounds),
         Decision::Finest { width, rounds } => pack(FINEST, width, rounds),
         Decision::Spent { width, rounds } => pack(SPENT, width, rounds),

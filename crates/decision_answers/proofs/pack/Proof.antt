@@ -1,4 +1,4 @@
--- `pack` puts the three numbers side by side, and there is room. Assumes nothing.
+-- `pack` gives code, width and rounds as one number, for which there is room. Assumes nothing.
 use native.Mathlib.Omega.{arith}
 use borrow.Author.Needs.{needs}
 use Rattle.decision_answers.proofs.pack.Statement.{statement}

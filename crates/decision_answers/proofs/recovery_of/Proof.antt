@@ -1,4 +1,4 @@
--- `recovery_of` gives the same reply. Assumes nothing.
+-- `recovery_of` gives a recovery check's answer with the reply of the decision, which is not spent. Assumes nothing.
 use mathlib.Core.Path.{sym, ap}
 use borrow.Author.Needs.{needs}
 use Rattle.decision_answers.specs.Decision.{replyOf}
@@ -6,23 +6,16 @@ use Rattle.decision_answers.specs.Recovery.{checkReplyOf}
 use Rattle.decision_answers.proofs.recovery_of.Statement.{statement}
 use Rattle.decision_answers.proofs.recovery_of.Tie as tie
 
-returns : tie.Need-returns
-unfolding replyOf checkReplyOf
-returns c = ap replyOf (sym (c .before .d .given .1))
-
-returns-2 : tie.Need-returns-2
-unfolding replyOf checkReplyOf
-returns-2 c = ap replyOf (sym (c .before .d2 .given .1))
-
+-- a spent decision does not happen
 returns-3 : tie.Need-returns-3
 unfolding replyOf
-returns-3 c = absurd (c .before .before .before .pre _ _ (ap replyOf (c .before .d3 .given .1)))
-
-returns-4 : tie.Need-returns-4
-unfolding replyOf checkReplyOf
-returns-4 c = ap replyOf (sym (c .before .d4 .given .1))
+returns-3 at-return =
+    let at-spent = at-return .before in
+    let at-start = at-spent .before .before in
+    absurd (at-start .pre _ _ (ap replyOf (at-spent .decision3 .given .1)))
 
 pub recovery-of-spec : {M : Type 1} → statement M
+unfolding replyOf checkReplyOf
 recovery-of-spec =
     tie.close
     (tie.spec
@@ -30,7 +23,7 @@ recovery-of-spec =
     (λ c. search needs)
     (λ c. search needs)
     (λ c. search needs)
-    returns
-    returns-2
+    (λ at-keep. ap replyOf (sym (at-keep .before .decision .given .1)))
+    (λ at-finest. ap replyOf (sym (at-finest .before .decision2 .given .1)))
     returns-3
-    returns-4)
+    (λ at-refused. ap replyOf (sym (at-refused .before .decision4 .given .1))))
