@@ -2,13 +2,10 @@
 // is refused for the last two as well, with the same numbers. The definitions are in boxes_spec/specs/Reach; the sheet's own
 // refusals are in `sheet_spec`.
 ghost use mathlib.Core.Path.{_≡_};
-ghost use mathlib.Core.Bool.{_&&_};
 ghost use Prim.Native.Nat.{_≤_};
-ghost use lib.IntN.{pos, negℤ};
-ghost use lib.Signed.{leZ};
 ghost use Rattle.sheet_spec.specs.Slots as slots;
 ghost use Rattle.machine_spec.specs.Machine.{lawOf};
-ghost use Rattle.boxes_spec.specs.Reach.{lawRefusal, reachRefusal, sidesRefusal, ticksRefusal};
+ghost use Rattle.boxes_spec.specs.Reach.{inRange, lawRefusal, reachRefusal, sidesRefusal, ticksRefusal};
 use sheet_spec::slots::BOX_SIZE;
 use sheet_spec::slots::GREATEST;
 use sheet_spec::slots::LEAST;
@@ -22,16 +19,23 @@ pub const SIDES: u8 = 15;
 
 pub const TICKS: u8 = 16;
 
+// The greatest ticks and width of a reach, and the greatest side of its start box, without its sign.
+const MAX_TICKS: u32 = 1000;
+
+const MAX_WIDTH: u32 = 1000;
+
+const MAX_SIDE: i64 = 1000000;
+
 fn ticks_refusal(ticks: u32, width: u32) -> u8
     ensures { λ r. ⌜ r ≡ ticksRefusal ticks width ⌝ }
 {
-    if 1000 < ticks {
+    if MAX_TICKS < ticks {
         return TICKS;
     }
     if width < 1 {
         return TICKS;
     }
-    if 1000 < width {
+    if MAX_WIDTH < width {
         return TICKS;
     }
     0
@@ -52,26 +56,26 @@ pub fn law_refusal(sheet: &[i32; SLOTS], baseline: bool, command: i32) -> u8
     0
 }
 
-fn in_range(l: i64, h: i64) -> bool
-    ensures { λ r. ⌜ r ≡ (leZ (negℤ (pos 1000000)) l && leZ l h && leZ h (pos 1000000)) ⌝ }
+fn in_range(lower: i64, upper: i64) -> bool
+    ensures { λ r. ⌜ r ≡ inRange lower upper ⌝ }
 {
-    if l < -1000000 {
+    if lower < -MAX_SIDE {
         return false;
     }
-    if h < l {
+    if upper < lower {
         return false;
     }
-    h <= 1000000
+    upper <= MAX_SIDE
 }
 
-pub fn sides_refusal(n: usize, b: &[i64; BOX_SIZE]) -> u8
+pub fn sides_refusal(n: usize, start: &[i64; BOX_SIZE]) -> u8
     requires { ⌜ n ≤ slots.N ⌝ }
-    ensures { λ r. ⌜ r ≡ sidesRefusal n (now (b .entry)) ⌝ }
+    ensures { λ r. ⌜ r ≡ sidesRefusal n (now (start .entry)) ⌝ }
 {
     let mut i: usize = 0;
     while i < n {
-        let h = i + N;
-        if !in_range(b[i], b[h]) {
+        let upper = i + N;
+        if !in_range(start[i], start[upper]) {
             return SIDES;
         }
         i += 1;
@@ -92,13 +96,13 @@ pub fn reach_refusal(
     requires { ⌜ (n ≡ slots.vars (now sheet)) × (n ≤ slots.N) ⌝ }
     ensures { λ r. ⌜ r ≡ reachRefusal (now (sheet .entry)) ticks width (lawOf baseline command) (now (start .entry)) ⌝ }
 {
-    let a = ticks_refusal(ticks, width);
-    if a != 0 {
-        return a;
+    let of_ticks = ticks_refusal(ticks, width);
+    if of_ticks != 0 {
+        return of_ticks;
     }
-    let b = law_refusal(sheet, baseline, command);
-    if b != 0 {
-        return b;
+    let of_law = law_refusal(sheet, baseline, command);
+    if of_law != 0 {
+        return of_law;
     }
     sides_refusal(n, start)
 }

@@ -1,4 +1,4 @@
--- `law_refusal` is the definition's. Assumes nothing.
+-- `law_refusal` gives 14 for a command that the sheet does not allow, and 0 for any other and for the baseline. Assumes nothing.
 use mathlib.Core.Path.{refl}
 use mathlib.Core.List.{List}
 use lib.IntN.{ℤ}
@@ -14,51 +14,66 @@ use Rattle.boxes_spec.specs.Reach.{lawRefusal}
 use Rattle.boxes_refusals.proofs.law_refusal.Statement.{statement}
 use Rattle.boxes_refusals.proofs.law_refusal.Tie as tie
 
--- the commands as they were read
-module _ (c : tie.After-if22) where
-  abbrev s : tie.Start
-  s = c .before .before
+-- after the least command was read
+module _ (at-least : tie.After-if22) where
+  abbrev commanded : tie.Else1
+  commanded = at-least .before
+
+  abbrev at-start : tie.Start
+  at-start = commanded .before
 
   abbrev v : List ℤ
-  v = s .args .sheet .now
+  v = at-start .args .sheet .now
+
+  abbrev u : ℤ
+  u = at-start .args .command
 
   least-fits : SFits w32 (leastCommand v)
-  least-fits = sfits-of (c .if22 .given)
+  least-fits = sfits-of (at-least .if22 .given)
 
-module _ (c : tie.After-if32) where
-  abbrev l : tie.After-if22
-  l = c .before .before
+-- after the greatest command was read
+module _ (at-greatest : tie.After-if32) where
+  abbrev at-least : tie.After-if22
+  at-least = at-greatest .before .before
 
-  greatest-fits : SFits w32 (greatestCommand (v l))
-  greatest-fits = sfits-of (c .if32 .given)
+  greatest-fits : SFits w32 (greatestCommand (v at-least))
+  greatest-fits = sfits-of (at-greatest .if32 .given)
 
-  above : leastCommand (v l) ≤ℤ s l .args .command
-  above = let f = least-fits l in omega (ints, c .before .if2 .left)
+  above : leastCommand (v at-least) ≤ℤ u at-least
+  above = let fits = least-fits at-least in omega (ints, at-greatest .before .if2 .left)
 
+-- the baseline
 returns : tie.Need-returns
 unfolding lawRefusal lawOf
-returns c = rw (c .if1 .taken) refl
+returns at-return = rw (at-return .if1 .taken) refl
 
+-- below the least command
 returns-2 : tie.Need-returns-2
 unfolding lawRefusal lawOf
-returns-2 c =
-    let k = c .before in
-    let f = least-fits k in
-    rw (k .before .if1 .left) (rw (le-not (leastCommand (v k)) (s k .args .command) (omega (ints, c .if2 .taken))) refl)
+returns-2 at-return =
+    let least = at-return .before in
+    let fits = least-fits least in
+    rw (commanded least .if1 .left) (rw (le-not (leastCommand (v least)) (u least) (omega (ints, at-return .if2 .taken))) refl)
 
+-- above the greatest
 returns-3 : tie.Need-returns-3
 unfolding lawRefusal lawOf
-returns-3 c =
-    let k = c .before in
-    let f = greatest-fits k in
-    rw (l k .before .if1 .left) (rw (le-is (leastCommand (v (l k))) (s (l k) .args .command) (above k), le-not (s (l k) .args .command) (greatestCommand (v (l k))) (omega (ints, c .if3 .taken))) refl)
+returns-3 at-return =
+    let greatest = at-return .before in
+    let least = at-least greatest in
+    let fits = greatest-fits greatest in
+    rw (commanded least .if1 .left)
+    (rw (le-is (leastCommand (v least)) (u least) (above greatest), le-not (u least) (greatestCommand (v least)) (omega (ints, at-return .if3 .taken))) refl)
 
+-- between them
 returns-4 : tie.Need-returns-4
 unfolding lawRefusal lawOf
-returns-4 c =
-    let k = c .before in
-    let f = greatest-fits k in
-    rw (l k .before .if1 .left) (rw (le-is (leastCommand (v (l k))) (s (l k) .args .command) (above k), le-is (s (l k) .args .command) (greatestCommand (v (l k))) (omega (ints, c .if3 .left))) refl)
+returns-4 at-return =
+    let greatest = at-return .before in
+    let least = at-least greatest in
+    let fits = greatest-fits greatest in
+    rw (commanded least .if1 .left)
+    (rw (le-is (leastCommand (v least)) (u least) (above greatest), le-is (u least) (greatestCommand (v least)) (omega (ints, at-return .if3 .left))) refl)
 
 pub law-refusal-spec : {M : Type 1} → statement M
 law-refusal-spec = tie.close (tie.spec returns (λ c. search needs) returns-2 (λ c. search needs) returns-3 returns-4)

@@ -1,5 +1,6 @@
--- `reach_refusal` is the first refusal of the definition. Assumes nothing.
+-- `reach_refusal` gives the first refusal of a reach, or 0: the ticks or the width, the command, the start box. Assumes nothing.
 use mathlib.Core.Path.{_≡_, ap, _∙_}
+use mathlib.Core.List.{List}
 use Prim.Native.Nat.{ℕ}
 use lib.IntN.{ℤ}
 use mir.Facts.{toZ-ofZ}
@@ -10,25 +11,44 @@ use Rattle.boxes_spec.proofs.Refusals.{or-stop, or-go}
 use Rattle.boxes_refusals.proofs.reach_refusal.Statement.{statement}
 use Rattle.boxes_refusals.proofs.reach_refusal.Tie as tie
 
-law-is : (c : tie.After-law-refusal) → let s = c .before .before .before in c .law-refusal .result ≡ lawRefusal (s .args .sheet .now) (lawOf (s .args .baseline) (s .args .command))
-law-is c = let s = c .before .before .before in c .law-refusal .ensures ∙ ap (λ (u : ℤ). lawRefusal (s .args .sheet .now) (lawOf (s .args .baseline) u)) (toZ-ofZ (s .fits .command))
+-- after the test of the command
+module _ (at-law : tie.After-law-refusal) where
+  abbrev timed : tie.Else1
+  timed = at-law .before
 
+  abbrev at-ticks : tie.After-ticks-refusal
+  at-ticks = timed .before
+
+  abbrev at-start : tie.Start
+  at-start = at-ticks .before
+
+  abbrev v : List ℤ
+  v = at-start .args .sheet .now
+
+  law-is : at-law .law-refusal .result ≡ lawRefusal v (lawOf (at-start .args .baseline) (at-start .args .command))
+  law-is = at-law .law-refusal .ensures ∙ ap (λ (u : ℤ). lawRefusal v (lawOf (at-start .args .baseline) u)) (toZ-ofZ (at-start .fits .command))
+
+-- the ticks or the width are refused
 returns : tie.Need-returns
 unfolding reachRefusal
-returns c = or-stop _ (c .before .ticks-refusal .ensures) (c .if1 .taken)
+returns at-return = or-stop _ (at-return .before .ticks-refusal .ensures) (at-return .if1 .taken)
 
+-- the command is refused
 returns-2 : tie.Need-returns-2
 unfolding reachRefusal
-returns-2 c = let e = c .before .before in or-stop _ (law-is (c .before)) (c .if2 .taken) ∙ or-go _ (e .before .ticks-refusal .ensures) (e .if1 .left)
+returns-2 at-return =
+    let at-law = at-return .before in
+    or-stop _ (law-is at-law) (at-return .if2 .taken) ∙ or-go _ (at-ticks at-law .ticks-refusal .ensures) (timed at-law .if1 .left)
 
+-- what is found of the start box
 returns-3 : tie.Need-returns-3
 unfolding reachRefusal
-returns-3 c =
-    let l = c .before .before in
-    let e = l .before in
-    let s = e .before .before in
-    c .sides-refusal .ensures ∙ ap (λ (n : ℕ). sidesRefusal n (s .args .start .now)) (s .pre .0)
-    ∙ or-go _ (law-is l) (c .before .if2 .left) ∙ or-go _ (e .before .ticks-refusal .ensures) (e .if1 .left)
+returns-3 at-return =
+    let lawful = at-return .before in
+    let at-law = lawful .before in
+    let s = at-start at-law in
+    at-return .sides-refusal .ensures ∙ ap (λ (i : ℕ). sidesRefusal i (s .args .start .now)) (s .pre .0)
+    ∙ or-go _ (law-is at-law) (lawful .if2 .left) ∙ or-go _ (at-ticks at-law .ticks-refusal .ensures) (timed at-law .if1 .left)
 
 pub reach-refusal-spec : {M : Type 1} → statement M
 reach-refusal-spec = tie.close (tie.spec (λ c κs. tt) returns (λ c κs. tt) returns-2 (λ c κs. search needs) returns-3)
