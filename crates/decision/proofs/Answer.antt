@@ -13,27 +13,27 @@ use Rattle.decision.specs.AttemptPlan.{attemptOf}
 
 -- ---- refusals
 
--- a is the code's refusal, r the definition's
-pub unless-refused : (r : ℕ) (x : Reply) {a : ℕ} → a ≡ r → (a ≡ 0 → ⊥) → refused a ≡ unlessRefused r x
+-- `found` is the code's refusal, r the definition's
+pub unless-refused : (r : ℕ) (answer : Reply) {found : ℕ} → found ≡ r → (found ≡ 0 → ⊥) → refused found ≡ unlessRefused r answer
 unfolding unlessRefused
-unless-refused zero x p n = absurd (n p)
-unless-refused (suc r) x p n = ap refused p
+unless-refused zero answer is refuses = absurd (refuses is)
+unless-refused (suc r) answer is refuses = ap refused is
 
-pub unless-passed : (r : ℕ) (x : Reply) {a : ℕ} → a ≡ r → a ≡ 0 → x ≡ unlessRefused r x
+pub unless-passed : (r : ℕ) (answer : Reply) {found : ℕ} → found ≡ r → found ≡ 0 → answer ≡ unlessRefused r answer
 unfolding unlessRefused
-unless-passed zero x p e = refl
-unless-passed (suc r) x p e = absurd (omega arith)
+unless-passed zero answer is passed = refl
+unless-passed (suc r) answer is passed = absurd (omega arith)
 
 -- ---- plans
 
 -- the command for δ ticks, then the baseline for α
-pub plan-decides : (v : List ℤ) {B C : List ℤ} {u z : ℤ} {a b d e w : ℕ} → C ≡ B → z ≡ u → b ≡ a → d ≡ δ v → e ≡ α v → w ≡ max d e
-    → attempts (attemptOf (record { budget = record { limited = true; allowance = b }; command = z; first = d; then = e }) v C) w w 0 ≡ decisionOf v B u a
+pub plan-decides : (v : List ℤ) {start B : List ℤ} {ordered u : ℤ} {allowed a first plain width : ℕ} → start ≡ B → ordered ≡ u → allowed ≡ a → first ≡ δ v → plain ≡ α v → width ≡ max first plain
+    → attempts (attemptOf (record { budget = record { limited = true; allowance = allowed }; command = ordered; first = first; then = plain }) v start) width width 0 ≡ decisionOf v B u a
 unfolding decisionOf decisionPhases
-plan-decides v p q r s t o = rw (o, p, q, r, s, t) refl
+plan-decides v start-is order-is allowance-is first-is plain-is width-is = rw (width-is, start-is, order-is, allowance-is, first-is, plain-is) refl
 
 -- the baseline for ρ ticks: a phase of no ticks changes nothing and costs no round
-pub plan-checks : (v : List ℤ) {C : List ℤ} {e : ℕ} (u : ℤ) → C ≡ recoveryBox v → e ≡ ρ v
-    → attempts (attemptOf (record { budget = record { limited = false; allowance = 0 }; command = u; first = 0; then = e }) v C) e e 0 ≡ recoveryOf v
+pub plan-checks : (v : List ℤ) {start : List ℤ} {ticks : ℕ} (u : ℤ) → start ≡ recoveryBox v → ticks ≡ ρ v
+    → attempts (attemptOf (record { budget = record { limited = false; allowance = 0 }; command = u; first = 0; then = ticks }) v start) ticks ticks 0 ≡ recoveryOf v
 unfolding recoveryOf recoveryPhases attempt follow andThen reach steps
-plan-checks v u p q = rw (p, q) refl
+plan-checks v u start-is ticks-is = rw (start-is, ticks-is) refl

@@ -1,5 +1,6 @@
 -- The recovery box of an accepted sheet as the code has it: with 0 at places that no variable has, and in the range of start boxes. Assumes nothing.
 use mathlib.Core.Path.{_≡_, sym, _∙_}
+use mathlib.Core.Bool.{true, false}
 use mathlib.Core.Logic.{⊎-elim}
 use mathlib.Core.List.{List}
 use Prim.Native.Nat.{ℕ, zero, suc, _+_, _*_, _-_, _≤_, _<_}
@@ -7,8 +8,6 @@ use native.Mathlib.Omega.{arith}
 use lib.IntN.{ℤ, pos}
 use lib.ListN.{set, drop, length, length-take, length-drop, getD-replicate}
 use lib.Seq.{ext-getD, getD-set-other}
-use Rattle.integers.specs.Bound.{Bound}
-use Rattle.integers.proofs.Z.{ints, bound-in}
 use Rattle.sheet_spec.specs.Slots.{_!_, N, boxSize, vars, recoverySlot, recoveryBox}
 use Rattle.sheet_spec.specs.Sheet.{refusal, values}
 use Rattle.sheet_spec.specs.Valid.{Valid}
@@ -16,55 +15,61 @@ use Rattle.sheet_spec.proofs.Streams.{lt-or-le}
 use Rattle.sheet_spec.proofs.Valid.{valid, recovery-beyond}
 use Rattle.machine_spec.specs.Box.{lo, hi, boxOf, trim}
 use Rattle.boxes_arithmetic.specs.Limits.{SidesWithin}
-use Rattle.machine_spec.proofs.Box.{sides-length, sides-lo, sides-hi, box-lo, box-hi}
+use Rattle.machine_spec.proofs.Box.{sides-length, sides-lo, sides-hi, box-at}
 use Rattle.boxes_rates.proofs.Bounds.{sides-bound}
+use Rattle.boxes_spec.proofs.Ranges.{recovery-sized}
 use Rattle.decision.specs.Limits.{startLimit}
 
--- ---- nothing beyond the variables
+-- ---- nothing beyond the variables. Variable i has the slots i + q·N of a box: its lower side with q = 0, its upper side with q = 1
 
-sides-none : (n : ℕ) (f g : ℕ → ℤ) (j : ℕ) → j < boxSize → ((i : ℕ) → i < n → (j ≡ i → ⊥) × (j ≡ i + N → ⊥)) → boxOf n f g ! j ≡ pos 0
+sides-none : (n : ℕ) (lower upper : ℕ → ℤ) (slot : ℕ) → slot < boxSize → ((i : ℕ) → i < n → (slot ≡ i → ⊥) × (slot ≡ i + N → ⊥)) → boxOf n lower upper ! slot ≡ pos 0
 unfolding boxOf
-sides-none zero f g j b h = getD-replicate boxSize j (pos 0) (pos 0) b
-sides-none (suc n) f g j b h =
-    let k = h n (omega arith) in
-    getD-set-other (set (boxOf n f g) n (f n)) (n + N) j (g n) (pos 0) (k .1) ∙ getD-set-other (boxOf n f g) n j (f n) (pos 0) (k .0)
-    ∙ sides-none n f g j b (λ i l. h i (omega arith))
+sides-none zero lower upper slot in-box none = getD-replicate boxSize slot (pos 0) (pos 0) in-box
+sides-none (suc n) lower upper slot in-box none =
+    let not-n = none n (omega arith) in
+    getD-set-other (set (boxOf n lower upper) n (lower n)) (n + N) slot (upper n) (pos 0) (not-n .1) ∙ getD-set-other (boxOf n lower upper) n slot (lower n) (pos 0) (not-n .0)
+    ∙ sides-none n lower upper slot in-box (λ i i<n. none i (omega arith))
 
-trim-same : (n : ℕ) (B : List ℤ) → n ≤ N → length B ≡ boxSize → ((i : ℕ) → n ≤ i → i < N → (lo B i ≡ pos 0) × (hi B i ≡ pos 0)) → trim n B ≡ B
-unfolding trim
-trim-same n B k e h = ext-getD (pos 0) (boxOf n (lo B) (hi B)) B (sides-length n _ _ ∙ sym e) at
-  where
-    lower : (i : ℕ) → i < N → lo (boxOf n (lo B) (hi B)) i ≡ lo B i
-    lower i l =
-        ⊎-elim (λ (p : i < n). sides-lo (lo B) (hi B) n i k p) (λ (p : n ≤ i). sides-none n _ _ i (omega arith) (λ j m. (λ q. omega arith, λ q. omega arith)) ∙ sym (h i p l .0)) (lt-or-le i n)
+module _ (n : ℕ) (B : List ℤ) (room : n ≤ N) (beyond : (i q slot : ℕ) → n ≤ i → i < N → q < 2 → slot ≡ i + q * N → B ! slot ≡ pos 0) where
+  abbrev trimmed : List ℤ
+  trimmed = boxOf n (lo B) (hi B)
 
-    upper : (i : ℕ) → i < N → hi (boxOf n (lo B) (hi B)) i ≡ hi B i
-    upper i l =
-        ⊎-elim (λ (p : i < n). sides-hi (lo B) (hi B) n i k p) (λ (p : n ≤ i). sides-none n _ _ (i + N) (omega arith) (λ j m. (λ q. omega arith, λ q. omega arith)) ∙ sym (h i p l .1)) (lt-or-le i n)
+  same : (i q slot : ℕ) → i < N → q < 2 → slot ≡ i + q * N → (i < n → trimmed ! slot ≡ B ! slot) → trimmed ! slot ≡ B ! slot
+  same i q slot i<N q<2 is inside =
+      ⊎-elim inside (λ (n≤i : n ≤ i). sides-none n _ _ slot (omega arith) (λ j j<n. (λ e. omega arith, λ e. omega arith)) ∙ sym (beyond i q slot n≤i i<N q<2 is)) (lt-or-le i n)
 
-    at : (j : ℕ) → j < length (boxOf n (lo B) (hi B)) → boxOf n (lo B) (hi B) ! j ≡ B ! j
-    at j l =
-        ⊎-elim (λ (p : j < N). lower j p)
-        (λ (p : N ≤ j). let q : j - N + N ≡ j = omega arith in rw q at (upper (j - N) (omega (arith, sides-length n (lo B) (hi B))))) (lt-or-le j N)
+  same-at : (slot : ℕ) → slot < length trimmed → trimmed ! slot ≡ B ! slot
+  same-at slot below =
+      ⊎-elim (λ (low : slot < N). same slot 0 slot low (omega arith) (omega arith) (sides-lo (lo B) (hi B) n slot room))
+      (λ (high : N ≤ slot).
+      let back : slot - N + N ≡ slot = omega arith in
+      rw back at (same (slot - N) 1 (slot - N + N) (omega (arith, sides-length n (lo B) (hi B))) (omega arith) (omega arith) (sides-hi (lo B) (hi B) n (slot - N) room)))
+      (lt-or-le slot N)
 
-pub recovery-trimmed : (f : List ℕ) → refusal f ≡ 0 → trim (vars (values f)) (recoveryBox (values f)) ≡ recoveryBox (values f)
-recovery-trimmed f e =
-    let wf = valid f e in
-    let v = values f in
-    trim-same (vars v) (recoveryBox v) (omega (arith, wf .vars-high)) (omega (arith, length-take boxSize (drop recoverySlot v), length-drop recoverySlot v, wf .size))
-    (λ i h l. (box-lo v recoverySlot i l ∙ zero-at i 0 _ h l (omega arith) (omega arith), box-hi v recoverySlot i l ∙ zero-at i 1 _ h l (omega arith) (omega arith)))
-  where
-    zero-at : (i q slot : ℕ) → vars (values f) ≤ i → i < N → q < 2 → slot ≡ recoverySlot + i + q * N → values f ! slot ≡ pos 0
-    zero-at i q slot h l k z = rw z (recovery-beyond f e i q h l k)
+  trim-same : length B ≡ boxSize → trim n B ≡ B
+  unfolding trim
+  trim-same size = ext-getD (pos 0) trimmed B (sides-length n _ _ ∙ sym size) same-at
+
+module _ (f : List ℕ) (passed : refusal f ≡ 0) where
+  abbrev v : List ℤ
+  v = values f
+
+  sheet : Valid v
+  sheet = valid f passed
+
+  beyond : (i q slot : ℕ) → vars v ≤ i → i < N → q < 2 → slot ≡ i + q * N → recoveryBox v ! slot ≡ pos 0
+  beyond i q slot vars≤i i<N q<2 is =
+      let place : recoverySlot + slot ≡ recoverySlot + i + q * N = omega arith in
+      box-at v recoverySlot slot (omega arith) ∙ rw place (recovery-beyond f passed i q vars≤i i<N q<2)
+
+  pub recovery-trimmed : trim (vars v) (recoveryBox v) ≡ recoveryBox v
+  recovery-trimmed =
+      trim-same (vars v) (recoveryBox v) (omega (arith, sheet .vars-high)) beyond (omega (arith, length-take boxSize (drop recoverySlot v), length-drop recoverySlot v, sheet .size))
 
 -- ---- a start box
 
 pub recovery-near : {v : List ℤ} → Valid v → SidesWithin startLimit (trim (vars v) (recoveryBox v))
 unfolding trim
-recovery-near {v} wf = sides-bound startLimit (vars v) (lo (recoveryBox v)) (hi (recoveryBox v)) (λ i h. low i h) (λ i h. high i h)
-  where
-    low : (i : ℕ) → i < vars v → Bound (lo (recoveryBox v) i) startLimit
-    low i h = let b = wf .recovery in rw (box-lo v recoverySlot i (omega (arith, wf .vars-high))) (bound-in (b .lower i h) (omega (ints, b .ordered i h, b .upper i h)))
-
-    high : (i : ℕ) → i < vars v → Bound (hi (recoveryBox v) i) startLimit
-    high i h = let b = wf .recovery in rw (box-hi v recoverySlot i (omega (arith, wf .vars-high))) (bound-in (omega (ints, b .ordered i h, b .lower i h)) (b .upper i h))
+recovery-near {v} sheet =
+    let sized = recovery-sized sheet in
+    sides-bound startLimit (vars v) (lo (recoveryBox v)) (hi (recoveryBox v)) (sized .near .at false) (sized .near .at true)

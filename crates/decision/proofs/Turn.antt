@@ -21,7 +21,7 @@ use Rattle.boxes.specs.declared.steps.ReachResult.{ReachResult}
 use Rattle.boxes.specs.declared.steps.ReachResult.the-variants.{Ended, Unsettled, Unsafe}
 use Rattle.boxes.specs.declared.steps.ReachResult.the-variants as result
 use Rattle.boxes_spec.specs.Step.{Result, ok, failed, exhausted, unrecovered, andThen}
-use Rattle.boxes_spec.specs.Reach.{Reached, reach, clear}
+use Rattle.boxes_spec.specs.Reach.{Reached, reach, clear, maxTicks, maxWidth}
 use Rattle.boxes.specs.ReachResult.{resultOf, reachedOf}
 use Rattle.boxes_spec.proofs.Stages.{value, failure, spent}
 use Rattle.boxes.proofs.Bounds.{reach-near}
@@ -41,102 +41,105 @@ use Rattle.decision_spec.proofs.Allowance.{ticksOf, Spends, attempt-takes}
 
 -- the reach of a phase from S at width w, after c rounds
 abbrev pub reached : Bool → ℕ → List ℤ → ℕ → Phase → List ℤ → ℕ → Result Reached
-reached l a v w p S c = reach l a (machine v (p .law)) (clear (vars v) v (boxes v)) w S (p .ticks) c
+reached limited allowance v w p S c = reach limited allowance (machine v (p .law)) (clear (vars v) v (boxes v)) w S (p .ticks) c
 
 -- the plant that the code reaches with is the sheet's machine under a law
-module _ {v : List ℤ} (p : Plant) (k : Law) (e : machineOf p v ≡ machine v k) where
-  pub plant-usable : Valid v → Usable (machineOf p v)
-  plant-usable wf = subst Usable (sym e) (usable k wf)
+module _ {v : List ℤ} (plant : Plant) (law : Law) (under : machineOf plant v ≡ machine v law) where
+  pub plant-usable : Valid v → Usable (machineOf plant v)
+  plant-usable sheet = subst Usable (sym under) (usable law sheet)
 
-  pub plant-vars : p .n ≡ vars v
-  plant-vars = ap (λ (m : Machine). m .n) e
+  pub plant-vars : plant .n ≡ vars v
+  plant-vars = ap (λ (m : Machine). m .n) under
 
-  -- a box is trimmed to the plant's variables if it is to the sheet's
-  pub plant-trimmed : {S : List ℤ} → trim (vars v) S ≡ S → trim (p .n) S ≡ S
-  plant-trimmed {S} h = subst (λ (n : ℕ). trim n S ≡ S) (sym plant-vars) h
+  -- a box is trimmed to the plant's variables exactly if it is to the sheet's
+  pub plant-trimmed : {S : List ℤ} → trim (vars v) S ≡ S → trim (plant .n) S ≡ S
+  plant-trimmed {S} trimmed = subst (λ (n : ℕ). trim n S ≡ S) (sym plant-vars) trimmed
 
-  pub vars-trimmed : {S : List ℤ} → trim (p .n) S ≡ S → trim (vars v) S ≡ S
-  vars-trimmed {S} h = subst (λ (n : ℕ). trim n S ≡ S) plant-vars h
+  pub vars-trimmed : {S : List ℤ} → trim (plant .n) S ≡ S → trim (vars v) S ≡ S
+  vars-trimmed {S} trimmed = subst (λ (n : ℕ). trim n S ≡ S) plant-vars trimmed
 
-  pub plant-reach : (l : Bool) (a b w : ℕ) (S : List ℤ) (T c : ℕ) → b ≡ boxes v
-      → reach l a (machineOf p v) (clear (p .n) v b) w S T c ≡ reached l a v w (phase k T) S c
-  plant-reach l a b w S T c q = ap (λ (m : Machine). reach l a m (clear (m .n) v b) w S T c) e ∙ ap (λ (i : ℕ). reach l a (machine v k) (clear (vars v) v i) w S T c) q
+  pub plant-reach : (limited : Bool) (allowance count w : ℕ) (S : List ℤ) (ticks c : ℕ) → count ≡ boxes v
+      → reach limited allowance (machineOf plant v) (clear (plant .n) v count) w S ticks c ≡ reached limited allowance v w (phase law ticks) S c
+  plant-reach limited allowance count w S ticks c all-boxes =
+      ap (λ (m : Machine). reach limited allowance m (clear (m .n) v count) w S ticks c) under
+      ∙ ap (λ (j : ℕ). reach limited allowance (machine v law) (clear (vars v) v j) w S ticks c) all-boxes
 
--- a box lies in another where it lies in what counts of it
+-- a box lies in another exactly if it lies in what counts of it
 pub within-trim : (n : ℕ) (A B : List ℤ) → n ≤ N → within n A (trim n B) ≡ within n A B
 unfolding within all
-within-trim n A B k = same n (λ i h. rw (trim-lo n i k h B, trim-hi n i k h B) refl)
+within-trim n A B room = same n (λ i i<n. rw (trim-lo n i room i<n B, trim-hi n i room i<n B) refl)
   where
-    same : (m : ℕ) {f g : ℕ → Bool} → ((i : ℕ) → i < m → f i ≡ g i) → all m f ≡ all m g
-    same zero h = refl
-    same (suc m) h = rw (same m (λ i l. h i (omega arith)), h m (omega arith)) refl
+    same : (m : ℕ) {test other : ℕ → Bool} → ((i : ℕ) → i < m → test i ≡ other i) → all m test ≡ all m other
+    same zero each = refl
+    same (suc m) each = rw (same m (λ i i<m. each i (omega arith)), each m (omega arith)) refl
 
 -- ---- an attempt
 
-module _ (l : Bool) (a : ℕ) (v : List ℤ) (w : ℕ) where
+module _ (limited : Bool) (allowance : ℕ) (v : List ℤ) (w : ℕ) where
   abbrev recovers : List ℤ → ℕ → Result (List ℤ)
   recovers E c = elim (within (vars v) E (recoveryBox v)) [ true ↦ ok E c | false ↦ failed unrecovered c ]
 
-  -- a phase of p from S after c rounds came to r, with the end box E and the swept box W
+  -- the phase p from S after c rounds came to r, with the end box E and the swept box W
   module _ (p : Phase) (ps : List Phase) (S : List ℤ) (c : ℕ) (r : ReachResult) (E W : List ℤ)
-      (e : reachedOf E W r ≡ reached l a v w p S c) where
+      (reaches : reachedOf E W r ≡ reached limited allowance v w p S c) where
     abbrev rest : Result Reached → Result (List ℤ)
-    rest g = andThen (andThen g (λ x d. follow l a v w ps (x .end) d)) recovers
+    rest result = andThen (andThen result (λ x d. follow limited allowance v w ps (x .end) d)) recovers
 
-    phase-turn : rest (reachedOf E W r) ≡ attempt l a v w (p ∷ ps) S c
+    phase-turn : rest (reachedOf E W r) ≡ attempt limited allowance v w (p ∷ ps) S c
     unfolding attempt follow
-    phase-turn = ap rest e
+    phase-turn = ap rest reaches
 
     -- it ended: the next phase's start box and count
-    pub phase-near : (t d : ℕ) → r ≡ Ended t d → {b : ℕ} → Valid v → 0 < w → w ≤ 1000 → SidesWithin b S → SidesWithin (b + p .ticks * 1000) E × (d ≤ c + 73 * p .ticks)
+    pub phase-near : (t d : ℕ) → r ≡ Ended t d → {b : ℕ} → Valid v → 0 < w → w ≤ maxWidth → SidesWithin b S → SidesWithin (b + p .ticks * 1000) E × (d ≤ c + 73 * p .ticks)
     unfolding resultOf
-    phase-near t d q wf z f h = reach-near l a _ w S (p .ticks) c (usable (p .law) wf) z f h (sym e ∙ ap (reachedOf E W) q)
+    phase-near t d ended sheet some most near = reach-near limited allowance _ w S (p .ticks) c (usable (p .law) sheet) some most near (sym reaches ∙ ap (reachedOf E W) ended)
 
-    pub phase-on : (t d : ℕ) → r ≡ Ended t d → attempt l a v w (p ∷ ps) S c ≡ attempt l a v w ps E d
+    pub phase-on : (t d : ℕ) → r ≡ Ended t d → attempt limited allowance v w (p ∷ ps) S c ≡ attempt limited allowance v w ps E d
     unfolding attempt andThen resultOf
-    phase-on t d q = sym phase-turn ∙ ap (λ (o : ReachResult). rest (reachedOf E W o)) q
+    phase-on t d ended = sym phase-turn ∙ ap (λ (o : ReachResult). rest (reachedOf E W o)) ended
 
-    pub phase-stops : ((t d : ℕ) → r ≡ Ended t d → ⊥) → summary (reachedOf E W r) ≡ summary (attempt l a v w (p ∷ ps) S c)
+    -- it did not end
+    pub phase-stops : ((t d : ℕ) → r ≡ Ended t d → ⊥) → summary (reachedOf E W r) ≡ summary (attempt limited allowance v w (p ∷ ps) S c)
     unfolding andThen resultOf summary
-    phase-stops n = stops r n ∙ ap (summary {A = List ℤ}) phase-turn
+    phase-stops not-ended = stops r not-ended ∙ ap (summary {A = List ℤ}) phase-turn
       where
         stops : (o : ReachResult) → ((t d : ℕ) → o ≡ Ended t d → ⊥) → summary (reachedOf E W o) ≡ summary (rest (reachedOf E W o))
-        stops (Ended t d) n = absurd (n t d refl)
-        stops (Unsettled d) n = refl
-        stops (Unsafe t d) n = refl
-        stops (result.Exhausted d) n = refl
+        stops (Ended t d) not-ended = absurd (not-ended t d refl)
+        stops (Unsettled d) not-ended = refl
+        stops (Unsafe t d) not-ended = refl
+        stops (result.Exhausted d) not-ended = refl
 
   -- no phase is left
-  pub attempt-succeeds : (E : List ℤ) (c : ℕ) → within (vars v) E (recoveryBox v) ≡ true → Succeeded c ≡ summary (attempt l a v w [] E c)
+  pub attempt-succeeds : (E : List ℤ) (c : ℕ) → within (vars v) E (recoveryBox v) ≡ true → Succeeded c ≡ summary (attempt limited allowance v w [] E c)
   unfolding attempt follow andThen summary
-  attempt-succeeds E c e = ap (summary {A = List ℤ}) (sym (pick-yes (within (vars v) E (recoveryBox v)) (ok E c) (failed unrecovered c) e))
+  attempt-succeeds E c inside = ap (summary {A = List ℤ}) (sym (pick-yes (within (vars v) E (recoveryBox v)) (ok E c) (failed unrecovered c) inside))
 
-  pub attempt-fails : (E : List ℤ) (c : ℕ) → within (vars v) E (recoveryBox v) ≡ false → Failed c ≡ summary (attempt l a v w [] E c)
+  pub attempt-fails : (E : List ℤ) (c : ℕ) → within (vars v) E (recoveryBox v) ≡ false → Failed c ≡ summary (attempt limited allowance v w [] E c)
   unfolding attempt follow andThen summary
-  attempt-fails E c e = ap (summary {A = List ℤ}) (sym (pick-no (within (vars v) E (recoveryBox v)) (ok E c) (failed unrecovered c) e))
+  attempt-fails E c outside = ap (summary {A = List ℤ}) (sym (pick-no (within (vars v) E (recoveryBox v)) (ok E c) (failed unrecovered c) outside))
 
 -- ---- attempts at ever smaller widths
 
 -- the count after an attempt that failed
-pub failed-count : (t : AttemptPlan) {v : List ℤ} (S : List ℤ) (w c : ℕ) → Valid v → 0 < w → w ≤ 1000 → t .first + t .then ≤ 1000
-    → {i : ℕ} → summary (attemptOf t v S w c) ≡ Failed i → i ≤ c + 73000
+pub failed-count : (plan : AttemptPlan) {v : List ℤ} (S : List ℤ) (w c : ℕ) → Valid v → 0 < w → w ≤ maxWidth → plan .first + plan .then ≤ maxTicks
+    → {d : ℕ} → summary (attemptOf plan v S w c) ≡ Failed d → d ≤ c + 73000
 unfolding ticksOf summary
-failed-count t {v} S w c wf z f h = few (attempt-takes _ _ wf w 9 z (omega arith) _ S c)
+failed-count plan {v} S w c sheet some most ticks = few (attempt-takes _ _ sheet w 9 some (omega arith) _ S c)
   where
-    few : {g : Result (List ℤ)} → Spends (t .budget .limited) (t .budget .allowance) c (73 * (t .first + (t .then + 0))) g → {i : ℕ} → summary g ≡ Failed i → i ≤ c + 73000
-    few (value p n) e = let x : _≡_ {A = ℕ} 0 1 = cc in absurd (omega arith)
-    few (failure {c′ = d} q n) {i} e = let x : d ≡ i = cc in omega (arith, n .few)
-    few (spent a b n) e = let x : _≡_ {A = ℕ} 0 1 = cc in absurd (omega arith)
+    few : {result : Result (List ℤ)} → Spends (plan .budget .limited) (plan .budget .allowance) c (73 * (plan .first + (plan .then + 0))) result → {d : ℕ} → summary result ≡ Failed d → d ≤ c + 73000
+    few (value p taken) fails = let no : _≡_ {A = ℕ} 0 1 = cc in absurd (omega arith)
+    few (failure {c′ = counted} q taken) {d} fails = let same : counted ≡ d = cc in omega (arith, taken .few)
+    few (spent a b taken) fails = let no : _≡_ {A = ℕ} 0 1 = cc in absurd (omega arith)
 
--- the loop has come to the width k after d rounds
-pub record Attempting (at : ℕ → ℕ → Result (List ℤ)) (w k d : ℕ) : Type 0 where
+-- the loop has come from the width w to the width k, after c rounds
+pub record Attempting (at : ℕ → ℕ → Result (List ℤ)) (w k c : ℕ) : Type 0 where
   pub some : 0 < k
   pub fuel : ℕ
   pub enough : k ≤ fuel
-  pub same : attempts at w w 0 ≡ attempts at fuel k d
+  pub same : attempts at w w 0 ≡ attempts at fuel k c
 
 pub attempting-starts : (at : ℕ → ℕ → Result (List ℤ)) (w : ℕ) → 0 < w → Attempting at w w 0
-attempting-starts at w z = record { some = z; fuel = w; enough = le-refl w; same = refl }
+attempting-starts at w some = record { some = some; fuel = w; enough = le-refl w; same = refl }
 
 -- what an attempt comes to at the width w, by its summary
 unfoldable outcomeOf : AttemptResult → ℕ → (ℕ → Reply) → Reply
@@ -144,37 +147,43 @@ outcomeOf (Succeeded c) w next = answered keep w c
 outcomeOf (Failed c) w next = elim (leb w 1) [ true ↦ answered finest w c | false ↦ next c ]
 outcomeOf (Exhausted c) w next = answered decision.spent w c
 
-outcome-is : (g : Result (List ℤ)) (w : ℕ) (next : ℕ → Reply) → outcome g w next ≡ outcomeOf (summary g) w next
+outcome-is : (result : Result (List ℤ)) (w : ℕ) (next : ℕ → Reply) → outcome result w next ≡ outcomeOf (summary result) w next
 unfolding outcome summary outcomeOf
 outcome-is (ok E c) w next = refl
 outcome-is (failed why c) w next = refl
 outcome-is (exhausted c) w next = refl
 
--- the attempt came to r
-module _ {at : ℕ → ℕ → Result (List ℤ)} {w k d : ℕ} (h : Attempting at w k d) (r : AttemptResult) (e : r ≡ summary (at k d)) where
+-- the attempt at the width k came to r
+module _ {at : ℕ → ℕ → Result (List ℤ)} {w k c : ℕ} (attempting : Attempting at w k c) (r : AttemptResult) (attempted : r ≡ summary (at k c)) where
   abbrev next : ℕ → Reply
-  next c = attempts at (h .fuel - 1) (k / 2) c
+  next d = attempts at (attempting .fuel - 1) (k / 2) d
 
   attempting-turn : (o : AttemptResult) → r ≡ o → attempts at w w 0 ≡ outcomeOf o k next
   unfolding attempts
-  attempting-turn o q =
-      let more : h .fuel ≡ suc (h .fuel - 1) = omega (arith, h .some, h .enough) in
-      h .same ∙ ap (λ (j : ℕ). attempts at j k d) more
-      ∙ outcome-is (at k d) k next ∙ ap (λ (o : AttemptResult). outcomeOf o k next) (sym e ∙ q)
+  attempting-turn o is =
+      let more : attempting .fuel ≡ suc (attempting .fuel - 1) = omega (arith, attempting .some, attempting .enough) in
+      attempting .same ∙ ap (λ (fuel : ℕ). attempts at fuel k c) more
+      ∙ outcome-is (at k c) k next ∙ ap (λ (o : AttemptResult). outcomeOf o k next) (sym attempted ∙ is)
 
-  pub attempting-keeps : (c : ℕ) → r ≡ Succeeded c → replyOf (Keep k c) ≡ attempts at w w 0
+  pub attempting-keeps : (d : ℕ) → r ≡ Succeeded d → replyOf (Keep k d) ≡ attempts at w w 0
   unfolding replyOf outcomeOf
-  attempting-keeps c q = sym (attempting-turn (Succeeded c) q)
+  attempting-keeps d succeeds = sym (attempting-turn (Succeeded d) succeeds)
 
-  pub attempting-spent : (c : ℕ) → r ≡ Exhausted c → replyOf (Spent k c) ≡ attempts at w w 0
+  pub attempting-spent : (d : ℕ) → r ≡ Exhausted d → replyOf (Spent k d) ≡ attempts at w w 0
   unfolding replyOf outcomeOf
-  attempting-spent c q = sym (attempting-turn (Exhausted c) q)
+  attempting-spent d exhausts = sym (attempting-turn (Exhausted d) exhausts)
 
-  module _ (c : ℕ) (q : r ≡ Failed c) where
-    pub attempting-finest : k ≤ 1 → replyOf (Finest k c) ≡ attempts at w w 0
+  module _ (d : ℕ) (fails : r ≡ Failed d) where
+    pub attempting-finest : k ≤ 1 → replyOf (Finest k d) ≡ attempts at w w 0
     unfolding replyOf outcomeOf
-    attempting-finest z = sym (attempting-turn (Failed c) q ∙ pick-yes (leb k 1) _ _ (le-leb k 1 z))
+    attempting-finest least = sym (attempting-turn (Failed d) fails ∙ pick-yes (leb k 1) _ _ (le-leb k 1 least))
 
-    pub attempting-on : 1 < k → Attempting at w (k / 2) c
+    pub attempting-on : 1 < k → Attempting at w (k / 2) d
     unfolding outcomeOf
-    attempting-on z = record { some = omega arith; fuel = h .fuel - 1; enough = omega (arith, h .enough); same = attempting-turn (Failed c) q ∙ pick-no (leb k 1) _ _ (lt-leb k 1 z) }
+    attempting-on wider =
+        record {
+          some = omega arith;
+          fuel = attempting .fuel - 1;
+          enough = omega (arith, attempting .enough);
+          same = attempting-turn (Failed d) fails ∙ pick-no (leb k 1) _ _ (lt-leb k 1 wider);
+        }

@@ -9,5 +9,5 @@ use Rattle.decision_spec.specs.Decision.{phase, attempt}
 
 -- the attempt that a plan asks for, on the sheet v from the box S
 abbrev pub attemptOf : AttemptPlan → List ℤ → List ℤ → ℕ → ℕ → Result (List ℤ)
-attemptOf t v S w c =
-    attempt (t .budget .limited) (t .budget .allowance) v w (phase (command (t .command)) (t .first) ∷ phase baseline (t .then) ∷ []) S c
+attemptOf plan v S w c =
+    attempt (plan .budget .limited) (plan .budget .allowance) v w (phase (command (plan .command)) (plan .first) ∷ phase baseline (plan .then) ∷ []) S c

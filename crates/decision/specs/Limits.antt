@@ -7,23 +7,24 @@ use Rattle.sheet_spec.specs.Slots.{vars}
 use Rattle.sheet_spec.specs.Valid.{Valid}
 use Rattle.machine_spec.specs.Box.{trim}
 use Rattle.boxes_arithmetic.specs.Limits.{SidesWithin}
+use Rattle.boxes_spec.specs.Reach.{maxSide, maxTicks, maxWidth}
 use Rattle.boxes_step.specs.Limits.{countLimit}
 use Rattle.decision.specs.declared.attempt.AttemptPlan.{AttemptPlan}
 
 -- how far the sides of an attempt's start box go
 abbrev pub startLimit : ℕ
-startLimit = 1000000
+startLimit = maxSide
 
 -- attempts of the plan on the sheet v from the box S, at the width w and below
-pub record AttemptsAsked (p : AttemptPlan) (v S : List ℤ) (w : ℕ) : Type 0 where
+pub record AttemptsAsked (plan : AttemptPlan) (v S : List ℤ) (w : ℕ) : Type 0 where
   pub sheet : Valid v
   pub start : SidesWithin startLimit S
   pub trimmed : trim (vars v) S ≡ S
-  pub ticks : p .first + p .then ≤ 1000
+  pub ticks : plan .first + plan .then ≤ maxTicks
   pub some : 0 < w
-  pub most : w ≤ 1000
+  pub most : w ≤ maxWidth
 
 -- one attempt at the width w, after c rounds
-pub record AttemptAsked (p : AttemptPlan) (v S : List ℤ) (w c : ℕ) : Type 0 where
-  pub attempts : AttemptsAsked p v S w
-  pub counts : c + 73 * (p .first + p .then) + 8 * w ≤ countLimit
+pub record AttemptAsked (plan : AttemptPlan) (v S : List ℤ) (w c : ℕ) : Type 0 where
+  pub attempts : AttemptsAsked plan v S w
+  pub counts : c + 73 * (plan .first + plan .then) + 8 * w ≤ countLimit

@@ -40,14 +40,14 @@ pub enum AttemptResult {
 }
 
 // A reach as an attempt's outcome.
-fn summary_of(r: ReachResult) -> AttemptResult
-    ensures { λ a. ⌜ ((E W : List ℤ) → a ≡ summary (reachedOf E W r)) ⌝ }
+fn summary_of(reached: ReachResult) -> AttemptResult
+    ensures { λ r. ⌜ ((E W : List ℤ) → r ≡ summary (reachedOf E W reached)) ⌝ }
 {
-    match r {
-        ReachResult::Ended { ticks: _, count: c } => AttemptResult::Succeeded { count: c },
-        ReachResult::Unsettled { count: c } => AttemptResult::Failed { count: c },
-        ReachResult::Unsafe { left: _, count: c } => AttemptResult::Failed { count: c },
-        ReachResult::Exhausted { count: c } => AttemptResult::Exhausted { count: c },
+    match reached {
+        ReachResult::Ended { ticks: _, count } => AttemptResult::Succeeded { count: count },
+        ReachResult::Unsettled { count } => AttemptResult::Failed { count: count },
+        ReachResult::Unsafe { left: _, count } => AttemptResult::Failed { count: count },
+        ReachResult::Exhausted { count } => AttemptResult::Exhausted { count: count },
     }
 }
 

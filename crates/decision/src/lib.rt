@@ -1,6 +1,6 @@
 // The decision and the recovery check (document 01, "The decision") on any bytes. What they answer is equal to the definitions
 // in decision_spec/specs/Decision.antt; safety/specs/Run.antt says what these are for, that every run of the machine is safe. The
-// attempts at ever smaller widths are in `attempts`, a question's bytes in `decision_question`.
+// attempts at ever smaller widths are in `attempt`, a question's bytes in `decision_question`.
 ghost use mathlib.Core.Path.{_≡_};
 ghost use Prim.Native.Nat.{_≤_, max};
 ghost use Rattle.sheet_spec.specs.Slots.{recoveryBox, vars};
@@ -29,32 +29,32 @@ use sheet_spec::slots::RHO;
 use sheet_spec::slots::SLOTS;
 use sheet_spec::slots::VARS;
 
-fn larger(a: usize, b: usize) -> usize
-    ensures { λ r. ⌜ r ≡ max a b ⌝ }
+fn larger(one: usize, other: usize) -> usize
+    ensures { λ r. ⌜ r ≡ max one other ⌝ }
 {
-    if a < b { b } else { a }
+    if one < other { other } else { one }
 }
 
 // The decision on an accepted sheet's value and a question's bytes.
-fn decide_on(sheet: &[i32; SLOTS], g: &[u8]) -> Decision
+fn decide_on(sheet: &[i32; SLOTS], question: &[u8]) -> Decision
     requires { ⌜ Valid (now sheet) ⌝ }
-    ensures { λ r. ⌜ replyOf r ≡ decisionOn (now (sheet .entry)) (now (g .entry)) ⌝ }
+    ensures { λ r. ⌜ replyOf r ≡ decisionOn (now (sheet .entry)) (now (question .entry)) ⌝ }
 {
     let n = count(sheet, VARS);
-    let refusal = decision_question::refusal(n, sheet, g);
+    let refusal = decision_question::refusal(n, sheet, question);
     if refusal != 0 {
         return Decision::Refused { number: refusal };
     }
-    let start = decision_question::measured(n, g);
+    let start = decision_question::measured(n, question);
     let first = count(sheet, DELTA);
     let then = count(sheet, ALPHA);
     let budget = Budget {
         limited: true,
-        allowance: decision_question::allowance(g),
+        allowance: decision_question::allowance(question),
     };
     let plan = AttemptPlan {
         budget: budget,
-        command: decision_question::command(g),
+        command: decision_question::command(question),
         first: first,
         then: then,
     };
@@ -66,12 +66,12 @@ pub fn decide(sheet: &[u8], question: &[u8]) -> Decision
     ensures { λ r. ⌜ replyOf r ≡ decide (now (sheet .entry)) (now (question .entry)) ⌝ }
     ensures allowed { λ r. ⌜ roundsOf (replyOf r) ≤ allowanceOf (now (question .entry)) ⌝ }
 {
-    let mut v = [0i32; SLOTS];
-    let refusal = read_zeroed(sheet, &mut v);
+    let mut value = [0i32; SLOTS];
+    let refusal = read_zeroed(sheet, &mut value);
     if refusal != 0 {
         return Decision::Refused { number: refusal };
     }
-    decide_on(&v, question)
+    decide_on(&value, question)
 }
 
 // The recovery check of an accepted sheet's value.
@@ -98,10 +98,10 @@ fn check_on(sheet: &[i32; SLOTS]) -> Recovery
 pub fn check_recovery(sheet: &[u8]) -> Recovery
     ensures { λ r. ⌜ checkReplyOf r ≡ checkRecovery (now (sheet .entry)) ⌝ }
 {
-    let mut v = [0i32; SLOTS];
-    let refusal = read_zeroed(sheet, &mut v);
+    let mut value = [0i32; SLOTS];
+    let refusal = read_zeroed(sheet, &mut value);
     if refusal != 0 {
         return Recovery::Refused { number: refusal };
     }
-    check_on(&v)
+    check_on(&value)
 }

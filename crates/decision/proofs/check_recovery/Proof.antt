@@ -1,4 +1,4 @@
--- `check_recovery` is the recovery check of the definitions. Assumes nothing.
+-- `check_recovery` gives the recovery check of the definitions. Assumes nothing.
 use mathlib.Core.Path.{_≡_, sym, ap, _∙_, subst}
 use mathlib.Core.List.{List}
 use lib.IntN.{ℤ}
@@ -14,21 +14,27 @@ use Rattle.decision.proofs.RecoveryBox.{recovery-trimmed}
 use Rattle.decision.proofs.check_recovery.Statement.{statement}
 use Rattle.decision.proofs.check_recovery.Tie as tie
 
+-- the sheet is refused
 returns : tie.Need-returns
 unfolding checkReplyOf checkRecovery
-returns c = unless-refused _ _ (c .before .read-zeroed .ensures .0) (c .if1 .taken)
+returns at-return =
+    let at-read = at-return .before in
+    unless-refused _ _ (at-read .read-zeroed .ensures .0) (at-return .if1 .taken)
 
 check-on-requires : tie.Need-check-on-requires
 check-on-requires c κs =
-    let r = c .before .before .read-zeroed .ensures in
-    let e = sym (r .0) ∙ c .before .if1 .left in
-    subst (λ (v : List ℤ). Valid v × (trim (vars v) (recoveryBox v) ≡ recoveryBox v)) (sym (r .1)) (valid _ e, recovery-trimmed _ e)
+    let accepted = c .before in
+    let read = accepted .before .read-zeroed .ensures in
+    let passed = sym (read .0) ∙ accepted .if1 .left in
+    subst (λ (v : List ℤ). Valid v × (trim (vars v) (recoveryBox v) ≡ recoveryBox v)) (sym (read .1)) (valid _ passed, recovery-trimmed _ passed)
 
+-- the sheet is accepted
 returns-2 : tie.Need-returns-2
 unfolding checkRecovery
-returns-2 c =
-    let r = c .before .before .before .read-zeroed .ensures in
-    c .check-on .ensures ∙ ap recoveryOf (r .1) ∙ unless-passed _ _ (r .0) (c .before .before .if1 .left)
+returns-2 at-return =
+    let accepted = at-return .before .before in
+    let read = accepted .before .read-zeroed .ensures in
+    at-return .check-on .ensures ∙ ap recoveryOf (read .1) ∙ unless-passed _ _ (read .0) (accepted .if1 .left)
 
 pub check-recovery-spec : {M : Type 1} → statement M
 check-recovery-spec = tie.close (tie.spec (λ c κs. zeros-are) returns check-on-requires returns-2)

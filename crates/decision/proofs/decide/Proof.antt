@@ -1,4 +1,4 @@
--- `decide` is the decision of the definitions, and its rounds never pass the allowance. Assumes nothing.
+-- `decide` gives the decision of the definitions, whose rounds are at most the allowance. Assumes nothing.
 use mathlib.Core.Path.{sym, ap, _∙_, subst}
 use mathlib.Core.List.{List}
 use lib.IntN.{ℤ}
@@ -12,21 +12,29 @@ use Rattle.decision.proofs.Answer.{unless-refused, unless-passed}
 use Rattle.decision.proofs.decide.Statement.{statement}
 use Rattle.decision.proofs.decide.Tie as tie
 
+-- the sheet is refused
 returns : tie.Need-returns
 unfolding replyOf decide
-returns c = answer-allowed _ _ (unless-refused _ _ (c .before .read-zeroed .ensures .0) (c .if1 .taken))
+returns at-return =
+    let at-read = at-return .before in
+    answer-allowed _ _ (unless-refused _ _ (at-read .read-zeroed .ensures .0) (at-return .if1 .taken))
 
 decide-on-requires : tie.Need-decide-on-requires
 decide-on-requires c κs =
-    let r = c .before .before .read-zeroed .ensures in
-    subst Valid (sym (r .1)) (valid _ (sym (r .0) ∙ c .before .if1 .left))
+    let accepted = c .before in
+    let read = accepted .before .read-zeroed .ensures in
+    subst Valid (sym (read .1)) (valid _ (sym (read .0) ∙ accepted .if1 .left))
 
+-- the sheet is accepted
 returns-2 : tie.Need-returns-2
 unfolding decide
-returns-2 c =
-    let r = c .before .before .before .read-zeroed .ensures in
-    let g = c .before .before .before .before .before .before .before .args .question .now in
-    answer-allowed _ _ (c .decide-on .ensures ∙ ap (λ (v : List ℤ). decisionOn v g) (r .1) ∙ unless-passed _ _ (r .0) (c .before .before .if1 .left))
+returns-2 at-return =
+    let accepted = at-return .before .before in
+    let at-read = accepted .before in
+    let at-start = at-read .before .before .before .before in
+    let read = at-read .read-zeroed .ensures in
+    let question = at-start .args .question .now in
+    answer-allowed _ _ (at-return .decide-on .ensures ∙ ap (λ (v : List ℤ). decisionOn v question) (read .1) ∙ unless-passed _ _ (read .0) (accepted .if1 .left))
 
 pub decide-spec : {M : Type 1} → statement M
 decide-spec = tie.close (tie.spec (λ c κs. zeros-are) returns decide-on-requires returns-2)

@@ -29,7 +29,7 @@ module _ (at-count : tie.After-count) where
   v = at-start .args .sheet .now
 
   abbrev g : List ℕ
-  g = at-start .args .g .now
+  g = at-start .args .question .now
 
   room : vars v ≤ N
   room = omega (arith, at-start .pre .vars-high)

@@ -13,10 +13,10 @@ use Rattle.decision.proofs.attempt.attempts.Statement.{statement}
 use Rattle.decision.proofs.attempt.attempts.Tie as tie
 
 -- at the width w after c rounds, from the width W on
-record Invariant (p : AttemptPlan) (v S : List ℤ) (W w c : ℕ) : Type 0 where
+record Invariant (plan : AttemptPlan) (v S : List ℤ) (W w c : ℕ) : Type 0 where
   narrower : w ≤ W
   counts : c + 73000 * w ≤ 73000 * W
-  attempting : Attempting (attemptOf p v S) W w c
+  attempting : Attempting (attemptOf plan v S) W w c
 
 abbrev Inv-loop : tie.InvT-loop
 Inv-loop plan sheet start width w₀ counted₀ w counted = Invariant plan sheet start width w counted
