@@ -11,49 +11,49 @@ use sheet_spec::slots::FIRST_UNSAFE;
 use sheet_spec::slots::N;
 use sheet_spec::slots::SLOTS;
 
-// b, with what no variable has set to 0.
-pub fn trim(n: usize, b: &[i64; BOX_SIZE]) -> [i64; BOX_SIZE]
+// The box, with what no variable has set to 0.
+pub fn trim(n: usize, boxed: &[i64; BOX_SIZE]) -> [i64; BOX_SIZE]
     requires { ⌜ n ≤ slots.N ⌝ }
-    ensures { λ r. ⌜ r ≡ trim n (now (b .entry)) ⌝ }
+    ensures { λ r. ⌜ r ≡ trim n (now (boxed .entry)) ⌝ }
 {
-    let mut r: [i64; BOX_SIZE] = [0; BOX_SIZE];
+    let mut trimmed: [i64; BOX_SIZE] = [0; BOX_SIZE];
     let mut i: usize = 0;
     while i < n {
-        let h = i + N;
-        r[i] = b[i];
-        r[h] = b[h];
+        let upper = i + N;
+        trimmed[i] = boxed[i];
+        trimmed[upper] = boxed[upper];
         i += 1;
     }
-    r
+    trimmed
 }
 
 // The box whose sides start at a slot of the sheet's value, with what no variable has set to 0.
-pub fn box_at(n: usize, sheet: &[i32; SLOTS], at: usize) -> [i64; BOX_SIZE]
-    requires { ⌜ (n ≤ slots.N) × (at + slots.boxSize ≤ slots.slots) ⌝ }
-    ensures { λ r. ⌜ r ≡ trim n (slots.boxAt (now (sheet .entry)) at) ⌝ }
+pub fn box_at(n: usize, sheet: &[i32; SLOTS], slot: usize) -> [i64; BOX_SIZE]
+    requires { ⌜ (n ≤ slots.N) × (slot + slots.boxSize ≤ slots.slots) ⌝ }
+    ensures { λ r. ⌜ r ≡ trim n (slots.boxAt (now (sheet .entry)) slot) ⌝ }
 {
-    let mut r: [i64; BOX_SIZE] = [0; BOX_SIZE];
+    let mut trimmed: [i64; BOX_SIZE] = [0; BOX_SIZE];
     let mut i: usize = 0;
     while i < n {
-        let h = i + N;
-        let l = at + i;
-        let u = l + N;
-        r[i] = sheet[l] as i64;
-        r[h] = sheet[u] as i64;
+        let upper = i + N;
+        let lower_slot = slot + i;
+        let upper_slot = lower_slot + N;
+        trimmed[i] = sheet[lower_slot] as i64;
+        trimmed[upper] = sheet[upper_slot] as i64;
         i += 1;
     }
-    r
+    trimmed
 }
 
-// a lies in b.
-pub fn within(n: usize, a: &[i64; BOX_SIZE], b: &[i64; BOX_SIZE]) -> bool
+// `inner` lies in `whole`.
+pub fn within(n: usize, inner: &[i64; BOX_SIZE], whole: &[i64; BOX_SIZE]) -> bool
     requires { ⌜ n ≤ slots.N ⌝ }
-    ensures { λ r. ⌜ r ≡ within n (now (a .entry)) (now (b .entry)) ⌝ }
+    ensures { λ r. ⌜ r ≡ within n (now (inner .entry)) (now (whole .entry)) ⌝ }
 {
     let mut i: usize = 0;
     while i < n {
-        let h = i + N;
-        if !both_le(b[i], a[i], a[h], b[h]) {
+        let upper = i + N;
+        if !both_le(whole[i], inner[i], inner[upper], whole[upper]) {
             return false;
         }
         i += 1;
@@ -61,17 +61,22 @@ pub fn within(n: usize, a: &[i64; BOX_SIZE], b: &[i64; BOX_SIZE]) -> bool
     true
 }
 
-// a shares a state with the box whose sides start at a slot of the sheet's value.
-pub fn meets(n: usize, a: &[i64; BOX_SIZE], sheet: &[i32; SLOTS], at: usize) -> bool
-    requires { ⌜ (n ≤ slots.N) × (at + slots.boxSize ≤ slots.slots) ⌝ }
-    ensures { λ r. ⌜ r ≡ meets n (now (a .entry)) (slots.boxAt (now (sheet .entry)) at) ⌝ }
+// The box shares a state with the one whose sides start at a slot of the sheet's value.
+pub fn meets(n: usize, boxed: &[i64; BOX_SIZE], sheet: &[i32; SLOTS], slot: usize) -> bool
+    requires { ⌜ (n ≤ slots.N) × (slot + slots.boxSize ≤ slots.slots) ⌝ }
+    ensures { λ r. ⌜ r ≡ meets n (now (boxed .entry)) (slots.boxAt (now (sheet .entry)) slot) ⌝ }
 {
     let mut i: usize = 0;
     while i < n {
-        let h = i + N;
-        let l = at + i;
-        let u = l + N;
-        if !both_le(a[i], sheet[u] as i64, sheet[l] as i64, a[h]) {
+        let upper = i + N;
+        let lower_slot = slot + i;
+        let upper_slot = lower_slot + N;
+        if !both_le(
+            boxed[i],
+            sheet[upper_slot] as i64,
+            sheet[lower_slot] as i64,
+            boxed[upper],
+        ) {
             return false;
         }
         i += 1;
@@ -79,18 +84,18 @@ pub fn meets(n: usize, a: &[i64; BOX_SIZE], sheet: &[i32; SLOTS], at: usize) -> 
     true
 }
 
-// a shares a state with one of the first `count` no-go boxes.
-pub fn meets_unsafe(n: usize, a: &[i64; BOX_SIZE], sheet: &[i32; SLOTS], count: usize) -> bool
+// The box shares a state with one of the first `count` no-go boxes.
+pub fn meets_unsafe(n: usize, boxed: &[i64; BOX_SIZE], sheet: &[i32; SLOTS], count: usize) -> bool
     requires { ⌜ (n ≤ slots.N) × (count ≤ slots.maxBoxes) ⌝ }
-    ensures { λ r. ⌜ r ≡ any count (λ j. meets n (now (a .entry)) (slots.unsafeBox (now (sheet .entry)) j)) ⌝ }
+    ensures { λ r. ⌜ r ≡ any count (λ j. meets n (now (boxed .entry)) (slots.unsafeBox (now (sheet .entry)) j)) ⌝ }
 {
-    let mut j: usize = 0;
-    while j < count {
-        let at = FIRST_UNSAFE + j * BOX_SIZE;
-        if meets(n, a, sheet, at) {
+    let mut tested: usize = 0;
+    while tested < count {
+        let slot = FIRST_UNSAFE + tested * BOX_SIZE;
+        if meets(n, boxed, sheet, slot) {
             return true;
         }
-        j += 1;
+        tested += 1;
     }
     false
 }

@@ -80,7 +80,7 @@ module _ (at-arrival : tie.After-arrive) where
   met = any (plan stepped .boxes) (λ j. meets (n stepped) P (unsafeBox (v stepped) j))
 
   trimmed : trim (n stepped) E ≡ E
-  trimmed = trim-as (n stepped) (at-arrival .arrive .ensures .0) (trim-moved (n stepped) (at-start stepped .pre .plan .usable .vars) (S stepped) t (R stepped))
+  trimmed = trim-as (n stepped) (at-arrival .arrive .ensures .end) (trim-moved (n stepped) (at-start stepped .pre .plan .usable .vars) (S stepped) t (R stepped))
 
 step-requires : tie.Need-step-requires
 step-requires c κs =
@@ -115,9 +115,9 @@ unfolding clear isEnded
 returns at-return =
     let at-test = at-return .before in
     let a = at-test .before .before in
-    let moved = a .arrive .ensures in
+    let arrived = a .arrive .ensures in
     record {
-      same = tested-unsafe (stepping (stepped a)) (free (stepped a)) (t a) (d a) (settled a .r .given .1) (moved .0) (moved .1 .1) {x = met a} (at-test .meets-unsafe .ensures) refl (at-return .if1 .taken);
+      same = tested-unsafe (stepping (stepped a)) (free (stepped a)) (t a) (d a) (settled a .r .given .1) (arrived .end) (arrived .path) {x = met a} (at-test .meets-unsafe .ensures) refl (at-return .if1 .taken);
       arrived = λ no. absurd (differ no refl);
       trimmed = trimmed a;
     }
@@ -128,10 +128,10 @@ unfolding clear
 returns-2 at-return =
     let at-test = at-return .before in
     let a = at-test .before .before in
-    let moved = a .arrive .ensures in
+    let arrived = a .arrive .ensures in
     record {
-      same = tested-clear (stepping (stepped a)) (free (stepped a)) (t a) (d a) (settled a .r .given .1) (moved .0) (moved .1 .1) {x = met a} (at-test .meets-unsafe .ensures) refl (at-return .if1 .left);
-      arrived = λ yes. record { work = moved .1 .0; swept = moved .1 .1 };
+      same = tested-clear (stepping (stepped a)) (free (stepped a)) (t a) (d a) (settled a .r .given .1) (arrived .end) (arrived .path) {x = met a} (at-test .meets-unsafe .ensures) refl (at-return .if1 .left);
+      arrived = λ yes. record { work = arrived .work; swept = arrived .path };
       trimmed = trimmed a;
     }
 

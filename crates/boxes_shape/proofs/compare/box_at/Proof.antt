@@ -1,4 +1,5 @@
--- `box_at` copies a box out of the sheet's value: after i turns, the first i variables. Assumes nothing.
+-- `box_at` copies a box out of the sheet's value. Invariant: after i turns, the first i variables are copied. Measure: the variables
+-- left. Assumes nothing.
 use mathlib.Core.Path.{_≡_, refl, sym, _∙_}
 use Prim.Native.Nat.{_≤_, _<_, _-_}
 use native.Mathlib.Omega.{arith}
@@ -12,29 +13,34 @@ use Rattle.boxes_shape.proofs.compare.box_at.Statement.{statement}
 use Rattle.boxes_shape.proofs.compare.box_at.Tie as tie
 
 abbrev Inv-loop : tie.InvT-loop
-Inv-loop n sheet at r₀ i₀ r i = (i ≤ n) × (r ≡ trim i (boxAt sheet at))
+Inv-loop n sheet slot trimmed₀ i₀ trimmed i = (i ≤ n) × (trimmed ≡ trim i (boxAt sheet slot))
 
 abbrev μ-loop : tie.MeasureT-loop
-μ-loop n sheet at r₀ i₀ r i = n - i
+μ-loop n sheet slot trimmed₀ i₀ trimmed i = n - i
 
 loop-holds : tie.Need-loop-holds Inv-loop μ-loop
 unfolding trim boxOf
-loop-holds c = (omega arith, refl)
+loop-holds at-start = (omega arith, refl)
 
 loop-again : tie.Need-loop-again Inv-loop μ-loop
 unfolding trim
-loop-again c =
-    let l = c .before .before .before .loop in
-    let s = c .before .before .before .before .args in
-    let h : l .i < N = omega arith in (
+loop-again at-upper =
+    let at-lower = at-upper .before in
+    let at-loop = at-lower .before .before in
+    let a = at-loop .before .args in
+    let i = at-loop .loop .i in
+    let room : i < N = omega arith in (
       omega arith,
-      sides-more (l .i) _ _ (l .inv .1)
-          (wide _ (c .before .r .given) ∙ sym (box-lo (s .sheet .now) (s .at) (l .i) h))
-          (wide _ (c .r2 .given) ∙ sym (box-hi (s .sheet .now) (s .at) (l .i) h)),
+      sides-more i _ _ (at-loop .loop .inv .1)
+          (wide _ (at-lower .trimmed .given) ∙ sym (box-lo (a .sheet .now) (a .slot) i room))
+          (wide _ (at-upper .trimmed2 .given) ∙ sym (box-hi (a .sheet .now) (a .slot) i room)),
     )
 
 returns : tie.Need-returns Inv-loop μ-loop
-returns c = let e : c .before .loop .i ≡ c .before .before .args .n = omega arith in rw e at (c .before .loop .inv .1)
+returns at-return =
+    let at-loop = at-return .before in
+    let all : at-loop .loop .i ≡ at-loop .before .args .n = omega arith in
+    rw all at (at-loop .loop .inv .1)
 
 pub box-at-spec : {M : Type 1} → statement M
 box-at-spec =

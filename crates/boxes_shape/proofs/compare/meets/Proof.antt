@@ -1,6 +1,7 @@
--- `meets` tests whether a box shares a state with one of the sheet: while it goes on, all variables passed do. Assumes nothing.
+-- `meets` tests whether a box shares a state with one of the sheet. Invariant: in all variables tested, it does. Measure: the
+-- variables left. Assumes nothing.
 use mathlib.Core.Path.{_≡_, refl, sym, _∙_}
-use mathlib.Core.Bool.{true, _&&_}
+use mathlib.Core.Bool.{Bool, true, _&&_}
 use mathlib.Core.List.{List}
 use Prim.Native.Nat.{ℕ, _≤_, _<_, _-_, _+_}
 use native.Mathlib.Omega.{arith}
@@ -17,47 +18,71 @@ use Rattle.boxes_shape.proofs.compare.meets.Statement.{statement}
 use Rattle.boxes_shape.proofs.compare.meets.Tie as tie
 
 abbrev Inv-loop : tie.InvT-loop
-Inv-loop n a sheet at i₀ i = (i ≤ n) × (meets i a (boxAt sheet at) ≡ true)
+Inv-loop n boxed sheet slot i₀ i = (i ≤ n) × (meets i boxed (boxAt sheet slot) ≡ true)
 
 abbrev μ-loop : tie.MeasureT-loop
-μ-loop n a sheet at i₀ i = n - i
+μ-loop n boxed sheet slot i₀ i = n - i
 
 loop-holds : tie.Need-loop-holds Inv-loop μ-loop
 unfolding meets all
-loop-holds c = (omega arith, refl)
+loop-holds at-start = (omega arith, refl)
 
-module _ (c : tie.After-both-le Inv-loop μ-loop) where
-  abbrev d : tie.At-loop Inv-loop μ-loop
-  d = c .before .before .before .before .before .before
-
+module _ (at-loop : tie.At-loop Inv-loop μ-loop) where
   abbrev v : List ℤ
-  v = d .before .args .sheet .now
+  v = at-loop .before .args .sheet .now
 
-  abbrev l : ℕ
-  l = d .before .args .at + d .loop .i
+  abbrev slot : ℕ
+  slot = at-loop .before .args .slot
 
-  test-is : let a = d .before .args .a .now in let b = boxAt v (d .before .args .at) in let i = d .loop .i in c .both-le .result ≡ (leZ (lo a i) (hi b i) && leZ (lo b i) (hi a i))
+  abbrev i : ℕ
+  i = at-loop .loop .i
+
+  -- the test of variable i, by the definition
+  abbrev shares : Bool
+  shares =
+      let A = at-loop .before .args .boxed .now in
+      let B = boxAt v slot in
+      leZ (lo A i) (hi B i) && leZ (lo B i) (hi A i)
+
+module _ (at-test : tie.After-both-le Inv-loop μ-loop) where
+  abbrev at-loop : tie.At-loop Inv-loop μ-loop
+  at-loop = at-test .before .before .before .before .before .before
+
+  test-is : at-test .both-le .result ≡ shares at-loop
   test-is =
-      let h : d .loop .i < N = omega arith in
-      c .both-le .ensures
+      let fourth = at-test .before in
+      let third = fourth .before in
+      let second = third .before in
+      let first = second .before in
+      let room : i at-loop < N = omega arith in
+      at-test .both-le .ensures
       ∙ rw (
-        box-lo v (d .before .args .at) (d .loop .i) h,
-        box-hi v (d .before .args .at) (d .loop .i) h,
-        wide (v ! l) (c .before .before .both-le-arg3 .given),
-        wide (v ! (l + N)) (c .before .before .before .both-le-arg2 .given),
+        box-lo (v at-loop) (slot at-loop) (i at-loop) room,
+        box-hi (v at-loop) (slot at-loop) (i at-loop) room,
+        wide (v at-loop ! (slot at-loop + i at-loop)) (third .both-le-arg3 .given),
+        wide (v at-loop ! (slot at-loop + i at-loop + N)) (second .both-le-arg2 .given),
       )
-      (simp (told, c .before .both-le-arg4 .given, c .before .before .before .before .both-le-arg .given))
+      (simp (told, fourth .both-le-arg4 .given, first .both-le-arg .given))
 
+-- a variable does not
 returns : tie.Need-returns Inv-loop μ-loop
 unfolding meets
-returns c = sym (all-stop _ _ (d (c .before) .loop .i) (omega arith) (sym (test-is (c .before)) ∙ not-true _ (c .if1 .taken)))
+returns at-return =
+    let at-test = at-return .before in
+    sym (all-stop _ _ (i (at-loop at-test)) (omega arith) (sym (test-is at-test) ∙ not-true _ (at-return .if1 .taken)))
 
 loop-again : tie.Need-loop-again Inv-loop μ-loop
 unfolding meets
-loop-again c = (omega arith, all-more (d (c .before) .loop .i) _ (d (c .before) .loop .inv .1) (sym (test-is (c .before)) ∙ not-false _ (c .if1 .left)))
+loop-again passed =
+    let at-test = passed .before in
+    (omega arith, all-more (i (at-loop at-test)) _ (at-loop at-test .loop .inv .1) (sym (test-is at-test) ∙ not-false _ (passed .if1 .left)))
 
+-- all do
 returns-2 : tie.Need-returns-2 Inv-loop μ-loop
-returns-2 c = let e : c .before .loop .i ≡ c .before .before .args .n = omega arith in sym (rw e at (c .before .loop .inv .1))
+returns-2 at-return =
+    let at-loop = at-return .before in
+    let all : at-loop .loop .i ≡ at-loop .before .args .n = omega arith in
+    sym (rw all at (at-loop .loop .inv .1))
 
 pub meets-spec : {M : Type 1} → statement M
 meets-spec =

@@ -1,4 +1,5 @@
--- `meets_unsafe` tests a box against the first no-go boxes: while it goes on, it meets none of those passed. Assumes nothing.
+-- `meets_unsafe` tests a box against the first no-go boxes. Invariant: it meets none of those tested. Measure: the boxes left.
+-- Assumes nothing.
 use mathlib.Core.Path.{_≡_, refl, sym, _∙_}
 use mathlib.Core.Bool.{false}
 use Prim.Native.Nat.{_≤_, _-_}
@@ -10,25 +11,34 @@ use Rattle.boxes_shape.proofs.compare.meets_unsafe.Statement.{statement
 use Rattle.boxes_shape.proofs.compare.meets_unsafe.Tie as tie
 
 abbrev Inv-loop : tie.InvT-loop
-Inv-loop n a sheet count j₀ j = (j ≤ count) × (any j (λ t. meets n a (unsafeBox sheet t)) ≡ false)
+Inv-loop n boxed sheet count tested₀ tested = (tested ≤ count) × (any tested (λ j. meets n boxed (unsafeBox sheet j)) ≡ false)
 
 abbrev μ-loop : tie.MeasureT-loop
-μ-loop n a sheet count j₀ j = count - j
+μ-loop n boxed sheet count tested₀ tested = count - tested
 
 loop-holds : tie.Need-loop-holds Inv-loop μ-loop
 unfolding any
-loop-holds c = (omega arith, refl)
+loop-holds at-start = (omega arith, refl)
 
+-- a box is met
 returns : tie.Need-returns Inv-loop μ-loop
-returns c = sym (any-at _ _ (c .before .before .before .loop .j) (omega arith) (sym (c .before .meets .ensures) ∙ c .if1 .taken))
+returns at-return =
+    let at-test = at-return .before in
+    let at-loop = at-test .before .before in
+    sym (any-at _ _ (at-loop .loop .tested) (omega arith) (sym (at-test .meets .ensures) ∙ at-return .if1 .taken))
 
 loop-again : tie.Need-loop-again Inv-loop μ-loop
-loop-again c =
-    let l = c .before .before .before .loop in
-    (omega arith, any-more (l .j) _ (l .inv .1) (sym (c .before .meets .ensures) ∙ c .if1 .left))
+loop-again not-met =
+    let at-test = not-met .before in
+    let at-loop = at-test .before .before in
+    (omega arith, any-more (at-loop .loop .tested) _ (at-loop .loop .inv .1) (sym (at-test .meets .ensures) ∙ not-met .if1 .left))
 
+-- none is met
 returns-2 : tie.Need-returns-2 Inv-loop μ-loop
-returns-2 c = let e : c .before .loop .j ≡ c .before .before .args .count = omega arith in sym (rw e at (c .before .loop .inv .1))
+returns-2 at-return =
+    let at-loop = at-return .before in
+    let all : at-loop .loop .tested ≡ at-loop .before .args .count = omega arith in
+    sym (rw all at (at-loop .loop .inv .1))
 
 pub meets-unsafe-spec : {M : Type 1} → statement M
 meets-unsafe-spec =
@@ -39,7 +49,7 @@ meets-unsafe-spec =
     loop-holds
     (λ c. omega arith)
     (λ c. omega arith)
-    (λ c κs. (c .before .before .pre .0, omega arith))
+    (λ c κs. let at-start = c .before .before in (at-start .pre .0, omega arith))
     returns
     (λ c. omega arith)
     (λ c. omega arith)

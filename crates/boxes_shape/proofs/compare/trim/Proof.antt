@@ -1,4 +1,5 @@
--- `trim` sets what no variable has to 0: after i turns, the first i variables are copied. Assumes nothing.
+-- `trim` sets what no variable has to 0. Invariant: after i turns, the first i variables are copied. Measure: the variables left.
+-- Assumes nothing.
 use mathlib.Core.Path.{_≡_, refl}
 use Prim.Native.Nat.{_≤_, _-_}
 use native.Mathlib.Omega.{arith}
@@ -9,23 +10,27 @@ use Rattle.boxes_shape.proofs.compare.trim.Statement.{statement}
 use Rattle.boxes_shape.proofs.compare.trim.Tie as tie
 
 abbrev Inv-loop : tie.InvT-loop
-Inv-loop n b r₀ i₀ r i = (i ≤ n) × (r ≡ trim i b)
+Inv-loop n boxed trimmed₀ i₀ trimmed i = (i ≤ n) × (trimmed ≡ trim i boxed)
 
 abbrev μ-loop : tie.MeasureT-loop
-μ-loop n b r₀ i₀ r i = n - i
+μ-loop n boxed trimmed₀ i₀ trimmed i = n - i
 
 loop-holds : tie.Need-loop-holds Inv-loop μ-loop
 unfolding trim boxOf
-loop-holds c = (omega arith, refl)
+loop-holds at-start = (omega arith, refl)
 
 loop-again : tie.Need-loop-again Inv-loop μ-loop
 unfolding trim
-loop-again c =
-    let l = c .before .before .before .loop in
-    (omega arith, sides-more (l .i) _ _ (l .inv .1) (simp (told, c .before .r .given)) (simp (told, c .r2 .given)))
+loop-again at-upper =
+    let at-lower = at-upper .before in
+    let at-loop = at-lower .before .before in
+    (omega arith, sides-more (at-loop .loop .i) _ _ (at-loop .loop .inv .1) (simp (told, at-lower .trimmed .given)) (simp (told, at-upper .trimmed2 .given)))
 
 returns : tie.Need-returns Inv-loop μ-loop
-returns c = let e : c .before .loop .i ≡ c .before .before .args .n = omega arith in rw e at (c .before .loop .inv .1)
+returns at-return =
+    let at-loop = at-return .before in
+    let all : at-loop .loop .i ≡ at-loop .before .args .n = omega arith in
+    rw all at (at-loop .loop .inv .1)
 
 pub trim-spec : {M : Type 1} → statement M
 trim-spec =

@@ -1,6 +1,7 @@
--- `within` tests whether a box lies in another: while it goes on, all variables passed do. Assumes nothing.
+-- `within` tests whether a box lies in another. Invariant: in all variables tested, it does. Measure: the variables left.
+-- Assumes nothing.
 use mathlib.Core.Path.{_≡_, refl, sym, _∙_}
-use mathlib.Core.Bool.{true, _&&_}
+use mathlib.Core.Bool.{Bool, true, _&&_}
 use Prim.Native.Nat.{_≤_, _-_}
 use native.Mathlib.Omega.{arith}
 use lib.Signed.{leZ}
@@ -12,32 +13,54 @@ use Rattle.boxes_shape.proofs.compare.within.Statement.{statement}
 use Rattle.boxes_shape.proofs.compare.within.Tie as tie
 
 abbrev Inv-loop : tie.InvT-loop
-Inv-loop n a b i₀ i = (i ≤ n) × (within i a b ≡ true)
+Inv-loop n inner whole i₀ i = (i ≤ n) × (within i inner whole ≡ true)
 
 abbrev μ-loop : tie.MeasureT-loop
-μ-loop n a b i₀ i = n - i
+μ-loop n inner whole i₀ i = n - i
 
 loop-holds : tie.Need-loop-holds Inv-loop μ-loop
 unfolding within all
-loop-holds c = (omega arith, refl)
+loop-holds at-start = (omega arith, refl)
 
-module _ (c : tie.After-both-le Inv-loop μ-loop) where
-  abbrev d : tie.At-loop Inv-loop μ-loop
-  d = c .before .before .before .before .before .before
+-- the test of variable i, by the definition
+abbrev lies : tie.At-loop Inv-loop μ-loop → Bool
+lies at-loop =
+    let A = at-loop .before .args .inner .now in
+    let B = at-loop .before .args .whole .now in
+    let i = at-loop .loop .i in
+    leZ (lo B i) (lo A i) && leZ (hi A i) (hi B i)
 
-  test-is : let a = d .before .args .a .now in let b = d .before .args .b .now in let i = d .loop .i in c .both-le .result ≡ (leZ (lo b i) (lo a i) && leZ (hi a i) (hi b i))
-  test-is = c .both-le .ensures ∙ simp (told, c .before .both-le-arg4 .given, c .before .before .both-le-arg3 .given, c .before .before .before .both-le-arg2 .given, c .before .before .before .before .both-le-arg .given)
+module _ (at-test : tie.After-both-le Inv-loop μ-loop) where
+  abbrev at-loop : tie.At-loop Inv-loop μ-loop
+  at-loop = at-test .before .before .before .before .before .before
 
+  test-is : at-test .both-le .result ≡ lies at-loop
+  test-is =
+      let fourth = at-test .before in
+      let third = fourth .before in
+      let second = third .before in
+      let first = second .before in
+      at-test .both-le .ensures ∙ simp (told, fourth .both-le-arg4 .given, third .both-le-arg3 .given, second .both-le-arg2 .given, first .both-le-arg .given)
+
+-- a variable does not
 returns : tie.Need-returns Inv-loop μ-loop
 unfolding within
-returns c = sym (all-stop _ _ (d (c .before) .loop .i) (omega arith) (sym (test-is (c .before)) ∙ not-true _ (c .if1 .taken)))
+returns at-return =
+    let at-test = at-return .before in
+    sym (all-stop _ _ (at-loop at-test .loop .i) (omega arith) (sym (test-is at-test) ∙ not-true _ (at-return .if1 .taken)))
 
 loop-again : tie.Need-loop-again Inv-loop μ-loop
 unfolding within
-loop-again c = (omega arith, all-more (d (c .before) .loop .i) _ (d (c .before) .loop .inv .1) (sym (test-is (c .before)) ∙ not-false _ (c .if1 .left)))
+loop-again passed =
+    let at-test = passed .before in
+    (omega arith, all-more (at-loop at-test .loop .i) _ (at-loop at-test .loop .inv .1) (sym (test-is at-test) ∙ not-false _ (passed .if1 .left)))
 
+-- all do
 returns-2 : tie.Need-returns-2 Inv-loop μ-loop
-returns-2 c = let e : c .before .loop .i ≡ c .before .before .args .n = omega arith in sym (rw e at (c .before .loop .inv .1))
+returns-2 at-return =
+    let at-loop = at-return .before in
+    let all : at-loop .loop .i ≡ at-loop .before .args .n = omega arith in
+    sym (rw all at (at-loop .loop .inv .1))
 
 pub within-spec : {M : Type 1} → statement M
 within-spec =

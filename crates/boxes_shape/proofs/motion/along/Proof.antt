@@ -1,4 +1,4 @@
--- `along` gives a side moved by k rates. Assumes nothing.
+-- `along` gives a side moved by so many ticks of its rate. Assumes nothing.
 use mathlib.Core.Path.{_≡_}
 use native.Mathlib.Omega.{arith}
 use lib.IntN.{pos, _+ℤ_, _*ℤ_}
@@ -11,27 +11,27 @@ use Rattle.integers.proofs.Z.{bound-lit, bound-less, bound-sum, bound-mul, fits
 use Rattle.boxes_shape.proofs.motion.along.Statement.{statement}
 use Rattle.boxes_shape.proofs.motion.along.Tie as tie
 
-module _ (c : tie.Start) where
-  k-is : toZ w64 (c .args .k) ≡ pos (c .args .k)
-  k-is = toZ-pos w64 (omega arith)
+module _ (at-start : tie.Start) where
+  ticks-are : toZ w64 (at-start .args .ticks) ≡ pos (at-start .args .ticks)
+  ticks-are = toZ-pos w64 (omega arith)
 
-  times : Bound (pos (c .args .k) *ℤ c .args .rate) 1000000
-  times = bound-mul {B = 1000} (bound-less (bound-lit (pos (c .args .k))) (omega (arith, c .pre .1 .1))) (c .pre .1 .0)
+  moved-bound : Bound (pos (at-start .args .ticks) *ℤ at-start .args .rate) 1000000
+  moved-bound = bound-mul {B = 1000} (bound-less (bound-lit (pos (at-start .args .ticks))) (omega (arith, at-start .pre .ticks))) (at-start .pre .rate)
 
-  times-fits : SFits w64 (pos (c .args .k) *ℤ c .args .rate)
-  times-fits = fits64 times tt
+  moved-fits : SFits w64 (pos (at-start .args .ticks) *ℤ at-start .args .rate)
+  moved-fits = fits64 moved-bound tt
 
-  sum-fits : SFits w64 (c .args .a +ℤ pos (c .args .k) *ℤ c .args .rate)
-  sum-fits = fits64 (bound-sum (c .pre .0) times) tt
+  sum-fits : SFits w64 (at-start .args .side +ℤ pos (at-start .args .ticks) *ℤ at-start .args .rate)
+  sum-fits = fits64 (bound-sum (at-start .pre .side) moved-bound) tt
 
 mul-result : tie.Need-mul-result
-mul-result c = simp (k-is c, toZ-ofZ, c .fits .rate) (times-fits c)
+mul-result at-start = simp (ticks-are at-start, toZ-ofZ, at-start .fits .rate) (moved-fits at-start)
 
 add-result : tie.Need-add-result
-add-result c = simp (k-is c, toZ-ofZ, c .fits .rate, c .fits .a, times-fits c) (sum-fits c)
+add-result at-start = simp (ticks-are at-start, toZ-ofZ, at-start .fits .rate, at-start .fits .side, moved-fits at-start) (sum-fits at-start)
 
 returns : tie.Need-returns
-returns c = simp (k-is c, toZ-ofZ, c .fits .rate, c .fits .a, times-fits c, sum-fits c)
+returns at-start = simp (ticks-are at-start, toZ-ofZ, at-start .fits .rate, at-start .fits .side, moved-fits at-start, sum-fits at-start)
 
 pub along-spec : {M : Type 1} → statement M
 along-spec = tie.close (tie.spec (λ c. search needs) mul-result add-result returns)

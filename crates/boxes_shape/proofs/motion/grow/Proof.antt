@@ -1,7 +1,8 @@
--- `grow` tests whether the hull of a and of a moved lies in e, and makes the hull of both in e: after i turns, of the first i variables. Assumes nothing.
+-- `grow` tests whether the hull of the start box and of the start box moved lies in the working box, and makes the hull of both in the
+-- working box. Invariant: after i turns, of the first i variables. Measure: the variables left. Assumes nothing.
 use mathlib.Core.Path.{_≡_, refl, sym, ap₂, _∙_}
 use mathlib.Core.Logic.{⊎-elim}
-use mathlib.Core.Bool.{_&&_}
+use mathlib.Core.Bool.{Bool, _&&_}
 use mathlib.Core.List.{List}
 use Prim.Native.Nat.{ℕ, _≤_, _<_, _-_, _+_}
 use native.Mathlib.Omega.{arith}
@@ -10,151 +11,193 @@ use lib.Signed.{leZ}
 use mir.Facts.{toZ-ofZ}
 use mir.Syntax.{w64}
 use mir.Val.{SFits, ofZ, toZ}
-use borrow.Author.Needs.{needs, sfits-of}
+use borrow.Author.Needs.{needs}
 use Rattle.integers.specs.Order.{minZ, maxZ}
-use Rattle.integers.proofs.Z.{told, bound-read}
+use Rattle.integers.proofs.Z.{told}
 use Rattle.sheet_spec.specs.Slots.{N}
 use Rattle.machine_spec.specs.Box.{lo, hi, all, hull, moved, within}
 use Rattle.machine_spec.proofs.Box.{swept-lo, swept-hi, all-last, all-false}
 use Rattle.machine_spec.proofs.InPlace.{filled, filled-none, filled-more, turn-lo, turn-hi, turn-hi-set, filled-sides}
+use Rattle.boxes_shape.proofs.Sides.{side-movable}
 use Rattle.boxes_shape.proofs.motion.grow.Statement.{statement}
 use Rattle.boxes_shape.proofs.motion.grow.Tie as tie
 
--- the hull of a and of a moved by k rates
-abbrev swept : ℕ → List ℤ → ℕ → List ℤ → List ℤ
-swept n a k rates = hull n a (moved n a k rates)
+-- the box M is tested and joined to the working box F, which was E at first
+record Invariant (n : ℕ) (M E F : List ℤ) (inside : Bool) (i : ℕ) : Type 0 where
+  turns : i ≤ n
+  test : inside ≡ within i M E
+  joined : F ≡ filled i (λ j. minZ (lo E j) (lo M j)) (λ j. maxZ (hi E j) (hi M j)) E
 
 abbrev Inv-loop : tie.InvT-loop
-Inv-loop n a k rates e₀ inside₀ i₀ e inside i =
-    (i ≤ n)
-    × ((inside ≡ within i (swept n a k rates) e₀)
-    × (e ≡ filled i (λ j. minZ (lo e₀ j) (lo (swept n a k rates) j)) (λ j. maxZ (hi e₀ j) (hi (swept n a k rates) j)) e₀))
+Inv-loop n start ticks rates work₀ inside₀ i₀ work inside i = Invariant n (hull n start (moved n start ticks rates)) work₀ work inside i
 
 abbrev μ-loop : tie.MeasureT-loop
-μ-loop n a k rates e₀ inside₀ i₀ e inside i = n - i
+μ-loop n start ticks rates work₀ inside₀ i₀ work inside i = n - i
 
 loop-holds : tie.Need-loop-holds Inv-loop μ-loop
 unfolding within all
-loop-holds c = (omega arith, (refl, filled-none _ _ _))
+loop-holds at-start = record { turns = omega arith; test = refl; joined = filled-none _ _ _ }
+
+-- ---- a turn
+
+module _ (at-loop : tie.At-loop Inv-loop μ-loop) where
+  abbrev at-start : tie.Start Inv-loop μ-loop
+  at-start = at-loop .before
+
+  abbrev i : ℕ
+  i = at-loop .loop .i
+
+  -- the hull of the start box and of the start box moved
+  abbrev M : List ℤ
+  M = let a = at-start .args in hull (a .n) (a .start .now) (moved (a .n) (a .start .now) (a .ticks) (a .rates .now))
+
+  -- the working box at first
+  abbrev E : List ℤ
+  E = at-start .args .work .now
 
 along-requires : tie.Need-along-requires Inv-loop μ-loop
-along-requires c κs =
-    let s = c .before .before .before .before .before in
-    let i = c .before .before .before .before .loop .i in
-    (bound-read (sfits-of (c .before .along-arg .given)) (s .pre .0 .start .at i), (bound-read (sfits-of (c .along-arg2 .given)) (s .pre .0 .rates .at i), s .pre .0 .ticks))
+along-requires at-rate κs =
+    let at-side = at-rate .before in
+    let at-loop = at-side .before .before .before in
+    side-movable (at-start at-loop .pre .0) (i at-loop) (told w64 _ (at-side .along-arg .given)) (told w64 _ (at-rate .along-arg2 .given))
+
+module _ (at-min : tie.After-min Inv-loop μ-loop) where
+  -- the lower side of the start box, read twice, its rate, and the side moved
+  abbrev low-along : tie.After-along Inv-loop μ-loop
+  low-along = at-min .before
+
+  abbrev low-rate : tie.After-along-arg2 Inv-loop μ-loop
+  low-rate = low-along .before
+
+  abbrev low-side : tie.After-along-arg Inv-loop μ-loop
+  low-side = low-rate .before
+
+  abbrev low-first : tie.After-min-arg Inv-loop μ-loop
+  low-first = low-side .before
+
+  abbrev at-loop : tie.At-loop Inv-loop μ-loop
+  at-loop = low-first .before .before
+
+  more : i at-loop < at-start at-loop .args .n
+  more = omega arith
+
+  low-is : toZ w64 (ofZ w64 (at-min .min .result)) ≡ lo (M at-loop) (i at-loop)
+  low-is =
+      let a = at-start at-loop .args in
+      let min-fits : SFits w64 (at-min .min .result) = search needs in
+      let along-fits : SFits w64 (low-along .along .result) = search needs in
+      toZ-ofZ min-fits
+      ∙ (at-min .min .ensures
+      ∙ (ap₂ minZ
+      (simp (told, low-first .min-arg .given))
+      (toZ-ofZ along-fits ∙ (low-along .along .ensures ∙ simp (told, low-rate .along-arg2 .given, low-side .along-arg .given)))
+      ∙ sym (swept-lo (a .n) (i at-loop) (at-start at-loop .pre .0 .room) more (a .start .now) (a .ticks) (a .rates .now))))
 
 along-requires-2 : tie.Need-along-requires-2 Inv-loop μ-loop
-along-requires-2 c κs =
-    let l = c .before .before .before .before .before .before .before .before .before in
-    let h = l .loop .i + N in
-    let s = l .before in
-    (bound-read (sfits-of (c .before .along-arg3 .given)) (s .pre .0 .start .at h), (bound-read (sfits-of (c .along-arg4 .given)) (s .pre .0 .rates .at h), s .pre .0 .ticks))
+along-requires-2 at-rate κs =
+    let at-side = at-rate .before in
+    let loop = at-loop (at-side .before .before) in
+    side-movable (at-start loop .pre .0) (i loop + N) (told w64 _ (at-side .along-arg3 .given)) (told w64 _ (at-rate .along-arg4 .given))
 
-module _ (l : tie.At-loop Inv-loop μ-loop) where
-  abbrev box : List ℤ
-  box = swept (l .before .args .n) (l .before .args .a .now) (l .before .args .k) (l .before .args .rates .now)
+module _ (at-max : tie.After-max Inv-loop μ-loop) where
+  abbrev high-along : tie.After-along2 Inv-loop μ-loop
+  high-along = at-max .before
 
-  abbrev old : List ℤ
-  old = l .before .args .e .now
+  abbrev high-rate : tie.After-along-arg4 Inv-loop μ-loop
+  high-rate = high-along .before
 
-module _ (c : tie.After-min Inv-loop μ-loop) where
-  abbrev at-min : tie.At-loop Inv-loop μ-loop
-  at-min = c .before .before .before .before .before .before
+  abbrev high-side : tie.After-along-arg3 Inv-loop μ-loop
+  high-side = high-rate .before
 
-  turns : at-min .loop .i < at-min .before .args .n
-  turns = omega arith
+  abbrev high-first : tie.After-max-arg Inv-loop μ-loop
+  high-first = high-side .before
 
-  low-is : toZ w64 (ofZ w64 (c .min .result)) ≡ lo (box at-min) (at-min .loop .i)
-  low-is =
-      let d = c .before in
-      let s = at-min .before in
-      let f : SFits w64 (c .min .result) = search needs in
-      let g : SFits w64 (d .along .result) = search needs in
-      toZ-ofZ f
-      ∙ (c .min .ensures
-      ∙ (ap₂ minZ
-      (simp (told, d .before .before .before .min-arg .given))
-      (toZ-ofZ g ∙ (d .along .ensures ∙ simp (told, d .before .along-arg2 .given, d .before .before .along-arg .given)))
-      ∙ sym (swept-lo (s .args .n) (at-min .loop .i) (s .pre .0 .room) turns (s .args .a .now) (s .args .k) (s .args .rates .now))))
+  abbrev at-min : tie.After-min Inv-loop μ-loop
+  at-min = high-first .before
 
-module _ (c : tie.After-max Inv-loop μ-loop) where
-  abbrev after-min : tie.After-min Inv-loop μ-loop
-  after-min = c .before .before .before .before .before
+  abbrev loop : tie.At-loop Inv-loop μ-loop
+  loop = at-loop at-min
 
-  abbrev at-max : tie.At-loop Inv-loop μ-loop
-  at-max = at-min after-min
-
-  high-is : toZ w64 (ofZ w64 (c .max .result)) ≡ hi (box at-max) (at-max .loop .i)
+  high-is : toZ w64 (ofZ w64 (at-max .max .result)) ≡ hi (M loop) (i loop)
   high-is =
-      let d = c .before in
-      let s = at-max .before in
-      let f : SFits w64 (c .max .result) = search needs in
-      let g : SFits w64 (d .along2 .result) = search needs in
-      toZ-ofZ f
-      ∙ (c .max .ensures
+      let a = at-start loop .args in
+      let max-fits : SFits w64 (at-max .max .result) = search needs in
+      let along-fits : SFits w64 (high-along .along2 .result) = search needs in
+      toZ-ofZ max-fits
+      ∙ (at-max .max .ensures
       ∙ (ap₂ maxZ
-      (simp (told, d .before .before .before .max-arg .given))
-      (toZ-ofZ g ∙ (d .along2 .ensures ∙ simp (told, d .before .along-arg4 .given, d .before .before .along-arg3 .given)))
-      ∙ sym (swept-hi (s .args .n) (at-max .loop .i) (s .pre .0 .room) (turns after-min) (s .args .a .now) (s .args .k) (s .args .rates .now))))
+      (simp (told, high-first .max-arg .given))
+      (toZ-ofZ along-fits ∙ (high-along .along2 .ensures ∙ simp (told, high-rate .along-arg4 .given, high-side .along-arg3 .given)))
+      ∙ sym (swept-hi (a .n) (i loop) (at-start loop .pre .0 .room) (more at-min) (a .start .now) (a .ticks) (a .rates .now))))
 
-  -- e's lower side as it was
-  low-was : lo (at-max .loop .e) (at-max .loop .i) ≡ lo (old at-max) (at-max .loop .i)
-  low-was = turn-lo _ _ (at-max .loop .i) _ (at-max .loop .inv .1 .1) (omega arith)
+  -- the working box's lower side as it was
+  low-was : lo (loop .loop .work) (i loop) ≡ lo (E loop) (i loop)
+  low-was = turn-lo _ _ (i loop) _ (loop .loop .inv .joined) (omega arith)
 
-module _ (c : tie.After-both-le Inv-loop μ-loop) where
-  abbrev before-test : tie.After-max Inv-loop μ-loop
-  before-test = c .before .before .before .before
+-- the test of variable i
+module _ (at-test : tie.After-both-le Inv-loop μ-loop) where
+  abbrev at-upper : tie.After-both-le-arg2 Inv-loop μ-loop
+  at-upper = at-test .before
 
-  test-is : let l = at-max before-test in let i = l .loop .i in c .both-le .result ≡ (leZ (lo (old l) i) (lo (box l) i) && leZ (hi (box l) i) (hi (old l) i))
+  abbrev at-lower : tie.After-both-le-arg Inv-loop μ-loop
+  at-lower = at-upper .before
+
+  abbrev at-max : tie.After-max Inv-loop μ-loop
+  at-max = at-lower .before .before
+
+  test-is : let l = loop at-max in at-test .both-le .result ≡ (leZ (lo (E l) (i l)) (lo (M l) (i l)) && leZ (hi (M l) (i l)) (hi (E l) (i l)))
   test-is =
-      let l = at-max before-test in
-      let i = l .loop .i in
-      let high = turn-hi _ _ i (old l) (l .loop .inv .1 .1) in
-      c .both-le .ensures
+      let l = loop at-max in
+      at-test .both-le .ensures
       ∙ ap₂ _&&_
-      (ap₂ leZ (toZ-ofZ (sfits-of (c .before .before .both-le-arg .given)) ∙ low-was before-test) (low-is (after-min before-test)))
-      (ap₂ leZ (high-is before-test) (toZ-ofZ (sfits-of (c .before .both-le-arg2 .given)) ∙ high))
+      (ap₂ leZ (told w64 _ (at-lower .both-le-arg .given) ∙ low-was at-max) (low-is (at-min at-max)))
+      (ap₂ leZ (high-is at-max) (told w64 _ (at-upper .both-le-arg2 .given) ∙ turn-hi _ _ (i l) (E l) (l .loop .inv .joined)))
 
-inside-is : (c : tie.Joined1 Inv-loop μ-loop) → let l = at-max (c .before) in c .if1 .inside ≡ within (l .loop .i + 1) (box l) (old l)
+-- the test of the first variables, up to i: it was made only if those before passed
+inside-is : (at-joined : tie.Joined1 Inv-loop μ-loop) → let l = loop (at-joined .before) in at-joined .if1 .inside ≡ within (i l + 1) (M l) (E l)
 unfolding within
-inside-is c =
-    let l = at-max (c .before) in
-    let i = l .loop .i in
-    let seen = l .loop .inv .1 .0 in
+inside-is at-joined =
+    let l = loop (at-joined .before) in
+    let passed = l .loop .inv .test in
     ⊎-elim
-    (λ w. let d : tie.After-both-le Inv-loop μ-loop = record {
-      before = record { before = record { before = record { before = c .before; if1 = w .0 }; both-le-arg = w .1 }; both-le-arg2 = w .2 };
+    (λ w. let at-test : tie.After-both-le Inv-loop μ-loop = record {
+      before = record { before = record { before = record { before = at-joined .before; if1 = w .0 }; both-le-arg = w .1 }; both-le-arg2 = w .2 };
       both-le = w .3;
     } in
-    w .4 ∙ (test-is d ∙ sym (all-last i _ (sym seen ∙ w .0 .taken))))
-    (λ w. w .1 ∙ (w .0 .left ∙ sym (all-false i _ (sym seen ∙ w .0 .left))))
-    (c .if1 .came)
+    w .4 ∙ (test-is at-test ∙ sym (all-last (i l) _ (sym passed ∙ w .0 .taken))))
+    (λ w. w .1 ∙ (w .0 .left ∙ sym (all-false (i l) _ (sym passed ∙ w .0 .left))))
+    (at-joined .if1 .came)
 
 loop-again : tie.Need-loop-again Inv-loop μ-loop
-loop-again c =
-    let f : SFits w64 (c .max2 .result) = search needs in
-    let d = c .before .before in
-    let g : SFits w64 (d .min2 .result) = search needs in
-    let t = d .before .before in
-    let l = at-max (t .before) in
-    let i = l .loop .i in
-    let high = turn-hi-set _ _ i (old l) (l .loop .inv .1 .1) (toZ w64 (ofZ w64 (d .min2 .result))) in (
-      omega (arith, turns (after-min (t .before))),
-      (
-        inside-is t,
-        filled-more _ _ i (old l) (l .loop .inv .1 .1)
-            (toZ-ofZ g ∙ (d .min2 .ensures ∙ ap₂ minZ (toZ-ofZ (sfits-of (d .before .min-arg2 .given)) ∙ low-was (t .before)) (low-is (after-min (t .before)))))
-            (toZ-ofZ f ∙ (c .max2 .ensures ∙ ap₂ maxZ (toZ-ofZ (sfits-of (c .before .max-arg2 .given)) ∙ high) (high-is (t .before)))),
-      ),
-    )
+loop-again at-upper =
+    let upper-read = at-upper .before in
+    let at-lower = upper-read .before in
+    let lower-read = at-lower .before in
+    let at-joined = lower-read .before in
+    let at-max = at-joined .before in
+    let l = loop at-max in
+    let inv = l .loop .inv in
+    let max-fits : SFits w64 (at-upper .max2 .result) = search needs in
+    let min-fits : SFits w64 (at-lower .min2 .result) = search needs in
+    let high-was = turn-hi-set _ _ (i l) (E l) (inv .joined) (toZ w64 (ofZ w64 (at-lower .min2 .result))) in
+    record {
+      turns = omega (arith, more (at-min at-max));
+      test = inside-is at-joined;
+      joined =
+          filled-more _ _ (i l) (E l) (inv .joined)
+          (toZ-ofZ min-fits ∙ (at-lower .min2 .ensures ∙ ap₂ minZ (told w64 _ (lower-read .min-arg2 .given) ∙ low-was at-max) (low-is (at-min at-max))))
+          (toZ-ofZ max-fits ∙ (at-upper .max2 .ensures ∙ ap₂ maxZ (told w64 _ (upper-read .max-arg2 .given) ∙ high-was) (high-is at-max)));
+    }
 
 returns : tie.Need-returns Inv-loop μ-loop
 unfolding hull
-returns c =
-    let s = c .before .before in
-    let l = c .before .loop in
-    let e : l .i ≡ s .args .n = omega arith in
-    (rw e at (l .inv .1 .0), (rw e at (l .inv .1 .1)) ∙ filled-sides _ _ (s .args .n) _ (s .pre .0 .room) (s .pre .1))
+returns at-return =
+    let at-loop = at-return .before in
+    let inv = at-loop .loop .inv in
+    let asked = at-loop .before .pre in
+    let n = at-loop .before .args .n in
+    let all : at-loop .loop .i ≡ n = omega (arith, inv .turns) in
+    (rw all at (inv .test), (rw all at (inv .joined)) ∙ filled-sides _ _ n _ (asked .0 .room) (asked .1))
 
 pub grow-spec : {M : Type 1} → statement M
 grow-spec =

@@ -1,4 +1,5 @@
--- `join` makes the hull in place: after i turns, of the first i variables. Assumes nothing.
+-- `join` makes the hull in place. Invariant: after i turns, that of the first i variables. Measure: the variables left.
+-- Assumes nothing.
 use mathlib.Core.Path.{_≡_, refl, _∙_}
 use Prim.Native.Nat.{_≤_, _<_, _-_}
 use native.Mathlib.Omega.{arith}
@@ -15,35 +16,41 @@ use Rattle.boxes_shape.proofs.motion.join.Statement.{statement}
 use Rattle.boxes_shape.proofs.motion.join.Tie as tie
 
 abbrev Inv-loop : tie.InvT-loop
-Inv-loop n b out₀ i₀ out i = (i ≤ n) × (out ≡ filled i (λ j. minZ (lo out₀ j) (lo b j)) (λ j. maxZ (hi out₀ j) (hi b j)) out₀)
+Inv-loop n other out₀ i₀ out i = (i ≤ n) × (out ≡ filled i (λ j. minZ (lo out₀ j) (lo other j)) (λ j. maxZ (hi out₀ j) (hi other j)) out₀)
 
 abbrev μ-loop : tie.MeasureT-loop
-μ-loop n b out₀ i₀ out i = n - i
+μ-loop n other out₀ i₀ out i = n - i
 
 loop-holds : tie.Need-loop-holds Inv-loop μ-loop
-loop-holds c = (omega arith, filled-none _ _ _)
+loop-holds at-start = (omega arith, filled-none _ _ _)
 
 loop-again : tie.Need-loop-again Inv-loop μ-loop
-loop-again c =
-    let f : SFits w64 (c .max .result) = search needs in
-    let d = c .before .before .before in
-    let g : SFits w64 (d .min .result) = search needs in
-    let l = d .before .before .before .before .loop in
-    let h : l .i < N = omega arith in
-    let low = turn-lo _ _ (l .i) _ (l .inv .1) h in
-    let high = turn-hi-set _ _ (l .i) _ (l .inv .1) (toZ w64 (ofZ w64 (d .min .result))) in (
+loop-again at-max =
+    let upper-other = at-max .before in
+    let upper-out = upper-other .before in
+    let at-min = upper-out .before in
+    let lower-other = at-min .before in
+    let lower-out = lower-other .before in
+    let at-loop = lower-out .before .before in
+    let i = at-loop .loop .i in
+    let min-fits : SFits w64 (at-min .min .result) = search needs in
+    let max-fits : SFits w64 (at-max .max .result) = search needs in
+    let room : i < N = omega arith in
+    let low = turn-lo _ _ i _ (at-loop .loop .inv .1) room in
+    let high = turn-hi-set _ _ i _ (at-loop .loop .inv .1) (toZ w64 (ofZ w64 (at-min .min .result))) in (
       omega arith,
-      filled-more _ _ (l .i) _ (l .inv .1)
-          (toZ-ofZ g ∙ (d .min .ensures ∙ simp (told, d .before .min-arg2 .given, d .before .before .min-arg .given) (rw low refl)))
-          (toZ-ofZ f ∙ (c .max .ensures ∙ simp (told, c .before .max-arg2 .given, c .before .before .max-arg .given) (rw high refl))),
+      filled-more _ _ i _ (at-loop .loop .inv .1)
+          (toZ-ofZ min-fits ∙ (at-min .min .ensures ∙ simp (told, lower-other .min-arg2 .given, lower-out .min-arg .given) (rw low refl)))
+          (toZ-ofZ max-fits ∙ (at-max .max .ensures ∙ simp (told, upper-other .max-arg2 .given, upper-out .max-arg .given) (rw high refl))),
     )
 
 returns : tie.Need-returns Inv-loop μ-loop
 unfolding hull
-returns c =
-    let s = c .before .before in
-    let e : c .before .loop .i ≡ s .args .n = omega arith in
-    (rw e at (c .before .loop .inv .1)) ∙ filled-sides _ _ (s .args .n) _ (s .pre .0) (s .pre .1)
+returns at-return =
+    let at-loop = at-return .before in
+    let at-start = at-loop .before in
+    let all : at-loop .loop .i ≡ at-start .args .n = omega arith in
+    (rw all at (at-loop .loop .inv .1)) ∙ filled-sides _ _ (at-start .args .n) _ (at-start .pre .0) (at-start .pre .1)
 
 pub join-spec : {M : Type 1} → statement M
 join-spec =
