@@ -57,8 +57,8 @@ mul-if2 at-low =
     simp (low-is at-start, toZ-ofZ, at-start .fits .divisor) (low-fits at-start)
 
 floor-div-requires : tie.Need-floor-div-requires
-floor-div-requires c κs =
-    let at-start = c .before .before in
+floor-div-requires second κs =
+    let at-start = second .before .before in
     simp (toZ-ofZ, at-start .fits .dividend, at-start .fits .divisor) (division at-start)
 
 -- the outermost so far

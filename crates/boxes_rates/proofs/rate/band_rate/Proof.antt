@@ -29,12 +29,12 @@ module _ (at-test : tie.After-band-meets) where
   met-is = let at-upper = at-test .before in at-test .band-meets .ensures ∙ simp (told, at-upper .band-meets-arg2 .given, at-upper .before .band-meets-arg .given)
 
 band-meets-requires : tie.Need-band-meets-requires
-band-meets-requires c κs = let asked = c .before .before .pre in (asked .among, asked .rate .usable .bands)
+band-meets-requires at-upper κs = let asked = at-upper .before .before .pre in (asked .among, asked .rate .usable .bands)
 
 row-rate-requires : tie.Need-row-rate-requires
-row-rate-requires c κs =
-    let at-test = c .before in
-    (rw (toZ-ofZ (at-start at-test .fits .outermost)) (at-start at-test .pre), sym (met-is at-test) ∙ c .if1 .taken)
+row-rate-requires in-band κs =
+    let at-test = in-band .before in
+    (rw (toZ-ofZ (at-start at-test .fits .outermost)) (at-start at-test .pre), sym (met-is at-test) ∙ in-band .if1 .taken)
 
 -- the band is met
 returns : tie.Need-returns

@@ -74,15 +74,18 @@ side-below at-side =
     rw (at-side .cut-at .ensures) (cut-below (at-start .args .up) (at-start .args .i) (room at-start))
 
 narrow-requires : tie.Need-narrow-requires
-narrow-requires c κs =
-    let at-reach = c .before .before .before in
+narrow-requires at-old κs =
+    let at-reach = at-old .before .before .before in
     let at-start = at-reach .before in
     record { room = room at-start; near = simp (wide, at-reach .reach .given, reach-is at-start) (reach-bound at-start); start = asked at-start .start }
 
 -- the narrowed box B, and that it is the working box again with the saved side
 module _ (at-narrow : tie.After-narrow) where
+  abbrev at-old : tie.After-old
+  at-old = at-narrow .before .before
+
   abbrev at-side : tie.After-cut-at
-  at-side = at-narrow .before .before .before
+  at-side = at-old .before
 
   abbrev at-reach : tie.After-reach
   at-reach = at-side .before
@@ -97,11 +100,11 @@ module _ (at-narrow : tie.After-narrow) where
   narrowed = at-narrow .narrow .ensures ∙ simp (wide, at-reach .reach .given, reach-is start)
 
   put-back : set B (at-side .cut-at .result) (toZ w64 (ofZ w64 (E start ! (at-side .cut-at .result)))) ≡ E start
-  put-back = cut-back (start .args .up) (S start) (reach start) (E start) (start .args .i) narrowed (at-side .cut-at .ensures) (told w64 _ (at-narrow .before .before .old .given))
+  put-back = cut-back (start .args .up) (S start) (reach start) (E start) (start .args .i) narrowed (at-side .cut-at .ensures) (told w64 _ (at-old .old .given))
 
 rate-requires : tie.Need-rate-requires
-rate-requires c κs =
-    let at-narrow = c .before in
+rate-requires after-narrow κs =
+    let at-narrow = after-narrow .before in
     let at-start = start at-narrow in
     record {
       usable = asked at-start .usable;
@@ -117,8 +120,8 @@ returns at-rate =
     (toZ-ofZ rate-fits ∙ (at-rate .rate .ensures ∙ rw (narrowed at-narrow) refl), put-back at-narrow)
 
 -- the side that is cut, once the rate is there
-after-rate : (c : tie.After-rate) → at-side (c .before .before) .cut-at .result < boxSize
-after-rate c = side-below (at-side (c .before .before))
+after-rate : (at-rate : tie.After-rate) → at-side (at-rate .before .before) .cut-at .result < boxSize
+after-rate at-rate = side-below (at-side (at-rate .before .before))
 
 pub face-rate-spec : {M : Type 1} → statement M
 face-rate-spec =

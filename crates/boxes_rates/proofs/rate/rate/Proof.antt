@@ -38,8 +38,8 @@ loop-holds at-neutral =
     (omega arith, toZ-ofZ neutral-fits ∙ (at-neutral .neutral .ensures ∙ simp (wide, at-neutral .before .neutral-arg .given)))
 
 band-rate-requires : tie.Need-band-rate-requires Inv-loop μ-loop
-band-rate-requires c κs =
-    let at-loop = c .before .before in
+band-rate-requires in-turn κs =
+    let at-loop = in-turn .before .before in
     let at-start = at-loop .before .before .before in
     let asked = at-start .pre in
     let a = at-start .args in

@@ -35,7 +35,7 @@ abbrev μ-loop : tie.MeasureT-loop
 
 loop-holds : tie.Need-loop-holds Inv-loop μ-loop
 unfolding boxOf
-loop-holds c = record { turns = omega arith; room = c .before .pre .usable .vars; work = refl; rated = refl }
+loop-holds at-zeros = record { turns = omega arith; room = at-zeros .before .pre .usable .vars; work = refl; rated = refl }
 
 module _ (at-loop : tie.At-loop Inv-loop μ-loop) where
   abbrev at-start : tie.Start Inv-loop μ-loop
@@ -64,10 +64,10 @@ module _ (at-lower : tie.After-face-rate Inv-loop μ-loop) where
   same-work = at-lower .face-rate .ensures .1 ∙ loop .loop .inv .work
 
 face-rate-requires : tie.Need-face-rate-requires Inv-loop μ-loop
-face-rate-requires c κs = let at-loop = c .before .before .before in (asked at-loop (at-loop .loop .inv .work), omega arith)
+face-rate-requires in-turn κs = let at-loop = in-turn .before .before .before in (asked at-loop (at-loop .loop .inv .work), omega arith)
 
 face-rate-requires-2 : tie.Need-face-rate-requires-2 Inv-loop μ-loop
-face-rate-requires-2 c κs = let at-lower = c .before in (asked (loop at-lower) (same-work at-lower), omega arith)
+face-rate-requires-2 after-lower κs = let at-lower = after-lower .before in (asked (loop at-lower) (same-work at-lower), omega arith)
 
 loop-again : tie.Need-loop-again Inv-loop μ-loop
 loop-again at-upper =

@@ -86,7 +86,7 @@ bound-spec =
     (λ c. search needs)
     (λ c. search needs)
     (λ c. search (needs, up32))
-    (λ c κs. c .before .pre .0)
+    (λ at-constant κs. at-constant .before .pre .0)
     add-result
     add-result-2
     returns)

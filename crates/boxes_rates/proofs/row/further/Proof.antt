@@ -66,25 +66,25 @@ module _ (at-divisor : tie.After-divisor) where
   below-fits = fits64 (below .dividend) tt
 
 add-highest : tie.Need-add-highest
-add-highest c =
-    let at-divisor = c .before in
+add-highest upper =
+    let at-divisor = upper .before in
     simp (toZ-ofZ, at-start at-divisor .fits .number, spread-is at-divisor) (above-fits at-divisor)
 
 highest-requires : tie.Need-highest-requires
-highest-requires c κs =
-    let at-divisor = c .before in
+highest-requires upper κs =
+    let at-divisor = upper .before in
     let fits = at-start at-divisor .fits in
     simp (toZ-ofZ, fits .number, spread-is at-divisor, divisor-is at-divisor, above-fits at-divisor, fits .outermost, fits .cap)
     (above at-divisor, at-start at-divisor .pre .capped)
 
 sub-lowest : tie.Need-sub-lowest
-sub-lowest c =
-    let at-divisor = c .before in
+sub-lowest lower =
+    let at-divisor = lower .before in
     simp (toZ-ofZ, at-start at-divisor .fits .number, spread-is at-divisor) (below-fits at-divisor)
 
 lowest-requires : tie.Need-lowest-requires
-lowest-requires c κs =
-    let at-divisor = c .before in
+lowest-requires lower κs =
+    let at-divisor = lower .before in
     let fits = at-start at-divisor .fits in
     simp (toZ-ofZ, fits .number, spread-is at-divisor, divisor-is at-divisor, below-fits at-divisor, fits .outermost, fits .cap)
     (below at-divisor, at-start at-divisor .pre .capped)

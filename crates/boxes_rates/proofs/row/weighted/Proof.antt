@@ -35,7 +35,7 @@ abbrev μ-loop : tie.MeasureT-loop
 
 loop-holds : tie.Need-loop-holds Inv-loop μ-loop
 unfolding weighted sum
-loop-holds c = record { turns = omega arith; same = refl; near = bound-lit (pos 0) }
+loop-holds at-start = record { turns = omega arith; same = refl; near = bound-lit (pos 0) }
 
 term-requires : tie.Need-term-requires Inv-loop μ-loop
 term-requires at-upper κs =

@@ -45,15 +45,24 @@ module _ (at-loop : tie.At-loop Inv-loop μ-loop) where
       leZ (lo A i) (hi B i) && leZ (lo B i) (hi A i)
 
 module _ (at-test : tie.After-both-le Inv-loop μ-loop) where
+  -- the four sides are read
+  abbrev fourth : tie.After-both-le-arg4 Inv-loop μ-loop
+  fourth = at-test .before
+
+  abbrev third : tie.After-both-le-arg3 Inv-loop μ-loop
+  third = fourth .before
+
+  abbrev second : tie.After-both-le-arg2 Inv-loop μ-loop
+  second = third .before
+
+  abbrev first : tie.After-both-le-arg Inv-loop μ-loop
+  first = second .before
+
   abbrev at-loop : tie.At-loop Inv-loop μ-loop
-  at-loop = at-test .before .before .before .before .before .before
+  at-loop = first .before .before
 
   test-is : at-test .both-le .result ≡ shares at-loop
   test-is =
-      let fourth = at-test .before in
-      let third = fourth .before in
-      let second = third .before in
-      let first = second .before in
       let room : i at-loop < N = omega arith in
       at-test .both-le .ensures
       ∙ rw (

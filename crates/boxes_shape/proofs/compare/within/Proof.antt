@@ -31,15 +31,24 @@ lies at-loop =
     leZ (lo B i) (lo A i) && leZ (hi A i) (hi B i)
 
 module _ (at-test : tie.After-both-le Inv-loop μ-loop) where
+  -- the four sides are read
+  abbrev fourth : tie.After-both-le-arg4 Inv-loop μ-loop
+  fourth = at-test .before
+
+  abbrev third : tie.After-both-le-arg3 Inv-loop μ-loop
+  third = fourth .before
+
+  abbrev second : tie.After-both-le-arg2 Inv-loop μ-loop
+  second = third .before
+
+  abbrev first : tie.After-both-le-arg Inv-loop μ-loop
+  first = second .before
+
   abbrev at-loop : tie.At-loop Inv-loop μ-loop
-  at-loop = at-test .before .before .before .before .before .before
+  at-loop = first .before .before
 
   test-is : at-test .both-le .result ≡ lies at-loop
   test-is =
-      let fourth = at-test .before in
-      let third = fourth .before in
-      let second = third .before in
-      let first = second .before in
       at-test .both-le .ensures ∙ simp (told, fourth .both-le-arg4 .given, third .both-le-arg3 .given, second .both-le-arg2 .given, first .both-le-arg .given)
 
 -- a variable does not

@@ -140,20 +140,20 @@ loop-again at-max =
     let at-min = upper-read .before in
     let lower-read = at-min .before in
     let at-high = lower-read .before in
-    let l = loop at-high in
-    let inv = l .loop .inv in
+    let turn = loop at-high in
+    let inv = turn .loop .inv in
     let max-fits : SFits w64 (at-max .max .result) = search needs in
     let min-fits : SFits w64 (at-min .min .result) = search needs in
     let low = low-is (at-low at-high) in
     let high = high-is at-high in
     record {
       turns = omega (arith, more (at-low at-high));
-      at = filled-more _ _ (i l) _ (inv .at) low high;
-      work = filled-more _ _ (i l) _ (inv .work) low high;
+      at = filled-more _ _ (i turn) _ (inv .at) low high;
+      work = filled-more _ _ (i turn) _ (inv .work) low high;
       path =
-          filled-more _ _ (i l) _ (inv .path)
-          (toZ-ofZ min-fits ∙ (at-min .min .ensures ∙ ap₂ minZ (told w64 _ (lower-read .min-arg .given) ∙ low-was l (room (at-low at-high))) low))
-          (toZ-ofZ max-fits ∙ (at-max .max .ensures ∙ ap₂ maxZ (told w64 _ (upper-read .max-arg .given) ∙ high-was l) high));
+          filled-more _ _ (i turn) _ (inv .path)
+          (toZ-ofZ min-fits ∙ (at-min .min .ensures ∙ ap₂ minZ (told w64 _ (lower-read .min-arg .given) ∙ low-was turn (room (at-low at-high))) low))
+          (toZ-ofZ max-fits ∙ (at-max .max .ensures ∙ ap₂ maxZ (told w64 _ (upper-read .max-arg .given) ∙ high-was turn) high));
     }
 
 returns : tie.Need-returns Inv-loop μ-loop

@@ -145,27 +145,27 @@ module _ (at-test : tie.After-both-le Inv-loop μ-loop) where
   abbrev at-max : tie.After-max Inv-loop μ-loop
   at-max = at-lower .before .before
 
-  test-is : let l = loop at-max in at-test .both-le .result ≡ (leZ (lo (E l) (i l)) (lo (M l) (i l)) && leZ (hi (M l) (i l)) (hi (E l) (i l)))
+  test-is : let turn = loop at-max in at-test .both-le .result ≡ (leZ (lo (E turn) (i turn)) (lo (M turn) (i turn)) && leZ (hi (M turn) (i turn)) (hi (E turn) (i turn)))
   test-is =
-      let l = loop at-max in
+      let turn = loop at-max in
       at-test .both-le .ensures
       ∙ ap₂ _&&_
       (ap₂ leZ (told w64 _ (at-lower .both-le-arg .given) ∙ low-was at-max) (low-is (at-min at-max)))
-      (ap₂ leZ (high-is at-max) (told w64 _ (at-upper .both-le-arg2 .given) ∙ turn-hi _ _ (i l) (E l) (l .loop .inv .joined)))
+      (ap₂ leZ (high-is at-max) (told w64 _ (at-upper .both-le-arg2 .given) ∙ turn-hi _ _ (i turn) (E turn) (turn .loop .inv .joined)))
 
 -- the test of the first variables, up to i: it was made only if those before passed
-inside-is : (at-joined : tie.Joined1 Inv-loop μ-loop) → let l = loop (at-joined .before) in at-joined .if1 .inside ≡ within (i l + 1) (M l) (E l)
+inside-is : (at-joined : tie.Joined1 Inv-loop μ-loop) → let turn = loop (at-joined .before) in at-joined .if1 .inside ≡ within (i turn + 1) (M turn) (E turn)
 unfolding within
 inside-is at-joined =
-    let l = loop (at-joined .before) in
-    let passed = l .loop .inv .test in
+    let turn = loop (at-joined .before) in
+    let passed = turn .loop .inv .test in
     ⊎-elim
     (λ w. let at-test : tie.After-both-le Inv-loop μ-loop = record {
       before = record { before = record { before = record { before = at-joined .before; if1 = w .0 }; both-le-arg = w .1 }; both-le-arg2 = w .2 };
       both-le = w .3;
     } in
-    w .4 ∙ (test-is at-test ∙ sym (all-last (i l) _ (sym passed ∙ w .0 .taken))))
-    (λ w. w .1 ∙ (w .0 .left ∙ sym (all-false (i l) _ (sym passed ∙ w .0 .left))))
+    w .4 ∙ (test-is at-test ∙ sym (all-last (i turn) _ (sym passed ∙ w .0 .taken))))
+    (λ w. w .1 ∙ (w .0 .left ∙ sym (all-false (i turn) _ (sym passed ∙ w .0 .left))))
     (at-joined .if1 .came)
 
 loop-again : tie.Need-loop-again Inv-loop μ-loop
@@ -175,16 +175,16 @@ loop-again at-upper =
     let lower-read = at-lower .before in
     let at-joined = lower-read .before in
     let at-max = at-joined .before in
-    let l = loop at-max in
-    let inv = l .loop .inv in
+    let turn = loop at-max in
+    let inv = turn .loop .inv in
     let max-fits : SFits w64 (at-upper .max2 .result) = search needs in
     let min-fits : SFits w64 (at-lower .min2 .result) = search needs in
-    let high-was = turn-hi-set _ _ (i l) (E l) (inv .joined) (toZ w64 (ofZ w64 (at-lower .min2 .result))) in
+    let high-was = turn-hi-set _ _ (i turn) (E turn) (inv .joined) (toZ w64 (ofZ w64 (at-lower .min2 .result))) in
     record {
       turns = omega (arith, more (at-min at-max));
       test = inside-is at-joined;
       joined =
-          filled-more _ _ (i l) (E l) (inv .joined)
+          filled-more _ _ (i turn) (E turn) (inv .joined)
           (toZ-ofZ min-fits ∙ (at-lower .min2 .ensures ∙ ap₂ minZ (told w64 _ (lower-read .min-arg2 .given) ∙ low-was at-max) (low-is (at-min at-max))))
           (toZ-ofZ max-fits ∙ (at-upper .max2 .ensures ∙ ap₂ maxZ (told w64 _ (upper-read .max-arg2 .given) ∙ high-was) (high-is at-max)));
     }
