@@ -19,7 +19,7 @@ pub const SIDES: u8 = 15;
 
 pub const TICKS: u8 = 16;
 
-// The greatest ticks and width of a reach, and the greatest side of its start box, without its sign.
+// The most ticks and the greatest width of a reach, and the greatest side of its start box, without its sign.
 const MAX_TICKS: u32 = 1000;
 
 const MAX_WIDTH: u32 = 1000;

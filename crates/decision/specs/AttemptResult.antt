@@ -1,5 +1,4 @@
 -- What an attempt of the code comes to, in the terms of the definitions.
-use Prim.Native.Nat.{ℕ}
 use Rattle.boxes_spec.specs.Step.{Result, ok, failed, exhausted}
 use Rattle.decision.specs.declared.attempt.AttemptResult.{AttemptResult}
 use Rattle.decision.specs.declared.attempt.AttemptResult.the-variants.{Succeeded, Failed, Exhausted}

@@ -82,7 +82,7 @@ pub fn has_passed(recovery: Recovery) -> bool
     }
 }
 
-// The number of an answer has the rounds below the width, and the width below the code.
+// In the number of an answer the rounds are counted in ones, the width in 2^32 and the code in 2^48.
 const WIDTH_UNIT: u64 = 0x1_0000_0000;
 
 const CODE_UNIT: u64 = 0x1_0000_0000_0000;

@@ -51,29 +51,29 @@ returns at-return = rw (at-return .if1 .taken) refl
 returns-2 : tie.Need-returns-2
 unfolding lawRefusal lawOf
 returns-2 at-return =
-    let least = at-return .before in
-    let fits = least-fits least in
-    rw (commanded least .if1 .left) (rw (le-not (leastCommand (v least)) (u least) (omega (ints, at-return .if2 .taken))) refl)
+    let read-least = at-return .before in
+    let fits = least-fits read-least in
+    rw (commanded read-least .if1 .left) (rw (le-not (leastCommand (v read-least)) (u read-least) (omega (ints, at-return .if2 .taken))) refl)
 
 -- above the greatest
 returns-3 : tie.Need-returns-3
 unfolding lawRefusal lawOf
 returns-3 at-return =
-    let greatest = at-return .before in
-    let least = at-least greatest in
-    let fits = greatest-fits greatest in
-    rw (commanded least .if1 .left)
-    (rw (le-is (leastCommand (v least)) (u least) (above greatest), le-not (u least) (greatestCommand (v least)) (omega (ints, at-return .if3 .taken))) refl)
+    let read-greatest = at-return .before in
+    let read-least = at-least read-greatest in
+    let fits = greatest-fits read-greatest in
+    rw (commanded read-least .if1 .left)
+    (rw (le-is (leastCommand (v read-least)) (u read-least) (above read-greatest), le-not (u read-least) (greatestCommand (v read-least)) (omega (ints, at-return .if3 .taken))) refl)
 
 -- between them
 returns-4 : tie.Need-returns-4
 unfolding lawRefusal lawOf
 returns-4 at-return =
-    let greatest = at-return .before in
-    let least = at-least greatest in
-    let fits = greatest-fits greatest in
-    rw (commanded least .if1 .left)
-    (rw (le-is (leastCommand (v least)) (u least) (above greatest), le-is (u least) (greatestCommand (v least)) (omega (ints, at-return .if3 .left))) refl)
+    let read-greatest = at-return .before in
+    let read-least = at-least read-greatest in
+    let fits = greatest-fits read-greatest in
+    rw (commanded read-least .if1 .left)
+    (rw (le-is (leastCommand (v read-least)) (u read-least) (above read-greatest), le-is (u read-least) (greatestCommand (v read-least)) (omega (ints, at-return .if3 .left))) refl)
 
 pub law-refusal-spec : {M : Type 1} → statement M
 law-refusal-spec = tie.close (tie.spec returns (λ c. search needs) returns-2 (λ c. search needs) returns-3 returns-4)

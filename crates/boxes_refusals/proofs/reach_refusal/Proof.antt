@@ -46,8 +46,8 @@ unfolding reachRefusal
 returns-3 at-return =
     let lawful = at-return .before in
     let at-law = lawful .before in
-    let s = at-start at-law in
-    at-return .sides-refusal .ensures ∙ ap (λ (i : ℕ). sidesRefusal i (s .args .start .now)) (s .pre .0)
+    let asked = at-start at-law in
+    at-return .sides-refusal .ensures ∙ ap (λ (i : ℕ). sidesRefusal i (asked .args .start .now)) (asked .pre .0)
     ∙ or-go _ (law-is at-law) (lawful .if2 .left) ∙ or-go _ (at-ticks at-law .ticks-refusal .ensures) (timed at-law .if1 .left)
 
 pub reach-refusal-spec : {M : Type 1} → statement M

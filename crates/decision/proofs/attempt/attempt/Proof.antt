@@ -1,7 +1,6 @@
 -- `attempt` does what the definition's attempt does, but for the box and why it fails: one phase after another, then the test
 -- against the recovery box. Assumes nothing.
 use mathlib.Core.Path.{_≡_, sym, ap, _∙_}
-use mathlib.Core.Bool.{Bool}
 use mathlib.Core.List.{List, [], _∷_}
 use Prim.Native.Nat.{ℕ, _+_, _*_, _≤_}
 use native.Mathlib.Omega.{arith}
