@@ -73,7 +73,7 @@ fn command_term(up: bool, plant: Plant, sheet: &[i32; SLOTS], row: usize, band: 
     product(coefficient, plant.command)
 }
 
-// The outer one of the outermost so far and of the band's share in the rate of variable i over the box, where they meet.
+// The outer one of the outermost so far and of the band's share in the rate of variable i over the box, if they meet.
 fn row_rate(
     up: bool,
     plant: Plant,
