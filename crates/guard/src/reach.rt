@@ -1,5 +1,5 @@
 // The reach as a call on bytes: a sheet, a start box as pairs of sides, and a lent buffer for the end box and the swept box. The
-// answer is one 64-bit number. specs/ReachCall.antt says what is answered and what is left in the buffer, for all inputs;
+// answer is one 64-bit number. decision_spec/specs/ReachCall says what is answered and what is left in the buffer, for all inputs;
 // `guard` exports it to C.
 ghost use mathlib.Core.Path.{_≡_};
 ghost use Prim.Native.Nat.{_≤_};
