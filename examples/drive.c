@@ -224,7 +224,7 @@ static bool forbidden(const struct sheet *sheet, const struct sledge *sledge)
 
 /* ---- moving a box on to the period's start ---------------------------------------------------- */
 
-/* By a reach under the law that acts now: its end box holds the state so many ticks later. At width
+/* By a reach under the law that acts now: its end box holds the state after the ticks. At width
  * 1 it takes one round for each tick. False if it is refused: then there is no box to ask about. */
 static bool move_by_reach(const struct sheet *sheet, struct law now, uint32_t ticks,
                           struct box *box)
@@ -292,7 +292,7 @@ static bool ask(const struct sheet *sheet, const struct box *box, int32_t comman
     return guard_code(answer) == GUARD_KEEP;
 }
 
-/* So many ticks under the command, or under the plain law, which reads the sensors every tick. */
+/* A number of ticks under the command, or under the plain law, which reads the sensors every tick. */
 static void act(const struct sheet *sheet, struct sledge *sledge, struct law now, int32_t ticks,
                 struct summary *summary)
 {

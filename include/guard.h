@@ -133,7 +133,7 @@ uint64_t guard_sheet_read(const uint8_t *sheet, size_t sheet_length, int32_t num
 uint64_t guard_sheet_write(const int32_t numbers[GUARD_NUMBERS], uint8_t *buffer, size_t buffer_length,
                            uint64_t place);
 
-/* A reach of so many ticks (0 to 1,000) at a width (1 to 1,000) from a start box. Law 0 is the plain
+/* A reach of a number of ticks (0 to 1,000) at a width (1 to 1,000) from a start box. Law 0 is the plain
  * law (command is then not looked at), any other law is the command. start is n pairs of lower and
  * upper side, as in a question. out gets the n pairs of the end box and then those of the swept box:
  * its first 16n bytes, and no others. Answers the rounds. Refused with 1 to 11, then 16, 14, 15 (also

@@ -345,7 +345,7 @@ static void expect_mark(const char *mark)
     next += 2;
 }
 
-/* The next field has so many bytes and the number of a slot. */
+/* The next field has this number of bytes and the number of a slot. */
 static void expect_field(size_t slot, size_t size)
 {
     uint64_t bits = 0;

@@ -149,7 +149,7 @@ impl<W: Watch> Watch for Safety<'_, W> {
     }
 }
 
-/// One reach of an attempt: so many ticks under a law.
+/// One reach of an attempt: a number of ticks under a law.
 type Leg = (Law, u32);
 
 /// All legs in turn at one width, each from the last one's end box.

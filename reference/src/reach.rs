@@ -54,7 +54,7 @@ pub trait Watch {
     #[inline]
     fn bound(&mut self, _before: i64, _after: i64) {}
 
-    /// The step begins again with so many ticks.
+    /// The step begins again with this number of ticks.
     #[inline]
     fn halved(&mut self, _ticks: u32) {}
 
@@ -214,7 +214,7 @@ fn round<const N: usize, W: Watch>(
     rates
 }
 
-/// The start box with each face moved by so many rates.
+/// The start box with each face moved by a number of rates.
 #[inline]
 fn moved<const N: usize>(start: &StateBox, rates: &Rates, times: u32) -> StateBox {
     let times = i64::from(times);

@@ -93,7 +93,7 @@ fn steps(sheet: &Sheet, subject: Subject, width: u32) -> Trace {
     }
 }
 
-/// The attempt with so many rounds left.
+/// The attempt with a number of rounds left.
 fn cut(sheet: &Sheet, width: u32, trace: Trace, left: u64) -> Attempt {
     if trace.rounds <= left {
         return Attempt {

@@ -151,7 +151,7 @@ fn narrow(up: bool, start: &[i64; BOX_SIZE], reach: i64, work: &mut [i64; BOX_SI
     }
 }
 
-// The rate of a face of variable i in a step of so many ticks from `start`, with the working box. The neighborhood is made in
+// The rate of a face of variable i in a step of `ticks` ticks from `start`, with the working box. The neighborhood is made in
 // `work`, which is then as it was.
 fn face_rate(
     up: bool,

@@ -13,7 +13,7 @@ use boxes_arithmetic::min;
 use sheet_spec::slots::BOX_SIZE;
 use sheet_spec::slots::N;
 
-// A side moved by so many ticks of its rate.
+// A side moved by its rate for `ticks` ticks.
 fn along(side: i64, ticks: usize, rate: i64) -> i64
     requires { ⌜ SideMovable side ticks rate ⌝ }
     ensures { λ r. ⌜ r ≡ side +ℤ pos ticks *ℤ rate ⌝ }
@@ -21,7 +21,7 @@ fn along(side: i64, ticks: usize, rate: i64) -> i64
     side + (ticks as i64) * rate
 }
 
-// Whether the hull of `start` and of `start` moved by so many ticks of its rates lies in `work`, which becomes the hull of both.
+// Whether the hull of `start` and of `start` moved by its rates for `ticks` ticks lies in `work`, which becomes the hull of both.
 pub fn grow(
     n: usize,
     start: &[i64; BOX_SIZE],
@@ -47,7 +47,7 @@ pub fn grow(
     inside
 }
 
-// `at` moves on by so many ticks of its rates, `work` becomes the same box, and `path` the hull of both ends.
+// `at` moves on by its rates for `ticks` ticks, `work` becomes the same box, and `path` the hull of both ends.
 pub fn arrive(
     n: usize,
     ticks: usize,

@@ -28,7 +28,7 @@ pub enum StepResult {
     Exhausted { count: u32 },
 }
 
-// One round of so many ticks with the working box: whether it settles. `face_rates` becomes its rates, and if it does not settle
+// One round of `ticks` ticks with the working box: whether it settles. `face_rates` becomes its rates, and if it does not settle
 // `work` becomes the next working box.
 fn round(
     plant: Plant,
@@ -56,7 +56,7 @@ fn is_exhausted(budget: Budget, count: u32) -> bool
     }
 }
 
-// Up to eight rounds of so many ticks. The first working box is `start`, which `work` is at first. `face_rates` becomes the rates of
+// Up to eight rounds of `ticks` ticks. The first working box is `start`, which `work` is at first. `face_rates` becomes the rates of
 // the last round.
 fn rounds(
     budget: Budget,

@@ -14,7 +14,7 @@ use std::ops::ControlFlow;
 #[derive(Clone, Copy, Debug, PartialEq, Eq)]
 enum Covers {
     Variables(i32),
-    /// A neighborhood over so many bands.
+    /// A neighborhood over this number of bands.
     BandsMet(usize),
     /// A row with a spread that a round used.
     Spread,

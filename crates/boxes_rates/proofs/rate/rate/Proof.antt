@@ -1,4 +1,4 @@
--- `rate` gives the outermost over all bands. Invariant: after so many turns, that of so many bands. Measure: the bands left.
+-- `rate` gives the outermost over all bands. Invariant: after `band` turns, that of the first `band` bands. Measure: the bands left.
 -- Assumes nothing.
 use mathlib.Core.Path.{_≡_, refl, _∙_}
 use Prim.Native.Nat.{_≤_, _-_}

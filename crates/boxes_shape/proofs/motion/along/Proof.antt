@@ -1,4 +1,4 @@
--- `along` gives a side moved by so many ticks of its rate. Assumes nothing.
+-- `along` gives a side moved by its rate for a number of ticks. Assumes nothing.
 use mathlib.Core.Path.{_≡_}
 use native.Mathlib.Omega.{arith}
 use lib.IntN.{pos, _+ℤ_, _*ℤ_}
