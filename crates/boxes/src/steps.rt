@@ -93,10 +93,10 @@ fn tested_step(
     );
     match r {
         StepResult::Settled {
-            ticks,
+            ticks: covered,
             count: after,
         } => {
-            arrive(plant.n, ticks, &rates, work, at, swept);
+            arrive(plant.n, covered, &rates, work, at, swept);
             if meets_unsafe(plant.n, swept, sheet, plan.boxes) {
                 return ReachResult::Unsafe {
                     left: left,
@@ -104,7 +104,7 @@ fn tested_step(
                 };
             }
             ReachResult::Ended {
-                ticks: ticks,
+                ticks: covered,
                 count: after,
             }
         }
