@@ -23,7 +23,7 @@ use Rattle.boxes_spec.specs.Step.{Result, ok, failed, unsafe, andThen, Step, st
 use Rattle.boxes_spec.specs.Reach.{Reached, testedStep, steps, reach}
 use Rattle.boxes.specs.ReachResult.{resultOf, testedStepOf, reachedOf, isEnded}
 use Rattle.boxes.proofs.steps.ReachResult.{the-type}
-use Rattle.machine_spec.proofs.Box.{differ}
+use Rattle.sheet_spec.proofs.Box.{differ}
 
 -- ---- a tested step
 

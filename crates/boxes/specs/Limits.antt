@@ -3,7 +3,7 @@ use mathlib.Core.Path.{_≡_}
 use mathlib.Core.List.{List}
 use Prim.Native.Nat.{ℕ, _+_, _*_, _≤_, _<_}
 use lib.IntN.{ℤ}
-use Rattle.sheet_spec.specs.Slots.{maxBoxes}
+use Rattle.sheet_spec.specs.Limits.{maxBoxes}
 use Rattle.machine_spec.specs.Box.{trim}
 use Rattle.boxes_arithmetic.specs.Limits.{SidesWithin}
 use Rattle.boxes_rates.specs.Plant.{Usable}

@@ -9,7 +9,8 @@ use lib.ListN.{set, replicate}
 use Rattle.integers.specs.Bound.{Bound}
 use Rattle.integers.proofs.Z.{ints, min-is, max-is, sum, sub, neg, bound-sum, bound-mul, bound-lit, bound-less, bound-in}
 use Rattle.sheet_spec.specs.Slots.{_!_, N, boxSize}
-use Rattle.machine_spec.specs.Box.{lo, hi, boxOf, trim, hull, moved}
+use Rattle.sheet_spec.specs.Box.{lo, hi}
+use Rattle.machine_spec.specs.Box.{boxOf, trim, hull, moved}
 use Rattle.machine_spec.specs.Machine.{Machine, cap}
 use Rattle.machine_spec.specs.Rate.{outer, rate, neighborhood, faceRate, rates}
 use Rattle.boxes_arithmetic.specs.Limits.{SidesWithin}

@@ -13,7 +13,7 @@ use Rattle.sheet_spec.specs.Valid.{Valid}
 use Rattle.machine_spec.specs.Machine.{Law, machine, leastOf, greatestOf, bandMeets, lawOf}
 use Rattle.machine_spec.specs.Rate.{outer, outermost}
 use Rattle.boxes_rates.specs.Plant.{Usable}
-use Rattle.machine_spec.proofs.Box.{le-is, le-not}
+use Rattle.sheet_spec.proofs.Box.{le-is, le-not}
 
 pub outermost-more : (up : Bool) (z : ℤ) (n : ℕ) (f : ℕ → ℤ) → outermost up z (n + 1) f ≡ outer up (outermost up z n f) (f n)
 unfolding outermost

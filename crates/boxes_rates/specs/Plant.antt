@@ -4,7 +4,8 @@ use mathlib.Core.List.{List}
 use Prim.Native.Nat.{ℕ, _+_, _≤_, _<_}
 use lib.IntN.{ℤ, pos}
 use lib.Signed.{_≤ℤ_}
-use Rattle.sheet_spec.specs.Slots.{N, maxBands}
+use Rattle.sheet_spec.specs.Limits.{maxBands}
+use Rattle.sheet_spec.specs.Slots.{N}
 use Rattle.sheet_spec.specs.Valid.{Between}
 use Rattle.boxes_rates.specs.declared.Plant.{Plant}
 use Rattle.machine_spec.specs.Machine.{lawOf, Machine, cap, rowOf}

@@ -3,8 +3,9 @@ ghost use mathlib.Core.Path.{_≡_};
 ghost use mathlib.Core.Bool.{true};
 ghost use Prim.Native.Nat.{_+_, _≤_, _<_};
 ghost use Rattle.integers.specs.Bound.{Bound};
+ghost use Rattle.sheet_spec.specs.Limits.{maxBands};
 ghost use Rattle.sheet_spec.specs.Slots as slots;
-ghost use Rattle.machine_spec.specs.Box.{hi, lo};
+ghost use Rattle.sheet_spec.specs.Box.{hi, lo};
 ghost use Rattle.machine_spec.specs.Machine.{bandMeets};
 ghost use Rattle.machine_spec.specs.Rate.{bandRate, faceRate, neighborhood, neutral, outer, rate, rates};
 ghost use Rattle.boxes_rates.specs.Limits.{BandAsked, CommandTerm, NarrowAsked, RateAsked, RatesAsked};
@@ -30,7 +31,7 @@ use sheet_spec::slots::SLOTS;
 
 // The band has a number from `low` to `high`.
 fn band_meets(sheet: &[i32; SLOTS], bands: usize, band: usize, low: i64, high: i64) -> bool
-    requires { ⌜ (band < bands) × (bands ≤ slots.maxBands) ⌝ }
+    requires { ⌜ (band < bands) × (bands ≤ maxBands) ⌝ }
     ensures { λ r. ⌜ r ≡ bandMeets (now (sheet .entry)) bands band low high ⌝ }
 {
     let edge = FIRST_BAND + band * BAND_SIZE;
@@ -55,7 +56,7 @@ fn neutral(up: bool, cap: i64) -> i64
 
 // The outer one of b·u over the law's commands u in the band, where b is that of the row at a slot.
 fn command_term(up: bool, plant: Plant, sheet: &[i32; SLOTS], row: usize, band: usize) -> i64
-    requires { ⌜ (row + slots.rowSize ≤ slots.slots) × (band < slots.maxBands) ⌝ }
+    requires { ⌜ (row + slots.rowSize ≤ slots.slots) × (band < maxBands) ⌝ }
     ensures { λ r. ⌜ CommandTerm up (machineOf plant (now (sheet .entry))) (slots.rowAt (now (sheet .entry)) row) band r ⌝ }
 {
     let slot = row + ROW_B;

@@ -4,11 +4,13 @@ use mathlib.Core.Bool.{Bool, true, false}
 use mathlib.Core.List.{List}
 use Prim.Native.Nat.{ℕ, _+_, _<_}
 use lib.IntN.{ℤ}
-use Rattle.machine_spec.specs.Box.{lo, hi, all, trim}
+use Rattle.sheet_spec.specs.Box.{lo, hi, all}
+use Rattle.machine_spec.specs.Box.{trim}
 use Rattle.boxes_arithmetic.specs.Limits.{SidesWithin}
-use Rattle.machine_spec.proofs.Box.{all-more, all-stop}
+use Rattle.sheet_spec.proofs.Box.{all-more, all-stop}
 use Rattle.boxes_rates.proofs.Bounds.{sides-bound}
-use Rattle.boxes_spec.specs.Reach.{maxSide, inRange, sidesRefusal}
+use Rattle.sheet_spec.specs.Limits.{maxSide}
+use Rattle.boxes_spec.specs.Reach.{inRange, sidesRefusal}
 use Rattle.boxes_spec.proofs.Count.{cond-zero}
 use Rattle.boxes_spec.proofs.Ranges.{start-sized}
 

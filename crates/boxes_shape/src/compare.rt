@@ -3,8 +3,10 @@
 // are in machine_spec/specs/Box.
 ghost use mathlib.Core.Path.{_≡_};
 ghost use Prim.Native.Nat.{_+_, _≤_};
+ghost use Rattle.sheet_spec.specs.Limits.{maxBoxes};
 ghost use Rattle.sheet_spec.specs.Slots as slots;
-ghost use Rattle.machine_spec.specs.Box.{any, meets, trim, within};
+ghost use Rattle.sheet_spec.specs.Box.{any, meets};
+ghost use Rattle.machine_spec.specs.Box.{trim, within};
 use boxes_arithmetic::both_le;
 use sheet_spec::slots::BOX_SIZE;
 use sheet_spec::slots::FIRST_UNSAFE;
@@ -86,7 +88,7 @@ pub fn meets(n: usize, boxed: &[i64; BOX_SIZE], sheet: &[i32; SLOTS], slot: usiz
 
 // The box shares a state with one of the first `count` no-go boxes.
 pub fn meets_unsafe(n: usize, boxed: &[i64; BOX_SIZE], sheet: &[i32; SLOTS], count: usize) -> bool
-    requires { ⌜ (n ≤ slots.N) × (count ≤ slots.maxBoxes) ⌝ }
+    requires { ⌜ (n ≤ slots.N) × (count ≤ maxBoxes) ⌝ }
     ensures { λ r. ⌜ r ≡ any count (λ j. meets n (now (boxed .entry)) (slots.unsafeBox (now (sheet .entry)) j)) ⌝ }
 {
     let mut tested: usize = 0;

@@ -8,7 +8,7 @@ use lib.ListN.{replicate}
 use Rattle.sheet_spec.specs.Slots.{N}
 use Rattle.sheet_spec.specs.Sheet.{values}
 use Rattle.sheet_spec.specs.SheetA.{fileA}
-use Rattle.machine_spec.specs.Box.{lo, hi}
+use Rattle.sheet_spec.specs.Box.{lo, hi}
 use Rattle.machine_spec.specs.Machine.{command, Machine, machine}
 use Rattle.boxes_spec.specs.Step.{lifted, settles, endBox, grown, swept}
 use Rattle.boxes_spec.proofs.Everything.{everything}

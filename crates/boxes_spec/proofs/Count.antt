@@ -9,9 +9,10 @@ use lib.IntN.{ℤ}
 use borrow.Author.Tests.{leb-true}
 use Rattle.sheet_spec.specs.Slots.{N, vars}
 use Rattle.sheet_spec.specs.Valid.{Valid}
-use Rattle.machine_spec.specs.Box.{any, trim}
+use Rattle.sheet_spec.specs.Box.{any}
+use Rattle.machine_spec.specs.Box.{trim}
 use Rattle.machine_spec.specs.Machine.{Law, Machine, machine}
-use Rattle.machine_spec.proofs.Box.{differ, and-both}
+use Rattle.sheet_spec.proofs.Box.{differ, and-both}
 use Rattle.machine_spec.proofs.Inside.{trim-holds}
 use Rattle.machine_spec.proofs.Sound.{proper}
 use Rattle.boxes_spec.specs.Step.{Failure, unsettled, Result, ok, failed, exhausted, step}

@@ -9,7 +9,8 @@ use lib.ListN.{length}
 use lib.Signed.{_≤ℤ_}
 use Rattle.integers.proofs.Z.{ints, flat, prod, mul-mono, le-or-lt}
 use Rattle.sheet_spec.specs.Slots.{N, boxSize, edge}
-use Rattle.machine_spec.specs.Box.{lo, hi, In, hull, moved}
+use Rattle.sheet_spec.specs.Box.{lo, hi}
+use Rattle.machine_spec.specs.Box.{In, hull, moved}
 use Rattle.machine_spec.specs.Machine.{Machine, cap}
 use Rattle.machine_spec.specs.Rate.{neutral, neighborhood, faceRate, rates}
 use Rattle.machine_spec.proofs.Box.{sides-length}

@@ -10,11 +10,12 @@ use lib.Signed.{leZ, _≤ℤ_}
 use Rattle.integers.specs.Bound.{Bound}
 use Rattle.integers.proofs.Z.{ints, le-true, bound-sum, bound-sub, bound-less, bound-in}
 use Rattle.sheet_spec.specs.Slots.{N, vars, edge, leastCommand, greatestCommand, recoverySlot, recoveryBox}
-use Rattle.machine_spec.specs.Box.{lo, hi, hull}
+use Rattle.sheet_spec.specs.Box.{lo, hi}
+use Rattle.machine_spec.specs.Box.{hull}
 use Rattle.sheet_spec.specs.Valid.{Valid}
 use Rattle.machine_spec.specs.Machine.{Law, baseline, command, Machine, machine, cap, rowOf, least, greatest}
 use Rattle.machine_spec.specs.Rate.{bound, part, neighborhood}
-use Rattle.machine_spec.proofs.Box.{and-both, all-at, box-lo, box-hi}
+use Rattle.sheet_spec.proofs.Box.{and-both, all-at, box-lo, box-hi}
 use Rattle.machine_spec.proofs.Inside.{side, Ordered}
 use Rattle.machine_spec.proofs.Neighborhood.{inward, neighborhood-part}
 use Rattle.machine_spec.proofs.Sound.{Proper, proper}

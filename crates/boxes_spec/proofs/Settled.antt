@@ -14,7 +14,7 @@ use Rattle.sheet_spec.specs.Slots.{N}
 use Rattle.machine_spec.specs.Box.{hull}
 use Rattle.machine_spec.specs.Machine.{Machine}
 use Rattle.machine_spec.specs.Rate.{rates}
-use Rattle.machine_spec.proofs.Box.{differ}
+use Rattle.sheet_spec.proofs.Box.{differ}
 use Rattle.machine_spec.proofs.Face.{beyond-refl}
 use Rattle.machine_spec.proofs.Inside.{side, moved-side, inside-refl, hull-least, inside-within}
 use Rattle.boxes_spec.specs.Step.{lifted, settles, endBox, grown, Failure, unsafe, andThen, Step, rounds, halving, step, swept}

@@ -15,7 +15,7 @@ use Rattle.machine_spec.specs.Box.{In, hull, moved}
 use Rattle.machine_spec.specs.Machine.{Machine, cap, Tick}
 use Rattle.machine_spec.specs.Rate.{outer, neutral, faceRate, rates}
 use borrow.Author.Tests.{not-true}
-use Rattle.machine_spec.proofs.Box.{differ, any-none}
+use Rattle.sheet_spec.proofs.Box.{differ, any-none}
 use Rattle.machine_spec.proofs.Face.{Beyond, beyond-refl, beyond-trans, beyond-flip, beyond-back, beyond-or, beyond-sum, beyond-times, beyond-more, outer-left, outer-right}
 use Rattle.machine_spec.proofs.Inside.{side, hull-side, lift-side, in-side, in-by, meets-by, Inside, inside-in, within-inside, hull-left, hull-right}
 use Rattle.machine_spec.proofs.Neighborhood.{inward, near-in}

@@ -5,7 +5,7 @@ use Prim.Native.Nat.{ℕ, suc, _+_, _≤_}
 use native.Mathlib.Omega.{arith}
 use lib.Dec.{eqb}
 use borrow.Author.Tests.{eqb-true, eqb-false}
-use Rattle.machine_spec.proofs.Box.{differ, and-both}
+use Rattle.sheet_spec.proofs.Box.{differ, and-both}
 use Rattle.boxes_spec.specs.Step.{Failure, Result, ok, failed, exhausted, andThen, retry, isExhausted}
 
 -- the count goes from c to c′ by at most `most` rounds, and not past an allowance

@@ -6,10 +6,12 @@ use lib.Dec.{leb}
 use lib.IntN.{ℤ, pos, negℤ}
 use lib.Signed.{leZ}
 use lib.ListN.{replicate}
+use Rattle.sheet_spec.specs.Limits.{maxSide, maxTicks, maxWidth}
 use Rattle.sheet_spec.specs.Slots.{boxSize, vars, leastCommand, greatestCommand, unsafeBox}
 use Rattle.sheet_spec.specs.Refusals.{orElse}
 use Rattle.sheet_spec.specs.Sheet.{refusal, values}
-use Rattle.machine_spec.specs.Box.{lo, hi, all, any, hull, meets, trim}
+use Rattle.sheet_spec.specs.Box.{lo, hi, all, any, meets}
+use Rattle.machine_spec.specs.Box.{hull, trim}
 use Rattle.machine_spec.specs.Machine.{Law, baseline, command, Machine, machine}
 use Rattle.boxes_spec.specs.Step.{Result, ok, failed, exhausted, unsafe, unsettled, andThen, Step, step, swept}
 
@@ -51,21 +53,12 @@ lawRefusal v baseline = 0
 lawRefusal v (command u) = cond (leZ (leastCommand v) u && leZ u (greatestCommand v)) 0 14
 
 -- a variable's sides: in order and within ±1,000,000
-abbrev pub maxSide : ℕ
-maxSide = 1000000
-
 abbrev pub inRange : ℤ → ℤ → Bool
 inRange l h = leZ (negℤ (pos maxSide)) l && leZ l h && leZ h (pos maxSide)
 
 -- 15: a box with a variable whose sides are not
 unfoldable pub sidesRefusal : ℕ → List ℤ → ℕ
 sidesRefusal n B = cond (all n (λ i. inRange (lo B i) (hi B i))) 0 15
-
-abbrev pub maxTicks : ℕ
-maxTicks = 1000
-
-abbrev pub maxWidth : ℕ
-maxWidth = 1000
 
 -- 16: the ticks or the width
 unfoldable pub ticksRefusal : ℕ → ℕ → ℕ

@@ -13,9 +13,11 @@ use Rattle.sheet_spec.specs.Sheet.{refusal, values}
 use Rattle.sheet_spec.specs.Valid.{Valid}
 use Rattle.sheet_spec.proofs.Streams.{lt-or-le}
 use Rattle.sheet_spec.proofs.Valid.{valid, recovery-beyond}
-use Rattle.machine_spec.specs.Box.{lo, hi, boxOf, trim}
+use Rattle.sheet_spec.specs.Box.{lo, hi}
+use Rattle.machine_spec.specs.Box.{boxOf, trim}
 use Rattle.boxes_arithmetic.specs.Limits.{SidesWithin}
-use Rattle.machine_spec.proofs.Box.{sides-length, sides-lo, sides-hi, box-at}
+use Rattle.sheet_spec.proofs.Box.{box-at}
+use Rattle.machine_spec.proofs.Box.{sides-length, sides-lo, sides-hi}
 use Rattle.boxes_rates.proofs.Bounds.{sides-bound}
 use Rattle.boxes_spec.proofs.Ranges.{recovery-sized}
 use Rattle.decision.specs.Limits.{startLimit}

@@ -10,7 +10,8 @@ use lib.Dec.{leb}
 use lib.IntN.{ℤ}
 use Rattle.sheet_spec.specs.Slots.{N, vars, boxes, recoveryBox}
 use Rattle.sheet_spec.specs.Valid.{Valid}
-use Rattle.machine_spec.specs.Box.{all, trim, within}
+use Rattle.sheet_spec.specs.Box.{all}
+use Rattle.machine_spec.specs.Box.{trim, within}
 use Rattle.boxes_rates.specs.declared.Plant.{Plant}
 use Rattle.machine_spec.specs.Machine.{Law, Machine, machine}
 use Rattle.boxes_arithmetic.specs.Limits.{SidesWithin}
@@ -21,7 +22,8 @@ use Rattle.boxes.specs.declared.steps.ReachResult.{ReachResult}
 use Rattle.boxes.specs.declared.steps.ReachResult.the-variants.{Ended, Unsettled, Unsafe}
 use Rattle.boxes.specs.declared.steps.ReachResult.the-variants as result
 use Rattle.boxes_spec.specs.Step.{Result, ok, failed, exhausted, unrecovered, andThen}
-use Rattle.boxes_spec.specs.Reach.{Reached, reach, clear, maxTicks, maxWidth}
+use Rattle.sheet_spec.specs.Limits.{maxTicks, maxWidth}
+use Rattle.boxes_spec.specs.Reach.{Reached, reach, clear}
 use Rattle.boxes.specs.ReachResult.{resultOf, reachedOf}
 use Rattle.boxes_spec.proofs.Stages.{value, failure, spent}
 use Rattle.boxes.proofs.Bounds.{reach-near}

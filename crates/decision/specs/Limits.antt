@@ -7,7 +7,7 @@ use Rattle.sheet_spec.specs.Slots.{vars}
 use Rattle.sheet_spec.specs.Valid.{Valid}
 use Rattle.machine_spec.specs.Box.{trim}
 use Rattle.boxes_arithmetic.specs.Limits.{SidesWithin}
-use Rattle.boxes_spec.specs.Reach.{maxSide, maxTicks, maxWidth}
+use Rattle.sheet_spec.specs.Limits.{maxSide, maxTicks, maxWidth}
 use Rattle.boxes_step.specs.Limits.{countLimit}
 use Rattle.decision.specs.declared.attempt.AttemptPlan.{AttemptPlan}
 

@@ -3,7 +3,7 @@
 // specs/Recovery say what a case means in their terms.
 ghost use mathlib.Core.Path.{_≡_};
 ghost use Prim.Native.Nat.{ℕ, _+_, _*_, _^_, _≤_};
-ghost use Rattle.boxes_spec.specs.Reach.{maxWidth};
+ghost use Rattle.sheet_spec.specs.Limits.{maxWidth};
 ghost use Rattle.decision_spec.specs.Decision.{answered, packed, refused, spent, widthOf, isKeep};
 ghost use Rattle.decision_answers.specs.Recovery.{checkReplyOf};
 ghost use Rattle.decision_answers.specs.Decision.{replyOf};

@@ -12,14 +12,15 @@ use Rattle.sheet_spec.specs.Slots.{N, vars}
 use Rattle.machine_spec.specs.Box.{trim}
 use Rattle.machine_spec.specs.Machine.{command}
 use Rattle.boxes_arithmetic.specs.Limits.{SidesWithin}
-use Rattle.machine_spec.proofs.Box.{and-both}
+use Rattle.sheet_spec.proofs.Box.{and-both}
 use Rattle.machine_spec.proofs.InPlace.{trim-sides}
 use Rattle.sheet_spec.specs.Refusals.{orElse}
-use Rattle.boxes_spec.specs.Reach.{lawRefusal, maxSide, sidesRefusal}
+use Rattle.sheet_spec.specs.Limits.{maxSide, maxAllowance}
+use Rattle.boxes_spec.specs.Reach.{lawRefusal, sidesRefusal}
 use Rattle.boxes_spec.proofs.Count.{cond-zero}
 use Rattle.boxes_spec.proofs.Refusals.{or-stop, or-go, or-none}
 use Rattle.boxes_refusals.proofs.Turn.{sides-near}
-use Rattle.decision_spec.specs.Question.{questionLength, maxAllowance, allowanceOf, commandOf, pairs, measured, formRefusal, allowanceRefusal, questionRefusal}
+use Rattle.decision_spec.specs.Question.{questionLength, allowanceOf, commandOf, pairs, measured, formRefusal, allowanceRefusal, questionRefusal}
 
 pub form-length : (n : ℕ) (g : List ℕ) → formRefusal n g ≡ 0 → length g ≡ questionLength n
 unfolding formRefusal

@@ -16,9 +16,10 @@ use Rattle.sheet_spec.specs.Sheet.{refusal, values}
 use Rattle.sheet_spec.specs.Valid.{Valid}
 use Rattle.sheet_spec.proofs.Valid.{valid}
 use Rattle.sheet_spec.proofs.Causes.{refusal-most}
-use Rattle.machine_spec.specs.Box.{lo, hi, all, within}
+use Rattle.sheet_spec.specs.Box.{lo, hi, all}
+use Rattle.machine_spec.specs.Box.{within}
 use Rattle.machine_spec.specs.Machine.{machine}
-use Rattle.machine_spec.proofs.Box.{differ}
+use Rattle.sheet_spec.proofs.Box.{differ}
 use Rattle.machine_spec.proofs.Sound.{proper}
 use Rattle.boxes_spec.specs.Step.{Result, ok, failed, exhausted}
 use Rattle.sheet_spec.specs.Refusals.{orElse}

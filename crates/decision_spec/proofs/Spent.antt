@@ -17,7 +17,7 @@ use Rattle.sheet_spec.specs.Slots.{vars, boxes, δ, α, recoveryBox}
 use Rattle.sheet_spec.specs.Sheet.{refusal, values}
 use Rattle.machine_spec.specs.Box.{boxOf, within}
 use Rattle.machine_spec.specs.Machine.{machine}
-use Rattle.machine_spec.proofs.Box.{differ}
+use Rattle.sheet_spec.proofs.Box.{differ}
 use Rattle.boxes_spec.specs.Step.{Result, ok, failed, exhausted}
 use Rattle.boxes_spec.specs.Reach.{clear}
 use Rattle.boxes_spec.proofs.Count.{count, cond-zero}

@@ -4,7 +4,7 @@ use Prim.Native.Nat.{ℕ, zero, suc}
 use lib.IntN.{ℤ}
 use Rattle.sheet_spec.specs.Slots.{_!_}
 use Rattle.sheet_spec.specs.Fields.{i32, encoded}
-use Rattle.machine_spec.specs.Box.{lo, hi}
+use Rattle.sheet_spec.specs.Box.{lo, hi}
 
 -- the bytes of the first k numbers
 unfoldable pub numberBytes : List ℤ → ℕ → List ℕ

@@ -8,6 +8,7 @@ use lib.ListN.{getD, length, take, drop}
 use mir.Syntax.{w32}
 use Rattle.integers.specs.Bytes.{be, decode}
 use Rattle.sheet_spec.specs.Sizes.{letters, upperAt, pairBytes}
+use Rattle.sheet_spec.specs.Limits.{maxAllowance}
 use Rattle.sheet_spec.specs.Slots.{vars}
 use Rattle.machine_spec.specs.Box.{boxOf}
 use Rattle.machine_spec.specs.Machine.{command}
@@ -51,9 +52,6 @@ measured n g = pairs n g sidesAt
 -- 12: the length or the mark
 unfoldable pub formRefusal : ℕ → List ℕ → ℕ
 formRefusal n g = cond (eqb (length g) (questionLength n) && eqb (getD g 0 0) 81 && eqb (getD g 1 0) 83) 0 12
-
-abbrev pub maxAllowance : ℕ
-maxAllowance = 1000000
 
 -- 13: the allowance
 unfoldable pub allowanceRefusal : List ℕ → ℕ

@@ -9,7 +9,7 @@ use Rattle.integers.specs.Division.{floorDiv, ceilDiv}
 use Rattle.sheet_spec.specs.Slots.{N, bandSlot, bandSize}
 use Rattle.sheet_spec.specs.Sheet.{values}
 use Rattle.sheet_spec.specs.SheetA.{fileA}
-use Rattle.machine_spec.specs.Box.{lo, hi, meets}
+use Rattle.sheet_spec.specs.Box.{lo, hi, meets}
 use Rattle.machine_spec.specs.Machine.{Law, baseline, command, machine, bandMeets, clamp}
 use Rattle.boxes_spec.specs.Step.{Result, ok, failed, exhausted}
 use Rattle.boxes_spec.specs.Reach.{Reached, reach, clear}

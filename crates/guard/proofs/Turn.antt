@@ -16,7 +16,7 @@ use Rattle.integers.proofs.Z.{fits, fits64}
 use Rattle.integers.proofs.Lists.{sets-append}
 use Rattle.sheet_spec.specs.Slots.{_!_}
 use Rattle.sheet_spec.specs.Fields.{i32, encoded}
-use Rattle.machine_spec.specs.Box.{lo, hi}
+use Rattle.sheet_spec.specs.Box.{lo, hi}
 use Rattle.decision_spec.specs.Numbers.{numberBytes, sidesOf}
 
 -- ---- numbers to bytes

@@ -15,30 +15,9 @@ use lib.Seq.{getD-set-same, getD-set-other, getD-take, getD-drop}
 use Rattle.integers.specs.Order.{minZ, maxZ}
 use Rattle.integers.proofs.Z.{ints, flat, le-true}
 use Rattle.sheet_spec.specs.Slots.{_!_, N, boxSize, boxAt}
-use Rattle.machine_spec.specs.Box.{lo, hi, sum, all, any, boxOf, trim, hull, within, meets, moved}
-
--- ---- tests
-
-pub differ : {t : Bool} → t ≡ true → t ≡ false → ⊥
-differ e f = subst T (sym e ∙ f) tt
-
-pub is-true : (t : Bool) → (t ≡ false → ⊥) → t ≡ true
-is-true true h = refl
-is-true false h = absurd (h refl)
-
-pub is-false : (t : Bool) → (t ≡ true → ⊥) → t ≡ false
-is-false true h = absurd (h refl)
-is-false false h = refl
-
-pub le-is : (a b : ℤ) → a ≤ℤ b → leZ a b ≡ true
-le-is a b h = is-true (leZ a b) (λ e. omega ints)
-
-pub le-not : (a b : ℤ) → b <ℤ a → leZ a b ≡ false
-le-not a b h = is-false (leZ a b) (λ e. omega ints)
-
-pub and-both : (a b : Bool) → (a && b) ≡ true → (a ≡ true) × (b ≡ true)
-and-both true b e = (refl, e)
-and-both false b e = absurd (differ e refl)
+use Rattle.sheet_spec.specs.Box.{lo, hi}
+use Rattle.machine_spec.specs.Box.{sum, boxOf, trim, hull, within, moved}
+use Rattle.sheet_spec.proofs.Box.{and-both, all-at}
 
 -- ---- one more
 
@@ -47,54 +26,10 @@ module _ (n : ℕ) where
   unfolding sum
   sum-more f = rw add-one refl
 
-  pub all-last : (f : ℕ → Bool) → all n f ≡ true → all (n + 1) f ≡ f n
-  unfolding all
-  all-last f e = rw add-one (rw e refl)
-
-  pub all-more : (f : ℕ → Bool) → all n f ≡ true → f n ≡ true → all (n + 1) f ≡ true
-  all-more f e g = all-last f e ∙ g
-
-  pub all-false : (f : ℕ → Bool) → all n f ≡ false → all (n + 1) f ≡ false
-  unfolding all
-  all-false f e = rw add-one (rw e refl)
-
-  pub any-more : (f : ℕ → Bool) → any n f ≡ false → f n ≡ false → any (n + 1) f ≡ false
-  unfolding any
-  any-more f e g = rw add-one (rw (e, g) refl)
-
   -- a loop's turn: the sides of one variable more are set
   pub sides-more : (f g : ℕ → ℤ) {r : List ℤ} {x y : ℤ} → r ≡ boxOf n f g → x ≡ f n → y ≡ g n → set (set r n x) (n + N) y ≡ boxOf (n + 1) f g
   unfolding boxOf
   sides-more f g e p q = rw (e, p, q) (rw add-one refl)
-
--- ---- at each i below n
-
-pub all-at : (n : ℕ) (f : ℕ → Bool) (i : ℕ) → all n f ≡ true → i < n → f i ≡ true
-unfolding all
-all-at zero f i e h = absurd (omega arith)
-all-at (suc n) f i e h =
-    let b = and-both (all n f) (f n) e in
-    ⊎-elim (λ q. rw q (b .1)) (λ l. all-at n f i (b .0) l) (eq-or-lt-of-le (omega arith))
-
-pub all-of : (n : ℕ) (f : ℕ → Bool) → ((i : ℕ) → i < n → f i ≡ true) → all n f ≡ true
-unfolding all
-all-of zero f h = refl
-all-of (suc n) f h = rw (all-of n f (λ i l. h i (omega arith)), h n (omega arith)) refl
-
-pub all-stop : (n : ℕ) (f : ℕ → Bool) (i : ℕ) → i < n → f i ≡ false → all n f ≡ false
-all-stop n f i h e = is-false (all n f) (λ g. differ (all-at n f i g h) e)
-
-pub any-at : (n : ℕ) (f : ℕ → Bool) (i : ℕ) → i < n → f i ≡ true → any n f ≡ true
-unfolding any
-any-at zero f i h e = absurd (omega arith)
-any-at (suc n) f i h e = ⊎-elim (λ q. last (any n f) (rw q at e)) (λ l. rw (any-at n f i l e) refl) (eq-or-lt-of-le (omega arith))
-  where
-    last : (a : Bool) → f n ≡ true → (a || f n) ≡ true
-    last true q = refl
-    last false q = q
-
-pub any-none : (n : ℕ) (f : ℕ → Bool) (i : ℕ) → any n f ≡ false → i < n → f i ≡ false
-any-none n f i e h = is-false (f i) (λ g. differ (any-at n f i h g) e)
 
 pub sum-mono : (n : ℕ) (f g : ℕ → ℤ) → ((i : ℕ) → i < n → f i ≤ℤ g i) → sum n f ≤ℤ sum n g
 unfolding sum
@@ -166,24 +101,9 @@ module _ (n i : ℕ) (k : n ≤ N) (h : i < n) where
   unfolding trim
   trim-hi B = sides-hi _ _ n i k h
 
--- of a box in a sheet's value
-pub box-at : (v : List ℤ) (at j : ℕ) → j < boxSize → boxAt v at ! j ≡ v ! (at + j)
-box-at v at j h = getD-take boxSize (drop at v) j (pos 0) h ∙ getD-drop at v j (pos 0)
-
-module _ (v : List ℤ) (at i : ℕ) (h : i < N) where
-  pub box-lo : lo (boxAt v at) i ≡ v ! (at + i)
-  box-lo = box-at v at i (omega arith)
-
-  pub box-hi : hi (boxAt v at) i ≡ v ! (at + i + N)
-  box-hi = let q : at + (i + N) ≡ at + i + N = omega arith in box-at v at (i + N) (omega arith) ∙ rw q refl
-
 -- ---- tests of boxes, at one variable
 
 module _ (n : ℕ) (A B : List ℤ) (i : ℕ) (h : i < n) where
   pub within-at : within n A B ≡ true → (lo B i ≤ℤ lo A i) × (hi A i ≤ℤ hi B i)
   unfolding within
   within-at e = let b = and-both _ _ (all-at n _ i e h) in (le-true _ _ (b .0), le-true _ _ (b .1))
-
-  pub meets-at : meets n A B ≡ true → (lo A i ≤ℤ hi B i) × (lo B i ≤ℤ hi A i)
-  unfolding meets
-  meets-at e = let b = and-both _ _ (all-at n _ i e h) in (le-true _ _ (b .0), le-true _ _ (b .1))

@@ -2,7 +2,8 @@
 use Prim.Native.Nat.{ℕ}
 use Rattle.integers.specs.Order.{minZ, maxZ}
 use Rattle.integers.specs.Division.{floorDiv, ceilDiv}
-use Rattle.machine_spec.specs.Box.{sum, all, any, boxOf, trim, hull, within, meets, moved}
+use Rattle.sheet_spec.specs.Box.{all, any, meets}
+use Rattle.machine_spec.specs.Box.{sum, boxOf, trim, hull, within, moved}
 use Rattle.machine_spec.specs.Machine.{leastOf, greatestOf, bandMeets, clamp, numerator, change}
 use Rattle.machine_spec.specs.Rate.{outer, outermost, weighted, bound, neutral, bandRate, rate, neighborhood, faceRate, rates}
 

@@ -7,7 +7,7 @@ use Prim.Native.Nat.{ℕ, _+_, _-_, _*_}
 use lib.IntN.{ℤ, pos, negsuc}
 use lib.ListN.{replicate}
 use Rattle.sheet_spec.specs.Slots.{N, rowSize, rowAt}
-use Rattle.machine_spec.specs.Box.{meets}
+use Rattle.sheet_spec.specs.Box.{meets}
 use Rattle.machine_spec.specs.Machine.{baseline, command, machine, bandMeets, change}
 use Rattle.machine_spec.specs.Rate.{rates}
 use Rattle.machine_spec.proofs.Everything.{everything}

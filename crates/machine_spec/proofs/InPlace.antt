@@ -8,7 +8,8 @@ use lib.IntN.{ℤ, pos}
 use lib.ListN.{set}
 use lib.Seq.{getD-set-other, set-set, set-comm}
 use Rattle.sheet_spec.specs.Slots.{N}
-use Rattle.machine_spec.specs.Box.{lo, hi, boxOf, trim, hull, moved}
+use Rattle.sheet_spec.specs.Box.{lo, hi}
+use Rattle.machine_spec.specs.Box.{boxOf, trim, hull, moved}
 use Rattle.machine_spec.proofs.Box.{sides-lo, sides-hi}
 
 -- ---- boxes that trimming leaves as they are

@@ -12,7 +12,7 @@ use Rattle.integers.proofs.Z.{ints, flat}
 use Rattle.sheet_spec.specs.Slots.{_!_, N}
 use Rattle.machine_spec.specs.Box.{In}
 use Rattle.machine_spec.specs.Rate.{outer, neighborhood}
-use Rattle.machine_spec.proofs.Box.{differ}
+use Rattle.sheet_spec.proofs.Box.{differ}
 use Rattle.machine_spec.proofs.Face.{Beyond, beyond-refl, beyond-trans, beyond-flip, beyond-back, outer-left, outer-in, outer-mono}
 use Rattle.machine_spec.proofs.Inside.{side, in-side, in-by, Inside, Ordered, ordered-side, ordered-by}
 

@@ -8,7 +8,8 @@ use lib.IntN.{ℤ, _*ℤ_}
 use lib.Signed.{_≤ℤ_}
 use Rattle.integers.proofs.Z.{ints}
 use Rattle.sheet_spec.specs.Slots.{_!_, Row}
-use Rattle.machine_spec.specs.Box.{lo, hi, In}
+use Rattle.sheet_spec.specs.Box.{lo, hi}
+use Rattle.machine_spec.specs.Box.{In}
 use Rattle.machine_spec.specs.Machine.{Machine, cap, rowOf, least, greatest, bandMeets}
 use Rattle.machine_spec.specs.Rate.{outer, outermost, weighted, bound, part, bandRate, rate}
 use Rattle.machine_spec.proofs.Face.{Beyond, beyond-refl, beyond-sum, sum-beyond, outer-in, outer-mono, span, change-mono}

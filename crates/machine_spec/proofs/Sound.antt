@@ -12,7 +12,8 @@ use Rattle.integers.specs.Order.{minZ}
 use Rattle.integers.proofs.Z.{ints, min-is, max-is, neg}
 use Rattle.sheet_spec.specs.Slots.{_!_, N, Row}
 use Rattle.sheet_spec.specs.Valid.{Between, Valid}
-use Rattle.machine_spec.specs.Box.{lo, hi, In}
+use Rattle.sheet_spec.specs.Box.{lo, hi}
+use Rattle.machine_spec.specs.Box.{In}
 use Rattle.machine_spec.specs.Machine.{Law, Machine, machine, cap, rowOf, least, greatest, bandMeets, clamp, numerator, change, Tick}
 use Rattle.machine_spec.specs.Rate.{outer, outermost, weighted, bound, part, neutral, bandRate, rate}
 use Rattle.machine_spec.proofs.Face.{Beyond, beyond-refl, beyond-trans, beyond-sum, sum-beyond, span, change-mono, cond-one, outer-one, outermost-one, outermost-at}

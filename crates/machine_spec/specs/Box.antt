@@ -1,6 +1,5 @@
--- Boxes, and what is said of each variable below n. All of it computes.
--- A box is 2N numbers: variable i's lower side at i, its upper side at i + N. Places that no variable has are 0.
-use mathlib.Core.Bool.{Bool, true, false, _&&_, _||_}
+-- Boxes of states: what they hold, how they compare, grow and move. All of it computes. sheet_spec/specs/Box says what a box is.
+use mathlib.Core.Bool.{Bool, _&&_}
 use mathlib.Core.List.{List}
 use Prim.Native.Nat.{ℕ, zero, suc, _+_, _<_}
 use lib.IntN.{ℤ, pos, _+ℤ_, _*ℤ_}
@@ -8,26 +7,13 @@ use lib.Signed.{leZ, _≤ℤ_}
 use lib.ListN.{set, replicate}
 use Rattle.integers.specs.Order.{minZ, maxZ}
 use Rattle.sheet_spec.specs.Slots.{_!_, N, boxSize}
-
-abbrev pub lo : List ℤ → ℕ → ℤ
-lo B i = B ! i
-
-abbrev pub hi : List ℤ → ℕ → ℤ
-hi B i = B ! (i + N)
+use Rattle.sheet_spec.specs.Box.{lo, hi, all}
 
 -- ---- for each i below n
 
 unfoldable pub sum : ℕ → (ℕ → ℤ) → ℤ
 sum zero f = pos 0
 sum (suc n) f = sum n f +ℤ f n
-
-unfoldable pub all : ℕ → (ℕ → Bool) → Bool
-all zero f = true
-all (suc n) f = all n f && f n
-
-unfoldable pub any : ℕ → (ℕ → Bool) → Bool
-any zero f = false
-any (suc n) f = any n f || f n
 
 -- the box with the lower sides f and the upper sides g
 unfoldable pub boxOf : ℕ → (ℕ → ℤ) → (ℕ → ℤ) → List ℤ
@@ -51,10 +37,6 @@ hull n A B = boxOf n (λ i. minZ (lo A i) (lo B i)) (λ i. maxZ (hi A i) (hi B i
 -- A lies in B
 unfoldable pub within : ℕ → List ℤ → List ℤ → Bool
 within n A B = all n (λ i. leZ (lo B i) (lo A i) && leZ (hi A i) (hi B i))
-
--- A and B share a state
-unfoldable pub meets : ℕ → List ℤ → List ℤ → Bool
-meets n A B = all n (λ i. leZ (lo A i) (hi B i) && leZ (lo B i) (hi A i))
 
 -- each face of A moved by `ticks` of its rates
 unfoldable pub moved : ℕ → List ℤ → ℕ → List ℤ → List ℤ

@@ -7,7 +7,8 @@ use lib.IntN.{ℤ, pos, negℤ, _+ℤ_, _-ℤ_, _*ℤ_}
 use lib.ListN.{set}
 use Rattle.integers.specs.Order.{minZ, maxZ}
 use Rattle.sheet_spec.specs.Slots.{N, Row}
-use Rattle.machine_spec.specs.Box.{lo, hi, sum, boxOf}
+use Rattle.sheet_spec.specs.Box.{lo, hi}
+use Rattle.machine_spec.specs.Box.{sum, boxOf}
 use Rattle.machine_spec.specs.Machine.{Machine, cap, rowOf, least, greatest, bandMeets, change}
 
 -- ---- rates over a box

@@ -10,7 +10,7 @@ use Rattle.sheet_spec.specs.Sheet.{values}
 use Rattle.sheet_spec.specs.SheetA.{fileA}
 use Rattle.machine_spec.specs.Box.{In}
 use Rattle.machine_spec.specs.Machine.{Law, baseline, command}
-use Rattle.machine_spec.proofs.Box.{differ, all-at}
+use Rattle.sheet_spec.proofs.Box.{differ, all-at}
 use Rattle.safety.specs.Run.{lawAt, Safe}
 use Rattle.safety.proofs.Run.{safe-runs}
 use Rattle.safety.proofs.RunTest.{holds-in}

@@ -12,9 +12,10 @@ use lib.ListN.{length, getD}
 use Rattle.integers.proofs.Z.{le-true}
 use Rattle.sheet_spec.specs.Slots.{_!_, vars, δ}
 use Rattle.sheet_spec.specs.Sheet.{values}
-use Rattle.machine_spec.specs.Box.{lo, hi, In, all}
+use Rattle.sheet_spec.specs.Box.{lo, hi, all}
+use Rattle.machine_spec.specs.Box.{In}
 use Rattle.machine_spec.specs.Machine.{Law, baseline, Machine, machine, cap, rowOf, least, greatest, bandMeets, numerator, change, Tick}
-use Rattle.machine_spec.proofs.Box.{differ, and-both, all-at}
+use Rattle.sheet_spec.proofs.Box.{differ, and-both, all-at}
 use Rattle.decision_spec.specs.Question.{measured}
 use Rattle.safety.specs.Run.{Period, kept, acting, Measured, Run}
 use Rattle.safety.proofs.Acting.{acting-length}

@@ -16,8 +16,8 @@ use sheet_encoding::count;
 use sheet_encoding::marks;
 pub use sheet_spec::Written;
 pub use sheet_spec::refusals;
-use sheet_spec::refusals::BEGINNING;
-use sheet_spec::refusals::SIZE;
+use sheet_spec::refusals::HEAD;
+use sheet_spec::refusals::LENGTH;
 use sheet_spec::sizes;
 pub use sheet_spec::slots;
 use sheet_spec::slots::BANDS;
@@ -47,7 +47,7 @@ fn read_rest(f: &[u8], v: &mut [i32; SLOTS]) -> u8
     let bands = count(v, BANDS);
     let boxes = count(v, BOXES);
     if f.len() != marks::file_length(n, bands, boxes) {
-        return SIZE;
+        return LENGTH;
     }
     sheet_reader::read_records(f, n, bands, boxes, v);
     sheet_reader::bad_file(f, n, bands, boxes, v)
@@ -58,11 +58,11 @@ fn read_cleared(f: &[u8], v: &mut [i32; SLOTS]) -> u8
     ensures { λ r. ⌜ (r ≡ refusal (now (f .entry))) × (r ≡ 0 → now (v .exit) ≡ contents (now (f .entry))) ⌝ }
 {
     if f.len() < sizes::CAPS_AT {
-        return BEGINNING;
+        return HEAD;
     }
     let right = marks::marked(f, 0, marks::mark_of(0, 0, 0));
     if !right {
-        return BEGINNING;
+        return HEAD;
     }
     sheet_reader::read_head(f, v);
     let x = sheet_validation::bad_head(v);

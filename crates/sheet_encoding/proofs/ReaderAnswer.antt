@@ -10,7 +10,8 @@ use lib.ListN.{length}
 use lib.Signed.{_≤ℤ_}
 use borrow.Author.Tests.{le-leb, lt-leb}
 use Rattle.integers.proofs.Z.{ints}
-use Rattle.sheet_spec.specs.Slots.{_!_, N, maxBands, maxBoxes, headSize, vars, bands, boxes, varsSlot, bandsSlot, boxesSlot}
+use Rattle.sheet_spec.specs.Limits.{maxBands, maxBoxes}
+use Rattle.sheet_spec.specs.Slots.{_!_, N, headSize, vars, bands, boxes, varsSlot, bandsSlot, boxesSlot}
 use Rattle.sheet_spec.specs.Refusals.{Cause, number}
 use Rattle.sheet_spec.specs.File.{sized, Shape, shape, records, recordAt, fieldsAt, countAt, start, filledAll, marked, markedAt, badAll}
 use Rattle.sheet_spec.specs.Fields.{offset, filled, bad}
@@ -68,7 +69,7 @@ module _ (f : List ℕ) (h : List ℤ) (n b g : ℕ) (begun : leb capsAt (length
   size-is : start (sized n b g) (records (sized n b g)) ≡ start (shapeOf f) (records (shapeOf f))
   size-is = ap (λ (s : Shape). start s (records s)) same
 
-  pub rest-short : {l : ℕ} → l ≡ start (sized n b g) (records (sized n b g)) → (length f ≡ l → ⊥) → number Cause.size ≡ refusal f
+  pub rest-short : {l : ℕ} → l ≡ start (sized n b g) (records (sized n b g)) → (length f ≡ l → ⊥) → number Cause.length ≡ refusal f
   rest-short e q = refused-size f begun headed (λ p. q (p ∙ sym (e ∙ size-is)))
 
   module _ {l x : ℕ} {w : List ℤ} (e : l ≡ start (sized n b g) (records (sized n b g))) (q : length f ≡ l)
@@ -91,10 +92,10 @@ module _ (f : List ℕ) (h : List ℤ) (n b g : ℕ) (begun : leb capsAt (length
 -- ---- the file's beginning
 
 module _ (f : List ℕ) where
-  pub begins-short : length f < capsAt → number Cause.beginning ≡ refusal f
+  pub begins-short : length f < capsAt → number Cause.head ≡ refusal f
   begins-short l = refused-beginning f (rw (lt-leb capsAt (length f) l))
 
-  pub begins-wrong : {t : Bool} → capsAt ≤ length f → t ≡ marked f 0 head → t ≡ false → number Cause.beginning ≡ refusal f
+  pub begins-wrong : {t : Bool} → capsAt ≤ length f → t ≡ marked f 0 head → t ≡ false → number Cause.head ≡ refusal f
   begins-wrong l e h = refused-beginning f (rw (le-leb capsAt (length f) l) (sym e ∙ h))
 
   pub begins : {t : Bool} → capsAt ≤ length f → t ≡ marked f 0 head → t ≡ true → leb capsAt (length f) && marked f 0 head ≡ true

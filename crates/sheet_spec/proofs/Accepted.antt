@@ -17,7 +17,8 @@ use Rattle.sheet_spec.specs.Layout.{_▸_, Record, headFields, fields, c
 use Rattle.sheet_spec.specs.File.{shape, records, fieldsAt, countAt, start, marked, markedAt}
 use Rattle.sheet_spec.specs.Sheet.{zeros, headOf, shapeOf, contents, stage, refusal, values}
 use Rattle.sheet_spec.proofs.Streams.{lt-or-le}
-use Rattle.sheet_spec.proofs.Laws.{InRange, AllGood, first-none, unless-zero, both, bad-ranges, all-marks, all-good}
+use Rattle.sheet_spec.proofs.Box.{and-both}
+use Rattle.sheet_spec.proofs.Laws.{InRange, AllGood, first-none, unless-zero, bad-ranges, all-marks, all-good}
 use Rattle.sheet_spec.proofs.Records.{EachField, head-at}
 use Rattle.sheet_spec.proofs.Places.{Small, head-slot}
 use Rattle.sheet_spec.proofs.Filled.{filled-at, all-at}
@@ -47,9 +48,9 @@ accepted f e =
     let s = shapeOf f in
     let t = first-none (stage f) 4 e in
     record {
-      least = leb-true _ _ (both _ _ (unless-zero (leb capsAt (length f) && marked f 0 head) Cause.beginning (t .at 0 (omega arith))) .0);
+      least = leb-true _ _ (and-both _ _ (unless-zero (leb capsAt (length f) && marked f 0 head) Cause.head (t .at 0 (omega arith))) .0);
       small = small (headOf f) (bad-ranges headFields (headOf f) headSize (t .at 1 (omega arith)));
-      size = eqb-true _ _ (unless-zero (eqb (length f) (start s (records s))) Cause.size (t .at 2 (omega arith)));
+      size = eqb-true _ _ (unless-zero (eqb (length f) (start s (records s))) Cause.length (t .at 2 (omega arith)));
       marks = all-marks (markedAt s f) s (contents f) (records s) (t .at 3 (omega arith));
       good = all-good (markedAt s f) s (contents f) (records s) (t .at 3 (omega arith));
       values = rw (e, values);

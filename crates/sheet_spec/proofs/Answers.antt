@@ -26,14 +26,14 @@ module _ (f : List ℕ) where
   unfolding refusal
   at-stage i c l z e n = first-keep (stage f) (i + 1) 4 c (omega arith) n (first-next (stage f) i c z e)
 
-  pub refused-beginning : leb capsAt (length f) && marked f 0 head ≡ false → number Cause.beginning ≡ refusal f
+  pub refused-beginning : leb capsAt (length f) && marked f 0 head ≡ false → number Cause.head ≡ refusal f
   unfolding stage firstRefusal
-  refused-beginning e = at-stage 0 1 (omega arith) refl (ap (λ (b : Bool). refuseUnless b Cause.beginning) (sym e)) (number-is Cause.beginning)
+  refused-beginning e = at-stage 0 1 (omega arith) refl (ap (λ (b : Bool). refuseUnless b Cause.head) (sym e)) (number-is Cause.head)
 
   module _ (begun : leb capsAt (length f) && marked f 0 head ≡ true) where
     one : firstRefusal (stage f) 1 ≡ 0
     unfolding stage firstRefusal
-    one = first-next (stage f) 0 0 refl (ap (λ (b : Bool). refuseUnless b Cause.beginning) (sym begun))
+    one = first-next (stage f) 0 0 refl (ap (λ (b : Bool). refuseUnless b Cause.head) (sym begun))
 
     pub refused-head : (c : ℕ) → c ≡ bad headFields (headOf f) headSize → (c ≡ 0 → ⊥) → c ≡ refusal f
     unfolding stage
@@ -44,15 +44,15 @@ module _ (f : List ℕ) where
       unfolding stage
       two = first-next (stage f) 1 0 one headed
 
-      pub refused-size : (length f ≡ start (shapeOf f) (records (shapeOf f)) → ⊥) → number Cause.size ≡ refusal f
+      pub refused-size : (length f ≡ start (shapeOf f) (records (shapeOf f)) → ⊥) → number Cause.length ≡ refusal f
       unfolding stage
       refused-size n =
-          at-stage 2 5 (omega arith) two (ap (λ (b : Bool). refuseUnless b Cause.size) (sym (ne-eqb (length f) (start (shapeOf f) (records (shapeOf f))) n))) (number-is Cause.size)
+          at-stage 2 5 (omega arith) two (ap (λ (b : Bool). refuseUnless b Cause.length) (sym (ne-eqb (length f) (start (shapeOf f) (records (shapeOf f))) n))) (number-is Cause.length)
 
       pub answer : length f ≡ start (shapeOf f) (records (shapeOf f)) → badAll (markedAt (shapeOf f) f) (shapeOf f) (contents f) (records (shapeOf f)) ≡ refusal f
       unfolding stage refusal
       answer e =
-          sym (first-next (stage f) 3 _ (first-next (stage f) 2 0 two (ap (λ (b : Bool). refuseUnless b Cause.size) (sym (eq-eqb (length f) (start (shapeOf f) (records (shapeOf f))) e)))) refl)
+          sym (first-next (stage f) 3 _ (first-next (stage f) 2 0 two (ap (λ (b : Bool). refuseUnless b Cause.length) (sym (eq-eqb (length f) (start (shapeOf f) (records (shapeOf f))) e)))) refl)
 
 -- ---- writing
 

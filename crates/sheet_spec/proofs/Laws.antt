@@ -9,14 +9,15 @@ use native.Mathlib.Numerals.{add-one}
 use native.Mathlib.Nat.{zero-add, suc-add, eq-or-lt-of-le}
 use lib.Dec.{T}
 use lib.IntN.{ℤ}
-use lib.Signed.{leZ, leZ-yes, _≤ℤ_, _<ℤ_}
+use lib.Signed.{leZ, _≤ℤ_, _<ℤ_}
 use Rattle.integers.proofs.Z.{ints, le-true}
 use Rattle.sheet_spec.specs.Slots.{_!_}
 use Rattle.sheet_spec.specs.Valid.{Between}
-use Rattle.sheet_spec.specs.Refusals.{Cause, number, refuseUnless, firstRefusal}
+use Rattle.sheet_spec.specs.Refusals.{Cause, number, refuseUnless, firstRefusal, greatestNumber, unlessRefused}
 use Rattle.sheet_spec.specs.Fields.{Field, test, bad}
 use Rattle.sheet_spec.specs.File.{Shape, shape, records, recordAt, fieldsAt, countAt, badRecord, badAll}
 use Rattle.sheet_spec.specs.Sheet.{valueRefusal}
+use Rattle.sheet_spec.proofs.Box.{le-is, le-not, and-both}
 use Rattle.sheet_spec.proofs.Streams.{Each}
 use Rattle.sheet_spec.proofs.Records.{EachOf, EachField}
 
@@ -60,37 +61,43 @@ module _ (h : ℕ → ℕ) where
 
 -- ---- a test
 
-leZ-is : (a b : ℤ) → a ≤ℤ b → leZ a b ≡ true
-leZ-is a b h = go (leZ a b) (h .le)
-  where
-    go : (t : Bool) → T t → t ≡ true
-    go true u = refl
-    go false u = absurd u
+-- ---- a refusal, or going on
 
-leZ-no : (a b : ℤ) → b <ℤ a → leZ a b ≡ false
-leZ-no a b h = go (leZ a b) (λ t. let q : a ≤ℤ b = leZ-yes t in omega ints)
-  where
-    go : (t : Bool) → (T t → ⊥) → t ≡ false
-    go true u = absurd (u tt)
-    go false u = refl
+module _ {A : Type 0} (refuse : ℕ → A) (go : A) where
+  pub goes-on : {r : ℕ} → r ≡ 0 → unlessRefused r refuse go ≡ go
+  unfolding unlessRefused
+  goes-on e = rw e refl
+
+  pub stops : {r : ℕ} → (r ≡ 0 → ⊥) → unlessRefused r refuse go ≡ refuse r
+  unfolding unlessRefused
+  stops {r} = by r
+    where
+      by : (r : ℕ) → (r ≡ 0 → ⊥) → unlessRefused r refuse go ≡ refuse r
+      by zero h = absurd (h refl)
+      by (suc r) h = refl
 
 -- a field's value in v lies in its range
 abbrev pub InRange : List ℤ → Field → Type 0
 InRange v x = Between (x .least v) (x .greatest v) (v ! x .slot)
 
--- the numbers of the causes lie from 1 to 17
-pub number-range : (c : Cause) → (1 ≤ number c) × (number c ≤ 17)
-number-range Cause.beginning = (omega arith, omega arith)
-number-range Cause.shape = (omega arith, omega arith)
+-- the numbers of the causes lie from 1 to the greatest
+pub number-range : (c : Cause) → (1 ≤ number c) × (number c ≤ greatestNumber)
+number-range Cause.head = (omega arith, omega arith)
+number-range Cause.counts = (omega arith, omega arith)
 number-range Cause.times = (omega arith, omega arith)
 number-range Cause.commands = (omega arith, omega arith)
-number-range Cause.size = (omega arith, omega arith)
+number-range Cause.length = (omega arith, omega arith)
 number-range Cause.cap = (omega arith, omega arith)
 number-range Cause.mark = (omega arith, omega arith)
 number-range Cause.edge = (omega arith, omega arith)
 number-range Cause.safety = (omega arith, omega arith)
 number-range Cause.row = (omega arith, omega arith)
 number-range Cause.side = (omega arith, omega arith)
+number-range Cause.question = (omega arith, omega arith)
+number-range Cause.allowance = (omega arith, omega arith)
+number-range Cause.command = (omega arith, omega arith)
+number-range Cause.start = (omega arith, omega arith)
+number-range Cause.reach = (omega arith, omega arith)
 number-range Cause.room = (omega arith, omega arith)
 
 pub number-is : (c : Cause) → number c ≡ 0 → ⊥
@@ -100,27 +107,23 @@ pub unless-zero : (b : Bool) (c : Cause) → refuseUnless b c ≡ 0 → b ≡ tr
 unless-zero true c e = refl
 unless-zero false c e = absurd (number-is c e)
 
-pub both : (a b : Bool) → a && b ≡ true → (a ≡ true) × (b ≡ true)
-both true b e = (refl, e)
-both false b e = (e, cc)
-
 module _ (v : List ℤ) (x : Field) where
   pub test-low : v ! x .slot <ℤ x .least v → number (x .cause) ≡ test v x
   unfolding test
-  test-low h = rw (leZ-no (x .least v) (v ! x .slot) h)
+  test-low h = rw (le-not (x .least v) (v ! x .slot) h)
 
   pub test-high : x .least v ≤ℤ v ! x .slot → x .greatest v <ℤ v ! x .slot → number (x .cause) ≡ test v x
   unfolding test
-  test-high l h = rw (leZ-is (x .least v) (v ! x .slot) l, leZ-no (v ! x .slot) (x .greatest v) h)
+  test-high l h = rw (le-is (x .least v) (v ! x .slot) l, le-not (v ! x .slot) (x .greatest v) h)
 
   pub test-passed : InRange v x → 0 ≡ test v x
   unfolding test
-  test-passed r = rw (leZ-is (x .least v) (v ! x .slot) (r .low), leZ-is (v ! x .slot) (x .greatest v) (r .high))
+  test-passed r = rw (le-is (x .least v) (v ! x .slot) (r .low), le-is (v ! x .slot) (x .greatest v) (r .high))
 
   pub in-range : test v x ≡ 0 → InRange v x
   unfolding test
   in-range e =
-      let t = both _ _ (unless-zero (leZ (x .least v) (v ! x .slot) && leZ (v ! x .slot) (x .greatest v)) (x .cause) e) in
+      let t = and-both _ _ (unless-zero (leZ (x .least v) (v ! x .slot) && leZ (v ! x .slot) (x .greatest v)) (x .cause) e) in
       record { low = le-true _ _ (t .0); high = le-true _ _ (t .1) }
 
 -- ---- the fields of a record, and the records of a file

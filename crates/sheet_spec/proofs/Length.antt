@@ -8,7 +8,8 @@ use lib.IntN.{ℤ}
 use Rattle.sheet_spec.specs.Slots.{headSize, rowSlot, recoverySlot, unsafeSlot, vars, bands, boxes, restSize, firstRow, pairSize}
 use Rattle.sheet_spec.specs.Fields.{u16, i16, Field, width, offset}
 use Rattle.sheet_spec.specs.Sizes.{letters, capsAt, capBytes, rowsAt, coefficientBytes, rowBytes, pairBytes, boxBytes, bandHead}
-use Rattle.sheet_spec.specs.Layout.{_▸_, unsafeLimit, recoveryLimit, capField, headFields, edgeField, rowRest, rowFields, bandFields, sideFields, boxFields, fields, count, Record, head, band, unsafe, recovery, rowCount}
+use Rattle.sheet_spec.specs.Limits.{maxUnsafeSide, maxRecoverySide}
+use Rattle.sheet_spec.specs.Layout.{_▸_, capField, headFields, edgeField, rowRest, rowFields, bandFields, sideFields, boxFields, fields, count, Record, head, band, unsafe, recovery, rowCount}
 use Rattle.sheet_spec.specs.File.{Shape, shape, records, recordAt, start}
 use Rattle.sheet_spec.specs.Sheet.{length-of}
 use Rattle.sheet_spec.proofs.Records.{head-at, band-at, unsafe-at, recovery-at}
@@ -75,8 +76,8 @@ pub record-size : (n : ℕ) (x : Record) → letters + offset (fields n x) (coun
 unfolding fields
 record-size n head = cap-offset n
 record-size n (band k) = omega (arith, row-offset n k n)
-record-size n (unsafe j) = ap (λ (a : ℕ). letters + a) (side-offset unsafeLimit (unsafeSlot j) n)
-record-size n recovery = ap (λ (a : ℕ). letters + a) (side-offset recoveryLimit recoverySlot n)
+record-size n (unsafe j) = ap (λ (a : ℕ). letters + a) (side-offset maxUnsafeSide (unsafeSlot j) n)
+record-size n recovery = ap (λ (a : ℕ). letters + a) (side-offset maxRecoverySide recoverySlot n)
 
 module _ (s : Shape) where
   pub start-next : (r : ℕ) {x : Record} → recordAt s r ≡ x → start s (suc r) ≡ start s r + recordSize (s .vars) x

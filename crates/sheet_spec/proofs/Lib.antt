@@ -1,3 +1,4 @@
+pub mod Box
 pub mod Streams
 pub mod Records
 pub mod Laws

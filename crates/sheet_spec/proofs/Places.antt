@@ -4,9 +4,10 @@ use mathlib.Core.Logic.{⊎-elim}
 use Prim.Native.Nat.{ℕ, zero, suc, _+_, _*_, _-_, _/_, _%_, _≤_, _<_}
 use native.Mathlib.Omega.{arith}
 use native.Mathlib.Nat.{mod-lt, div-add-mod', div-lt-iff-lt-mul, mul-le-mul-right}
-use Rattle.sheet_spec.specs.Slots.{N, maxBands, maxBoxes, rowSize, bandSize, boxSize, bandSlot, rowSlot, recoverySlot, unsafeSlot, slots, bSlot, cSlot, dSlot, qSlot, restSize, safetyLeastSlot, safetyGreatestSlot, pairSize, firstRow}
+use Rattle.sheet_spec.specs.Slots.{N, rowSize, bandSize, boxSize, bandSlot, rowSlot, recoverySlot, unsafeSlot, slots, bSlot, cSlot, dSlot, qSlot, restSize, safetyLeastSlot, safetyGreatestSlot, pairSize, firstRow}
 use Rattle.sheet_spec.specs.Fields.{Field}
-use Rattle.sheet_spec.specs.Layout.{unsafeLimit, recoveryLimit, _▸_, first, groups, always, maxVars, headFields, edgeField, rowRest, rowFields, bandFields, sideFields, boxFields, fields, count, Record, head, band, unsafe, recovery, rowCount, bandCount, boxCount}
+use Rattle.sheet_spec.specs.Limits.{maxBands, maxBoxes, maxUnsafeSide, maxRecoverySide, maxVars}
+use Rattle.sheet_spec.specs.Layout.{_▸_, first, groups, always, headFields, edgeField, rowRest, rowFields, bandFields, sideFields, boxFields, fields, count, Record, head, band, unsafe, recovery, rowCount, bandCount, boxCount}
 use Rattle.sheet_spec.specs.File.{Shape, records, recordAt, fieldsAt, countAt}
 use Rattle.sheet_spec.proofs.Streams.{each-first, first-low, first-high, lt-or-le, rows-more}
 use Rattle.sheet_spec.proofs.Records.{record-cases}
@@ -171,8 +172,8 @@ module _ (n : ℕ) (l : n ≤ N) where
   unfolding fields
   spread-record head = spread-run 0 head-slot (omega arith)
   spread-record (band k) = spread-band k
-  spread-record (unsafe j) = spread-most (omega arith) (spread-box unsafeLimit (unsafeSlot j))
-  spread-record recovery = spread-box recoveryLimit recoverySlot
+  spread-record (unsafe j) = spread-most (omega arith) (spread-box maxUnsafeSide (unsafeSlot j))
+  spread-record recovery = spread-box maxRecoverySide recoverySlot
 
 -- ---- the file's records
 
@@ -237,5 +238,5 @@ module _ (s : Shape) (l : Small s) where
       (λ m d j c e. omega (arith, spread-record (s .vars) room (band m) .high j c, l .bands))
       (λ m d j c e. omega (arith, spread-record (s .vars) room (unsafe m) .low j c))
       (λ j c e.
-      let z : j / pairSize ≡ i = same-variable (j / pairSize) i (j % pairSize) q (omega arith) h (omega (arith, side-slot (s .vars) room recoveryLimit recoverySlot j)) in
+      let z : j / pairSize ≡ i = same-variable (j / pairSize) i (j % pairSize) q (omega arith) h (omega (arith, side-slot (s .vars) room maxRecoverySide recoverySlot j)) in
       omega arith)

@@ -12,7 +12,8 @@ use Rattle.integers.proofs.Z.{ints, flat}
 use Rattle.sheet_spec.specs.Slots.{_!_, headSize, bandSlot, rowSlot, recoverySlot, unsafeSlot, vars, bands, boxes, varsSlot, bandsSlot, boxesSlot, bandVarSlot, δSlot, αSlot, ρSlot, leastSlot, greatestSlot, restSize, pairSize, bInRest, cInRest, dInRest, qInRest, edgeInBand, leastInBand, greatestInBand}
 use Rattle.sheet_spec.specs.Valid.{Between}
 use Rattle.sheet_spec.specs.Fields.{Kind, u8, u16, i16, i32, Field}
-use Rattle.sheet_spec.specs.Layout.{unsafeLimit, recoveryLimit, _▸_, headFields, edgeField, rowRest, rowFields, bandFields, sideFields, boxFields, rowCount, bandCount, boxCount}
+use Rattle.sheet_spec.specs.Limits.{maxUnsafeSide, maxRecoverySide}
+use Rattle.sheet_spec.specs.Layout.{_▸_, headFields, edgeField, rowRest, rowFields, bandFields, sideFields, boxFields, rowCount, bandCount, boxCount}
 use Rattle.sheet_spec.specs.File.{shape}
 use Rattle.sheet_spec.proofs.Streams.{Each, each-next, each-first, each-groups, each-low, each-high, rows-more, caps-more}
 use Rattle.sheet_spec.proofs.Laws.{InRange, AllGood}
@@ -92,7 +93,7 @@ module _ (v : List ℤ) (n : ℕ) where
       (each-next _ _ (known (b .at cInRest (omega arith)) tt tt)
       (each-next _ _ (known (b .at dInRest (omega arith)) tt tt) (record { at = λ j l. known (b .at qInRest (omega arith)) tt tt }))))
 
-  box-fit : (h s : ℕ) → h ≤ unsafeLimit → Each (InRange v) (boxFields h s) (boxCount n) → Each (FieldFits v) (boxFields h s) (boxCount n)
+  box-fit : (h s : ℕ) → h ≤ maxUnsafeSide → Each (InRange v) (boxFields h s) (boxCount n) → Each (FieldFits v) (boxFields h s) (boxCount n)
   unfolding boxFields sideFields _▸_
   box-fit h s l b =
       each-groups n pairSize _ (λ i k.
@@ -132,4 +133,4 @@ module _ (v : List ℤ) (g : AllGood v) where
   pub all-fit : EachField (FieldFits v) (shape v)
   all-fit =
       each-field (shape v) (head-fit v (vars v) (each-head (shape v) g)) band-fit
-      (λ j l. box-fit v (vars v) unsafeLimit (unsafeSlot j) (omega arith) (each-unsafe (shape v) g j l)) (box-fit v (vars v) recoveryLimit recoverySlot (omega arith) (each-recovery (shape v) g))
+      (λ j l. box-fit v (vars v) maxUnsafeSide (unsafeSlot j) (omega arith) (each-unsafe (shape v) g j l)) (box-fit v (vars v) maxRecoverySide recoverySlot (omega arith) (each-recovery (shape v) g))

@@ -5,7 +5,8 @@ use Prim.Native.Nat.{ℕ, _+_, _*_, _-_, _≤_, _<_}
 use native.Mathlib.Omega.{arith}
 use Rattle.sheet_spec.specs.Slots.{headSize, rowSlot, recoverySlot, unsafeSlot, pairSize}
 use Rattle.sheet_spec.specs.Fields.{Field}
-use Rattle.sheet_spec.specs.Layout.{unsafeLimit, recoveryLimit, _▸_, capField, headFields, rowFields, bandFields, sideFields, boxFields, fields, count, Record, head, band, unsafe, recovery, rowCount, bandCount, boxCount}
+use Rattle.sheet_spec.specs.Limits.{maxUnsafeSide, maxRecoverySide}
+use Rattle.sheet_spec.specs.Layout.{_▸_, capField, headFields, rowFields, bandFields, sideFields, boxFields, fields, count, Record, head, band, unsafe, recovery, rowCount, bandCount, boxCount}
 use Rattle.sheet_spec.specs.File.{Shape, records, recordAt}
 use Rattle.sheet_spec.proofs.Streams.{Each, each-rest, each-group, next, first-low, first-high, first-after, lt-or-le, rows-more}
 use Rattle.sheet_spec.proofs.FieldPlaces.{cap-at}
@@ -58,7 +59,7 @@ EachField P s = Each (EachOf P (s .vars)) (recordAt s) (records s)
 
 module _ {P : Field → Type 0} (s : Shape) where
   pub each-field : Each P headFields (headSize + s .vars) → ((k : ℕ) → k < s .bands → Each P (bandFields (s .vars) k) (bandCount (s .vars)))
-      → ((j : ℕ) → j < s .boxes → Each P (boxFields unsafeLimit (unsafeSlot j)) (boxCount (s .vars))) → Each P (boxFields recoveryLimit recoverySlot) (boxCount (s .vars)) → EachField P s
+      → ((j : ℕ) → j < s .boxes → Each P (boxFields maxUnsafeSide (unsafeSlot j)) (boxCount (s .vars))) → Each P (boxFields maxRecoverySide recoverySlot) (boxCount (s .vars)) → EachField P s
   unfolding fields
   each-field a b c d = record { at = record-cases s (λ r. EachOf P (s .vars)) a b c d }
 
@@ -71,11 +72,11 @@ module _ {P : Field → Type 0} (s : Shape) where
     unfolding fields
     each-band k l = subst (EachOf P (s .vars)) (band-at s k l) (g .at (1 + k) (omega arith))
 
-    pub each-unsafe : (j : ℕ) → j < s .boxes → Each P (boxFields unsafeLimit (unsafeSlot j)) (boxCount (s .vars))
+    pub each-unsafe : (j : ℕ) → j < s .boxes → Each P (boxFields maxUnsafeSide (unsafeSlot j)) (boxCount (s .vars))
     unfolding fields
     each-unsafe j l = subst (EachOf P (s .vars)) (unsafe-at s j l) (g .at (1 + (s .bands + j)) (omega arith))
 
-    pub each-recovery : Each P (boxFields recoveryLimit recoverySlot) (boxCount (s .vars))
+    pub each-recovery : Each P (boxFields maxRecoverySide recoverySlot) (boxCount (s .vars))
     unfolding fields
     each-recovery = subst (EachOf P (s .vars)) (recovery-at s) (g .at (1 + (s .bands + s .boxes)) (omega arith))
 

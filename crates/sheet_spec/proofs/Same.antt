@@ -7,7 +7,8 @@ use lib.IntN.{ℤ}
 use lib.Signed.{_≤ℤ_}
 use Rattle.sheet_spec.specs.Slots.{_!_, headSize, bandSlot, rowSlot, recoverySlot, unsafeSlot, vars, bands, varsSlot, δSlot, leastSlot, greatestSlot, restSize, pairSize, edgeInBand, leastInBand}
 use Rattle.sheet_spec.specs.Fields.{Field}
-use Rattle.sheet_spec.specs.Layout.{unsafeLimit, recoveryLimit, _▸_, headFields, edgeField, rowRest, rowFields, bandFields, sideFields, boxFields, rowCount, bandCount, boxCount}
+use Rattle.sheet_spec.specs.Limits.{maxUnsafeSide, maxRecoverySide}
+use Rattle.sheet_spec.specs.Layout.{_▸_, headFields, edgeField, rowRest, rowFields, bandFields, sideFields, boxFields, rowCount, bandCount, boxCount}
 use Rattle.sheet_spec.specs.File.{Shape}
 use Rattle.sheet_spec.proofs.Streams.{Each, each-next, each-first, each-groups, rows-more, caps-more}
 use Rattle.sheet_spec.proofs.Records.{EachField, each-field, each-head, each-band, each-unsafe, each-recovery, each-side}
@@ -90,8 +91,8 @@ module _ (v w : List ℤ) where
     same-good g =
         each-field s (moved (each-head s e) (head-ends (s .vars) (each-head s e)) (each-head s g))
         (λ k l. moved (each-band s e k l) (band-ends k l) (each-band s g k l))
-        (λ j l. moved (each-unsafe s e j l) (box-ends (s .vars) unsafeLimit (unsafeSlot j) (each-unsafe s e j l)) (each-unsafe s g j l))
-        (moved (each-recovery s e) (box-ends (s .vars) recoveryLimit recoverySlot (each-recovery s e)) (each-recovery s g))
+        (λ j l. moved (each-unsafe s e j l) (box-ends (s .vars) maxUnsafeSide (unsafeSlot j) (each-unsafe s e j l)) (each-unsafe s g j l))
+        (moved (each-recovery s e) (box-ends (s .vars) maxRecoverySide recoverySlot (each-recovery s e)) (each-recovery s g))
 
   -- the head alone, up to the commands
   pub same-head : Each Equal headFields headSize → Each (InRange v) headFields headSize → Each (InRange w) headFields headSize

@@ -18,7 +18,7 @@ use Rattle.sheet_spec.specs.Sizes.{letters}
 use Rattle.sheet_spec.specs.Layout.{Record, mark}
 use Rattle.sheet_spec.specs.File.{Shape, recordAt, fieldsAt, countAt, start, recordBytes, codedAll, marked, markedAt}
 use Rattle.sheet_spec.proofs.Streams.{Each}
-use Rattle.sheet_spec.proofs.Laws.{both}
+use Rattle.sheet_spec.proofs.Box.{and-both}
 use Rattle.sheet_spec.proofs.Ranges.{FieldFits}
 use Rattle.sheet_spec.proofs.Numbers.{length-coded, coded-read, read-coded}
 
@@ -29,7 +29,7 @@ pub record Says (s : Shape) (f : List ℕ) (v : List ℤ) (k : ℕ) : Type 0 whe
 
 marked-bytes : (f : List ℕ) (at : ℕ) (x : Record) → marked f at x ≡ true → (getD f at 0 ≡ mark x .0) × (getD f (at + 1) 0 ≡ mark x .1)
 unfolding marked
-marked-bytes f at x e = let q = both _ _ e in (eqb-true _ _ (q .0), eqb-true _ _ (q .1))
+marked-bytes f at x e = let q = and-both _ _ e in (eqb-true _ _ (q .0), eqb-true _ _ (q .1))
 
 bytes-marked : (f : List ℕ) (at : ℕ) (x : Record) → getD f at 0 ≡ mark x .0 → getD f (at + 1) 0 ≡ mark x .1 → marked f at x ≡ true
 unfolding marked

@@ -13,7 +13,8 @@ use Rattle.integers.proofs.Z.{ints, flat}
 use Rattle.sheet_spec.specs.Slots.{_!_, N, slots, bandSlot, recoverySlot, unsafeSlot, vars, bands, row, varsSlot, bandsSlot, boxesSlot, bandVarSlot, δSlot, αSlot, ρSlot, leastSlot, greatestSlot, restSize, pairSize, bInRest, cInRest, dInRest, qInRest, edgeInBand, leastInBand, greatestInBand}
 use Rattle.sheet_spec.specs.Valid.{ValidRow, ValidBox, Valid}
 use Rattle.sheet_spec.specs.Fields.{Kind, u8, u16, i16, i32}
-use Rattle.sheet_spec.specs.Layout.{unsafeLimit, recoveryLimit, _▸_, headFields, edgeField, rowRest, rowFields, bandFields, sideFields, boxFields, boxCount}
+use Rattle.sheet_spec.specs.Limits.{maxUnsafeSide, maxRecoverySide}
+use Rattle.sheet_spec.specs.Layout.{_▸_, headFields, edgeField, rowRest, rowFields, bandFields, sideFields, boxFields, boxCount}
 use Rattle.sheet_spec.specs.File.{Shape, shape, records, fieldsAt}
 use Rattle.sheet_spec.specs.Sheet.{zeros, shapeOf, contents, refusal, values}
 use Rattle.sheet_spec.proofs.Streams.{Each, each-next, each-low, each-high}
@@ -124,8 +125,8 @@ module _ (v : List ℤ) (g : AllGood v) where
         safety-low = λ k l. each-band (shape v) g k l .at leastInBand (omega arith) .low;
         safety-high = λ k l. each-band (shape v) g k l .at greatestInBand (omega arith) .high;
         rows = valid-row;
-        recovery = valid-box recoveryLimit recoverySlot (each-recovery (shape v) g);
-        unsafe = λ j l. valid-box unsafeLimit (unsafeSlot j) (each-unsafe (shape v) g j l);
+        recovery = valid-box maxRecoverySide recoverySlot (each-recovery (shape v) g);
+        unsafe = λ j l. valid-box maxUnsafeSide (unsafeSlot j) (each-unsafe (shape v) g j l);
       }
 
 module _ (f : List ℕ) (a : Accepted f) where

@@ -4,7 +4,8 @@ use mathlib.Core.List.{List}
 use Prim.Native.Nat.{ℕ, zero, suc, _+_, _*_, _-_, _/_, _%_}
 use lib.Dec.{ltb}
 use lib.IntN.{ℤ, pos, negℤ, _+ℤ_, _-ℤ_}
-use Rattle.sheet_spec.specs.Slots.{_!_, N, maxBands, maxBoxes, varsSlot, bandsSlot, boxesSlot, bandVarSlot, δSlot, αSlot, ρSlot, leastSlot, greatestSlot, headSize, capSlot, bSlot, cSlot, dSlot, qSlot, restSize, firstRow, bandSlot, safetyLeastSlot, safetyGreatestSlot, rowSlot, pairSize, recoverySlot, unsafeSlot}
+use Rattle.sheet_spec.specs.Slots.{_!_, N, varsSlot, bandsSlot, boxesSlot, bandVarSlot, δSlot, αSlot, ρSlot, leastSlot, greatestSlot, headSize, capSlot, bSlot, cSlot, dSlot, qSlot, restSize, firstRow, bandSlot, safetyLeastSlot, safetyGreatestSlot, rowSlot, pairSize, recoverySlot, unsafeSlot}
+use Rattle.sheet_spec.specs.Limits.{maxVars, maxBands, maxBoxes, maxTicks, maxCommand, maxCap, maxEdge, maxCoefficient, maxConstant, maxSpread, maxDivisor, maxUnsafeSide, maxRecoverySide}
 use Rattle.sheet_spec.specs.Refusals.{Cause}
 use Rattle.sheet_spec.specs.Fields.{Kind, u8, u16, i16, i32, Field}
 
@@ -40,43 +41,39 @@ fromTo k s l h = ranged k s (λ v. pos l) (λ v. pos h)
 abbrev pub plusMinus : Kind → ℕ → ℕ → Cause → Field
 plusMinus k s h = ranged k s (λ v. negℤ (pos h)) (λ v. pos h)
 
--- the greatest number of variables of a sheet; there is room for N
-abbrev pub maxVars : ℕ
-maxVars = 4
-
 abbrev pub capField : ℕ → Field
-capField i = fromTo u16 (capSlot i) 1 1000 Cause.cap
+capField i = fromTo u16 (capSlot i) 1 maxCap Cause.cap
 
 -- n, bands, no-go boxes, band variable; δ, α, ρ; least and greatest command; caps
 unfoldable pub headFields : ℕ → Field
 headFields =
-    fromTo u8 varsSlot 1 maxVars Cause.shape
-    ▸ fromTo u8 bandsSlot 1 maxBands Cause.shape
-    ▸ fromTo u8 boxesSlot 1 maxBoxes Cause.shape
-    ▸ ranged u8 bandVarSlot (λ v. pos 0) (λ v. v ! varsSlot -ℤ pos 1) Cause.shape
-    ▸ fromTo u16 δSlot 1 1000 Cause.times
-    ▸ ranged u16 αSlot (λ v. pos 1) (λ v. pos 1000 -ℤ v ! δSlot) Cause.times
-    ▸ fromTo u16 ρSlot 1 1000 Cause.times
-    ▸ plusMinus i32 leastSlot 10000 Cause.commands
-    ▸ ranged i32 greatestSlot (λ v. v ! leastSlot) (λ v. pos 10000) Cause.commands
+    fromTo u8 varsSlot 1 maxVars Cause.counts
+    ▸ fromTo u8 bandsSlot 1 maxBands Cause.counts
+    ▸ fromTo u8 boxesSlot 1 maxBoxes Cause.counts
+    ▸ ranged u8 bandVarSlot (λ v. pos 0) (λ v. v ! varsSlot -ℤ pos 1) Cause.counts
+    ▸ fromTo u16 δSlot 1 maxTicks Cause.times
+    ▸ ranged u16 αSlot (λ v. pos 1) (λ v. pos maxTicks -ℤ v ! δSlot) Cause.times
+    ▸ fromTo u16 ρSlot 1 maxTicks Cause.times
+    ▸ plusMinus i32 leastSlot maxCommand Cause.commands
+    ▸ ranged i32 greatestSlot (λ v. v ! leastSlot) (λ v. pos maxCommand) Cause.commands
     ▸ capField
 
 -- the first edge is given, a later one is greater than the one before it
 unfoldable pub edgeField : ℕ → Field
-edgeField zero = ranged i32 (bandSlot 0) (λ v. negℤ (pos 2000000)) (λ v. negℤ (pos 2000000)) Cause.edge
-edgeField (suc k) = ranged i32 (bandSlot (suc k)) (λ v. v ! bandSlot k +ℤ pos 1) (λ v. pos 2000000) Cause.edge
+edgeField zero = ranged i32 (bandSlot 0) (λ v. negℤ (pos maxEdge)) (λ v. negℤ (pos maxEdge)) Cause.edge
+edgeField (suc k) = ranged i32 (bandSlot (suc k)) (λ v. v ! bandSlot k +ℤ pos 1) (λ v. pos maxEdge) Cause.edge
 
 -- b, c, d, q of the row at a slot
 unfoldable pub rowRest : ℕ → ℕ → Field
 rowRest s =
-    plusMinus i16 (bSlot s) 1000 Cause.row
-    ▸ plusMinus i32 (cSlot s) 100000000 Cause.row
-    ▸ fromTo i32 (dSlot s) 0 100000000 Cause.row
-    ▸ always (fromTo u16 (qSlot s) 1 4096 Cause.row)
+    plusMinus i16 (bSlot s) maxCoefficient Cause.row
+    ▸ plusMinus i32 (cSlot s) maxConstant Cause.row
+    ▸ fromTo i32 (dSlot s) 0 maxSpread Cause.row
+    ▸ always (fromTo u16 (qSlot s) 1 maxDivisor Cause.row)
 
 -- the row at a slot: n coefficients a, then the rest
 unfoldable pub rowFields : ℕ → ℕ → ℕ → Field
-rowFields n s = first n (λ j. plusMinus i16 (s + j) 1000 Cause.row) (rowRest s)
+rowFields n s = first n (λ j. plusMinus i16 (s + j) maxCoefficient Cause.row) (rowRest s)
 
 -- the number of fields of a row, of a band and of a box, on a sheet with n variables
 abbrev pub rowCount : ℕ → ℕ
@@ -95,13 +92,6 @@ bandFields n k =
     ▸ ranged i32 (safetyLeastSlot k) (λ v. v ! leastSlot) (λ v. v ! greatestSlot) Cause.safety
     ▸ ranged i32 (safetyGreatestSlot k) (λ v. v ! safetyLeastSlot k) (λ v. v ! greatestSlot) Cause.safety
     ▸ groups (rowCount n) (λ i. rowFields n (rowSlot k i))
-
--- the sides of a no-go box lie within ±unsafeLimit, those of the recovery box within ±recoveryLimit
-abbrev pub unsafeLimit : ℕ
-unsafeLimit = 2000000
-
-abbrev pub recoveryLimit : ℕ
-recoveryLimit = 1000000
 
 -- a lower side at a slot, within ±h, and its upper side
 unfoldable pub sideFields : ℕ → ℕ → ℕ → Field
@@ -131,8 +121,8 @@ mark recovery = (82, 67)
 unfoldable pub fields : ℕ → Record → ℕ → Field
 fields n head = headFields
 fields n (band k) = bandFields n k
-fields n (unsafe j) = boxFields unsafeLimit (unsafeSlot j)
-fields n recovery = boxFields recoveryLimit recoverySlot
+fields n (unsafe j) = boxFields maxUnsafeSide (unsafeSlot j)
+fields n recovery = boxFields maxRecoverySide recoverySlot
 
 abbrev pub count : ℕ → Record → ℕ
 count n head = headSize + n

@@ -1,4 +1,6 @@
+pub mod Limits
 pub mod Slots
+pub mod Box
 pub mod Valid
 pub mod Refusals
 pub mod Fields

@@ -2,29 +2,74 @@
 use mathlib.Core.Bool.{Bool, true, false}
 use Prim.Native.Nat.{ℕ, zero, suc}
 
--- beginning: under 20 bytes, or the mark is not SH; shape: n, a count or the band variable; times: δ, α, ρ; commands: the head's;
--- size: the file's length; mark: a later record's; row: a number of a row; side: of a no-go or the recovery box; room: too little buffer
 pub data Cause : Type 0 where
-  beginning shape times commands size cap mark edge safety row side room : Cause
+  -- under 20 bytes, or the mark is not SH
+  head : Cause
+  -- n, a count or the band variable
+  counts : Cause
+  -- δ, α or ρ
+  times : Cause
+  -- the head's commands
+  commands : Cause
+  -- the file's length
+  length : Cause
+  -- a cap
+  cap : Cause
+  -- a later record's mark
+  mark : Cause
+  -- a band's edge
+  edge : Cause
+  -- a band's safety range
+  safety : Cause
+  -- a number of a row
+  row : Cause
+  -- a side of a no-go box or of the recovery box
+  side : Cause
+  -- a question's length or mark
+  question : Cause
+  -- a question's allowance
+  allowance : Cause
+  -- a command outside the head's
+  command : Cause
+  -- a side of a measured or a start box
+  start : Cause
+  -- the ticks or the width of a reach
+  reach : Cause
+  -- too little room in the buffer
+  room : Cause
 
 abbrev pub number : Cause → ℕ
-number beginning = 1
-number shape = 2
+number head = 1
+number counts = 2
 number times = 3
 number commands = 4
-number size = 5
+number length = 5
 number cap = 6
 number mark = 7
 number edge = 8
 number safety = 9
 number row = 10
 number side = 11
+number question = 12
+number allowance = 13
+number command = 14
+number start = 15
+number reach = 16
 number room = 17
+
+-- no cause has a greater number
+abbrev pub greatestNumber : ℕ
+greatestNumber = number room
 
 -- 0 where the test passed, else the number of the cause
 abbrev pub refuseUnless : Bool → Cause → ℕ
 refuseUnless true c = 0
 refuseUnless false c = number c
+
+-- what `refuse` makes of the refusal r or, if there is none, go on
+unfoldable pub unlessRefused : {A : Type 0} → ℕ → (ℕ → A) → A → A
+unlessRefused zero refuse go = go
+unlessRefused (suc r) refuse go = refuse (suc r)
 
 -- the first of h 0, .. h (k - 1) that is not 0, or 0
 unfoldable pub firstRefusal : (ℕ → ℕ) → ℕ → ℕ

@@ -32,9 +32,9 @@ contents f = let s = shapeOf f in filledAll s f (records s) zeros
 
 -- the reader's tests in their order, each made only where those before it passed
 unfoldable pub stage : List ℕ → ℕ → ℕ
-stage f zero = refuseUnless (leb capsAt (length f) && marked f 0 head) Cause.beginning
+stage f zero = refuseUnless (leb capsAt (length f) && marked f 0 head) Cause.head
 stage f (suc zero) = bad headFields (headOf f) headSize
-stage f (suc (suc zero)) = let s = shapeOf f in refuseUnless (eqb (length f) (start s (records s))) Cause.size
+stage f (suc (suc zero)) = let s = shapeOf f in refuseUnless (eqb (length f) (start s (records s))) Cause.length
 stage f (suc (suc (suc i))) = let s = shapeOf f in badAll (markedAt s f) s (contents f) (records s)
 
 -- 0 if the file is accepted, else why it is refused

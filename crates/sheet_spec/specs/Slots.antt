@@ -4,6 +4,7 @@ use mathlib.Core.List.{List}
 use Prim.Native.Nat.{ℕ, _+_, _*_}
 use lib.IntN.{ℤ, pos, natAbs}
 use lib.ListN.{getD, take, drop}
+use Rattle.sheet_spec.specs.Limits.{maxBands, maxBoxes}
 
 infixl 90 _!_
 abbrev pub _!_ : List ℤ → ℕ → ℤ
@@ -11,12 +12,6 @@ xs ! i = getD xs i (pos 0)
 
 abbrev pub N : ℕ
 N = 4
-
-abbrev pub maxBands : ℕ
-maxBands = 8
-
-abbrev pub maxBoxes : ℕ
-maxBoxes = 8
 
 -- ---- slots
 

@@ -7,6 +7,7 @@ use lib.Signed.{_≤ℤ_, _<ℤ_}
 use lib.ListN.{length}
 use mir.Syntax.{w32}
 use mir.Val.{SFits}
+use Rattle.sheet_spec.specs.Limits.{maxVars, maxBands, maxBoxes, maxTicks, maxCommand, maxCap, maxEdge, maxCoefficient, maxConstant, maxSpread, maxDivisor, maxUnsafeSide, maxRecoverySide}
 use Rattle.sheet_spec.specs.Slots.{_!_, N, slots, leastSlot, recoverySlot, unsafeSlot, vars, bands, boxes, bandVar, δ, α, ρ, leastCommand, greatestCommand, cap, edge, safetyLeast, safetyGreatest, Row, row}
 
 -- z lies from l to h
@@ -15,11 +16,11 @@ pub record Between (l h z : ℤ) : Type 0 where
   pub high : z ≤ℤ h
 
 pub record ValidRow (n : ℕ) (r : Row) : Type 0 where
-  pub a : (j : ℕ) → j < n → Between (negℤ (pos 1000)) (pos 1000) (r .a j)
-  pub b : Between (negℤ (pos 1000)) (pos 1000) (r .b)
-  pub c : Between (negℤ (pos 100000000)) (pos 100000000) (r .c)
-  pub d : Between (pos 0) (pos 100000000) (r .d)
-  pub q : Between (pos 1) (pos 4096) (r .q)
+  pub a : (j : ℕ) → j < n → Between (negℤ (pos maxCoefficient)) (pos maxCoefficient) (r .a j)
+  pub b : Between (negℤ (pos maxCoefficient)) (pos maxCoefficient) (r .b)
+  pub c : Between (negℤ (pos maxConstant)) (pos maxConstant) (r .c)
+  pub d : Between (pos 0) (pos maxSpread) (r .d)
+  pub q : Between (pos 1) (pos maxDivisor) (r .q)
 
 -- the box at a slot is ordered and lies within ±most
 pub record ValidBox (n : ℕ) (most : ℤ) (v : List ℤ) (at : ℕ) : Type 0 where
@@ -33,27 +34,27 @@ pub record Valid (v : List ℤ) : Type 0 where
   -- the counts are not negative, and so the head's numbers themselves
   pub head : (i : ℕ) → i < leastSlot → pos 0 ≤ℤ v ! i
   pub vars-low : 1 ≤ vars v
-  pub vars-high : vars v ≤ 4
+  pub vars-high : vars v ≤ maxVars
   pub bands-low : 1 ≤ bands v
-  pub bands-high : bands v ≤ 8
+  pub bands-high : bands v ≤ maxBands
   pub boxes-low : 1 ≤ boxes v
-  pub boxes-high : boxes v ≤ 8
+  pub boxes-high : boxes v ≤ maxBoxes
   pub var : bandVar v < vars v
   pub δ-low : 1 ≤ δ v
   pub α-low : 1 ≤ α v
-  pub sum-high : δ v + α v ≤ 1000
+  pub sum-high : δ v + α v ≤ maxTicks
   pub ρ-low : 1 ≤ ρ v
-  pub ρ-high : ρ v ≤ 1000
+  pub ρ-high : ρ v ≤ maxTicks
   pub commands : leastCommand v ≤ℤ greatestCommand v
-  pub commands-low : negℤ (pos 10000) ≤ℤ leastCommand v
-  pub commands-high : greatestCommand v ≤ℤ pos 10000
-  pub caps : (i : ℕ) → i < vars v → Between (pos 1) (pos 1000) (cap v i)
-  pub first-edge : edge v 0 ≡ negℤ (pos 2000000)
+  pub commands-low : negℤ (pos maxCommand) ≤ℤ leastCommand v
+  pub commands-high : greatestCommand v ≤ℤ pos maxCommand
+  pub caps : (i : ℕ) → i < vars v → Between (pos 1) (pos maxCap) (cap v i)
+  pub first-edge : edge v 0 ≡ negℤ (pos maxEdge)
   pub edges : (k : ℕ) → suc k < bands v → edge v k <ℤ edge v (suc k)
-  pub edges-high : (k : ℕ) → k < bands v → edge v k ≤ℤ pos 2000000
+  pub edges-high : (k : ℕ) → k < bands v → edge v k ≤ℤ pos maxEdge
   pub safety : (k : ℕ) → k < bands v → safetyLeast v k ≤ℤ safetyGreatest v k
   pub safety-low : (k : ℕ) → k < bands v → leastCommand v ≤ℤ safetyLeast v k
   pub safety-high : (k : ℕ) → k < bands v → safetyGreatest v k ≤ℤ greatestCommand v
   pub rows : (k i : ℕ) → k < bands v → i < vars v → ValidRow (vars v) (row v k i)
-  pub recovery : ValidBox (vars v) (pos 1000000) v recoverySlot
-  pub unsafe : (j : ℕ) → j < boxes v → ValidBox (vars v) (pos 2000000) v (unsafeSlot j)
+  pub recovery : ValidBox (vars v) (pos maxRecoverySide) v recoverySlot
+  pub unsafe : (j : ℕ) → j < boxes v → ValidBox (vars v) (pos maxUnsafeSide) v (unsafeSlot j)

@@ -2,6 +2,7 @@
 // what follows of them, as the length formula and that reading and writing undo each other. Beside them the names of slots,
 // sizes and refusals, which all code uses. `sheet` has the operations.
 
+pub mod limits;
 pub mod refusals;
 pub mod sizes;
 pub mod slots;

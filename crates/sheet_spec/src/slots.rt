@@ -1,11 +1,10 @@
 // Where each number of a sheet's value is: the names of specs/Slots.antt.
 
+use crate::limits::MAX_BANDS;
+use crate::limits::MAX_BOXES;
+
 // There is room for N variables.
 pub const N: usize = 4;
-
-pub const MAX_BANDS: usize = 8;
-
-pub const MAX_BOXES: usize = 8;
 
 // The head.
 pub const VARS: usize = 0;

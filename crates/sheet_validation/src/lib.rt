@@ -5,48 +5,34 @@ ghost use mathlib.Core.Path.{_≡_};
 ghost use mathlib.Core.Bool.{true};
 ghost use Prim.Native.Nat.{_+_, _≤_, _<_};
 ghost use Rattle.integers.specs.Bound.{Bound};
-ghost use Rattle.sheet_spec.specs.Slots.{_!_, N, maxBands, maxBoxes, headSize, boxSize, rowSize, slots};
+ghost use Rattle.sheet_spec.specs.Limits.{maxBands, maxBoxes};
+ghost use Rattle.sheet_spec.specs.Slots.{_!_, N, headSize, boxSize, rowSize, slots};
 ghost use Rattle.sheet_spec.specs.Refusals.{number, orElse};
 ghost use Rattle.sheet_spec.specs.File.{sized, records, fieldsAt, countAt, badAll};
 ghost use Rattle.sheet_spec.specs.Fields.{Field, test, bad};
 ghost use Rattle.sheet_spec.specs.Layout.{headFields, edgeField, rowFields, rowCount, bandFields, bandCount, boxFields, boxCount};
+use sheet_spec::limits::*;
 use sheet_spec::refusals::CAP;
 use sheet_spec::refusals::COMMANDS;
+use sheet_spec::refusals::COUNTS;
 use sheet_spec::refusals::EDGE;
 use sheet_spec::refusals::ROW;
 use sheet_spec::refusals::SAFETY;
-use sheet_spec::refusals::SHAPE;
 use sheet_spec::refusals::SIDE;
 use sheet_spec::refusals::TIMES;
 use sheet_spec::slots::*;
 
-const MAX_VARS: i64 = 4;
+const MOST_VARS: i64 = MAX_VARS as i64;
 
-const MAX_TICKS: i64 = 1000;
-
-const MAX_COMMAND: i64 = 10000;
+const MOST_TICKS: i64 = MAX_TICKS as i64;
 
 const MIN_COMMAND: i64 = -MAX_COMMAND;
 
-const MAX_CAP: i64 = 1000;
-
-const MAX_EDGE: i64 = 2000000;
-
 const MIN_EDGE: i64 = -MAX_EDGE;
-
-const MAX_COEFFICIENT: i64 = 1000;
 
 const MIN_COEFFICIENT: i64 = -MAX_COEFFICIENT;
 
-const MAX_OFFSET: i64 = 100000000;
-
-const MIN_OFFSET: i64 = -MAX_OFFSET;
-
-const MAX_DIVISOR: i64 = 4096;
-
-const MAX_UNSAFE: u32 = 2000000;
-
-const MAX_RECOVERY: u32 = 1000000;
+const MIN_CONSTANT: i64 = -MAX_CONSTANT;
 
 // The number at a slot, where one more and one less fit too.
 fn value(v: &[i32; SLOTS], slot: usize) -> i64
@@ -83,13 +69,13 @@ fn after(x: u8, v: &[i32; SLOTS], slot: usize, least: i64, greatest: i64, cause:
 pub fn bad_head(v: &[i32; SLOTS]) -> u8
     ensures { λ r. ⌜ r ≡ bad headFields (now (v .entry)) headSize ⌝ }
 {
-    let mut x = after(0, v, VARS, 1, MAX_VARS, SHAPE);
-    x = after(x, v, BANDS, 1, MAX_BANDS as i64, SHAPE);
-    x = after(x, v, BOXES, 1, MAX_BOXES as i64, SHAPE);
-    x = after(x, v, BAND_VAR, 0, value(v, VARS) - 1, SHAPE);
-    x = after(x, v, DELTA, 1, MAX_TICKS, TIMES);
-    x = after(x, v, ALPHA, 1, MAX_TICKS - value(v, DELTA), TIMES);
-    x = after(x, v, RHO, 1, MAX_TICKS, TIMES);
+    let mut x = after(0, v, VARS, 1, MOST_VARS, COUNTS);
+    x = after(x, v, BANDS, 1, MAX_BANDS as i64, COUNTS);
+    x = after(x, v, BOXES, 1, MAX_BOXES as i64, COUNTS);
+    x = after(x, v, BAND_VAR, 0, value(v, VARS) - 1, COUNTS);
+    x = after(x, v, DELTA, 1, MOST_TICKS, TIMES);
+    x = after(x, v, ALPHA, 1, MOST_TICKS - value(v, DELTA), TIMES);
+    x = after(x, v, RHO, 1, MOST_TICKS, TIMES);
     x = after(x, v, LEAST, MIN_COMMAND, MAX_COMMAND, COMMANDS);
     after(x, v, GREATEST, value(v, LEAST), MAX_COMMAND, COMMANDS)
 }
@@ -118,8 +104,8 @@ fn bad_row(v: &[i32; SLOTS], n: usize, slot: usize) -> u8
         j = j + 1;
     }
     x = after(x, v, slot + ROW_B, MIN_COEFFICIENT, MAX_COEFFICIENT, ROW);
-    x = after(x, v, slot + ROW_C, MIN_OFFSET, MAX_OFFSET, ROW);
-    x = after(x, v, slot + ROW_D, 0, MAX_OFFSET, ROW);
+    x = after(x, v, slot + ROW_C, MIN_CONSTANT, MAX_CONSTANT, ROW);
+    x = after(x, v, slot + ROW_D, 0, MAX_SPREAD, ROW);
     after(x, v, slot + ROW_Q, 1, MAX_DIVISOR, ROW)
 }
 
@@ -185,9 +171,14 @@ pub fn bad_record(v: &[i32; SLOTS], n: usize, bands: usize, boxes: usize, r: usi
         return bad_band(v, n, r - 1);
     }
     if r <= bands + boxes {
-        return bad_box(v, n, FIRST_UNSAFE + (r - 1 - bands) * BOX_SIZE, MAX_UNSAFE);
+        return bad_box(
+            v,
+            n,
+            FIRST_UNSAFE + (r - 1 - bands) * BOX_SIZE,
+            MAX_UNSAFE_SIDE,
+        );
     }
-    bad_box(v, n, RECOVERY, MAX_RECOVERY)
+    bad_box(v, n, RECOVERY, MAX_RECOVERY_SIDE)
 }
 
 // The numbers of every record.

@@ -4,8 +4,8 @@ use lib.IntN.{pos, negℤ}
 use mir.Facts.{toZ-ofZ}
 use borrow.Author.Needs.{needs}
 use Rattle.integers.proofs.Z.{ints}
-use Rattle.machine_spec.proofs.Box.{le-is, le-not}
-use Rattle.boxes_spec.specs.Reach.{maxSide}
+use Rattle.sheet_spec.proofs.Box.{le-is, le-not}
+use Rattle.sheet_spec.specs.Limits.{maxSide}
 use Rattle.boxes_refusals.proofs.in_range.Statement.{statement}
 use Rattle.boxes_refusals.proofs.in_range.Tie as tie
 

@@ -9,7 +9,7 @@ use borrow.Author.Needs.{needs, sfits-of}
 use Rattle.integers.proofs.Z.{ints}
 use Rattle.sheet_spec.specs.Slots.{leastCommand, greatestCommand}
 use Rattle.machine_spec.specs.Machine.{lawOf}
-use Rattle.machine_spec.proofs.Box.{le-is, le-not}
+use Rattle.sheet_spec.proofs.Box.{le-is, le-not}
 use Rattle.boxes_spec.specs.Reach.{lawRefusal}
 use Rattle.boxes_refusals.proofs.law_refusal.Statement.{statement}
 use Rattle.boxes_refusals.proofs.law_refusal.Tie as tie

@@ -2,7 +2,8 @@
 use mathlib.Core.Path.{refl}
 use native.Mathlib.Omega.{arith}
 use borrow.Author.Tests.{le-leb, lt-leb}
-use Rattle.boxes_spec.specs.Reach.{maxTicks, maxWidth, ticksRefusal}
+use Rattle.sheet_spec.specs.Limits.{maxTicks, maxWidth}
+use Rattle.boxes_spec.specs.Reach.{ticksRefusal}
 use Rattle.boxes_refusals.proofs.ticks_refusal.Statement.{statement}
 use Rattle.boxes_refusals.proofs.ticks_refusal.Tie as tie
 

@@ -11,7 +11,7 @@ use borrow.Author.Needs.{needs}
 use Rattle.machine_spec.specs.Box.{trim}
 use Rattle.machine_spec.specs.Machine.{Machine}
 use Rattle.machine_spec.specs.Rate.{rates}
-use Rattle.machine_spec.proofs.Box.{differ}
+use Rattle.sheet_spec.proofs.Box.{differ}
 use Rattle.machine_spec.proofs.InPlace.{trim-as, trim-as-hull}
 use Rattle.boxes_arithmetic.specs.Limits.{SidesWithin}
 use Rattle.boxes_rates.specs.Plant.{machineOf}

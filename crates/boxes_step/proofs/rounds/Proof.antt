@@ -8,7 +8,7 @@ use native.Mathlib.Omega.{arith}
 use lib.IntN.{ℤ}
 use Rattle.machine_spec.specs.Box.{trim}
 use Rattle.machine_spec.specs.Machine.{Machine}
-use Rattle.machine_spec.proofs.Box.{differ}
+use Rattle.sheet_spec.proofs.Box.{differ}
 use Rattle.machine_spec.proofs.InPlace.{trim-as}
 use Rattle.boxes_arithmetic.specs.Limits.{SidesWithin}
 use Rattle.boxes_rates.specs.Plant.{machineOf}

@@ -3,7 +3,7 @@ use mathlib.Core.Path.{_≡_, sym, ap, _∙_, subst}
 use Prim.Native.Nat.{ℕ, _≤_}
 use native.Mathlib.Omega.{arith}
 use borrow.Author.Needs.{needs}
-use Rattle.boxes_spec.specs.Reach.{maxWidth}
+use Rattle.sheet_spec.specs.Limits.{maxWidth}
 use Rattle.decision_answers.specs.declared.Decision.{Decision}
 use Rattle.decision_spec.specs.Decision.{codeOf, widthOf, roundsOf, packed}
 use Rattle.decision_answers.specs.Decision.{replyOf}

@@ -12,7 +12,8 @@ use borrow.Author.Needs.{needs}
 use Rattle.sheet_spec.specs.Slots.{vars}
 use Rattle.machine_spec.specs.Machine.{command, lawOf}
 use Rattle.boxes_spec.specs.Reach.{lawRefusal, sidesRefusal}
-use Rattle.decision_spec.specs.Question.{questionLength, maxAllowance, allowanceOf, commandOf, measured, formRefusal}
+use Rattle.sheet_spec.specs.Limits.{maxAllowance}
+use Rattle.decision_spec.specs.Question.{questionLength, allowanceOf, commandOf, measured, formRefusal}
 use Rattle.decision_question.proofs.Refusals.{form-length, stop-form, stop-allowance, stop-law, stop-sides}
 use Rattle.decision_question.proofs.refusal.Statement.{statement}
 use Rattle.decision_question.proofs.refusal.Tie as tie

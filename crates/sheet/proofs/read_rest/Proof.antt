@@ -3,7 +3,8 @@ use mathlib.Core.Path.{_≡_}
 use Prim.Native.Nat.{_≤_, ℕ}
 use native.Mathlib.Omega.{arith}
 use Rattle.sheet_encoding.proofs.ReaderAnswer.{counts, rest-read, rest-short}
-use Rattle.sheet_spec.specs.Slots.{N, bands, boxes, maxBands, maxBoxes, vars}
+use Rattle.sheet_spec.specs.Limits.{maxBands, maxBoxes}
+use Rattle.sheet_spec.specs.Slots.{N, bands, boxes, vars}
 use Rattle.sheet.proofs.read_rest.Statement.{statement}
 use Rattle.sheet.proofs.read_rest.Tie as tie
 

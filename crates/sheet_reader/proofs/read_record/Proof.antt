@@ -10,7 +10,8 @@ use Rattle.sheet_encoding.proofs.RecordTurn.{band-is, size-is, head-is, recover
 use Rattle.sheet_spec.proofs.Length.{recordSize}
 use Rattle.sheet_spec.specs.Fields.{filled}
 use Rattle.sheet_spec.specs.File.{Shape, countAt, fieldsAt, recordAt, start, sized}
-use Rattle.sheet_spec.specs.Layout.{Record, band, count, fields, head, headFields, recovery, recoveryLimit, unsafe, unsafeLimit}
+use Rattle.sheet_spec.specs.Limits.{maxRecoverySide, maxUnsafeSide}
+use Rattle.sheet_spec.specs.Layout.{Record, band, count, fields, head, headFields, recovery, unsafe}
 use Rattle.sheet_spec.specs.Slots.{headSize}
 use Rattle.sheet_spec.specs.Sizes.{letters}
 use Rattle.sheet_reader.proofs.read_record.Statement.{statement}
@@ -72,11 +73,11 @@ returns-2 c = those (c .before .before .before .before .before) (is-band (c .bef
 
 returns-3 : tie.Need-returns-3
 unfolding fields
-returns-3 c = those (c .before .before .before .before .before .before) (is-unsafe (c .before .before)) (c .read-box .ensures unsafeLimit)
+returns-3 c = those (c .before .before .before .before .before .before) (is-unsafe (c .before .before)) (c .read-box .ensures maxUnsafeSide)
 
 returns-4 : tie.Need-returns-4
 unfolding fields
-returns-4 c = those (c .before .before .before .before .before .before) (is-recovery (c .before .before)) (c .read-box2 .ensures recoveryLimit)
+returns-4 c = those (c .before .before .before .before .before .before) (is-recovery (c .before .before)) (c .read-box2 .ensures maxRecoverySide)
 
 pub read-record-spec : {M : Type 1} → statement M
 read-record-spec =

@@ -3,7 +3,8 @@ use mathlib.Core.Path.{_≡_}
 use Prim.Native.Nat.{_≤_, ℕ}
 use native.Mathlib.Omega.{arith}
 use Rattle.sheet_writer.proofs.FileTurn.{part-length, value-counts, wrote, wrote-short}
-use Rattle.sheet_spec.specs.Slots.{N, bands, boxes, maxBands, maxBoxes, vars}
+use Rattle.sheet_spec.specs.Limits.{maxBands, maxBoxes}
+use Rattle.sheet_spec.specs.Slots.{N, bands, boxes, vars}
 use borrow.Author.Needs.{needs}
 use Rattle.sheet_writer.proofs.write_valid.Statement.{statement}
 use Rattle.sheet_writer.proofs.write_valid.Tie as tie

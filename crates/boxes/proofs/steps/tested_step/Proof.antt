@@ -7,8 +7,9 @@ use native.Mathlib.Omega.{arith}
 use lib.IntN.{ℤ}
 use borrow.Author.Needs.{needs}
 use Rattle.sheet_spec.specs.Slots.{unsafeBox}
-use Rattle.machine_spec.specs.Box.{any, meets, trim}
-use Rattle.machine_spec.proofs.Box.{differ}
+use Rattle.sheet_spec.specs.Box.{any, meets}
+use Rattle.machine_spec.specs.Box.{trim}
+use Rattle.sheet_spec.proofs.Box.{differ}
 use Rattle.machine_spec.proofs.InPlace.{trim-moved, trim-as}
 use Rattle.boxes_rates.proofs.Bounds.{wider}
 use Rattle.boxes_spec.specs.Step.{step}

@@ -7,7 +7,7 @@ use mir.Syntax.{w64}
 use mir.Val.{SFits}
 use borrow.Author.Needs.{needs}
 use Rattle.integers.proofs.Z.{told}
-use Rattle.machine_spec.specs.Box.{lo, hi}
+use Rattle.sheet_spec.specs.Box.{lo, hi}
 use Rattle.machine_spec.specs.Machine.{bandMeets}
 use Rattle.machine_spec.specs.Rate.{bandRate}
 use Rattle.machine_spec.proofs.Sound.{outer-neutral}

@@ -5,7 +5,7 @@ use mir.Syntax.{w64}
 use mir.Val.{SFits}
 use borrow.Author.Needs.{needs}
 use Rattle.integers.proofs.Z.{told, bound-sum, bound-sub, fits64}
-use Rattle.machine_spec.specs.Box.{lo, hi}
+use Rattle.sheet_spec.specs.Box.{lo, hi}
 use Rattle.machine_spec.specs.Rate.{neighborhood}
 use Rattle.boxes_rates.proofs.rate.narrow.Statement.{statement}
 use Rattle.boxes_rates.proofs.rate.narrow.Tie as tie

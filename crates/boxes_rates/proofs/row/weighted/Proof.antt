@@ -13,7 +13,8 @@ use borrow.Author.Needs.{sfits-of}
 use Rattle.integers.specs.Bound.{Bound}
 use Rattle.integers.proofs.Z.{told, bound-of, bound-read, bound-sum, bound-mul, bound-less, bound-lit, fits64, fits-by}
 use Rattle.sheet_spec.specs.Slots.{_!_, N, Row, rowAt}
-use Rattle.machine_spec.specs.Box.{lo, hi, sum}
+use Rattle.sheet_spec.specs.Box.{lo, hi}
+use Rattle.machine_spec.specs.Box.{sum}
 use Rattle.machine_spec.specs.Rate.{outer, weighted}
 use Rattle.boxes_arithmetic.specs.Limits.{limit, word}
 use Rattle.machine_spec.proofs.Box.{sum-more}

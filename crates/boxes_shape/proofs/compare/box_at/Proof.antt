@@ -8,7 +8,8 @@ use Rattle.integers.proofs.Z.{up32}
 use Rattle.sheet_spec.specs.Slots.{N, boxAt}
 use Rattle.machine_spec.specs.Box.{boxOf, trim}
 use Rattle.boxes_arithmetic.proofs.Bounds.{wide}
-use Rattle.machine_spec.proofs.Box.{sides-more, box-lo, box-hi}
+use Rattle.sheet_spec.proofs.Box.{box-lo, box-hi}
+use Rattle.machine_spec.proofs.Box.{sides-more}
 use Rattle.boxes_shape.proofs.compare.box_at.Statement.{statement}
 use Rattle.boxes_shape.proofs.compare.box_at.Tie as tie
 

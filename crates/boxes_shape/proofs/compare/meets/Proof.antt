@@ -11,9 +11,9 @@ use borrow.Author.Needs.{needs}
 use borrow.Author.Tests.{not-true, not-false}
 use Rattle.integers.proofs.Z.{told, up32}
 use Rattle.sheet_spec.specs.Slots.{_!_, N, boxAt}
-use Rattle.machine_spec.specs.Box.{lo, hi, all, meets}
+use Rattle.sheet_spec.specs.Box.{lo, hi, all, meets}
 use Rattle.boxes_arithmetic.proofs.Bounds.{wide}
-use Rattle.machine_spec.proofs.Box.{all-more, all-stop, box-lo, box-hi}
+use Rattle.sheet_spec.proofs.Box.{all-more, all-stop, box-lo, box-hi}
 use Rattle.boxes_shape.proofs.compare.meets.Statement.{statement}
 use Rattle.boxes_shape.proofs.compare.meets.Tie as tie
 

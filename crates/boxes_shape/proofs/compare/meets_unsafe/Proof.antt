@@ -5,8 +5,8 @@ use mathlib.Core.Bool.{false}
 use Prim.Native.Nat.{_≤_, _-_}
 use native.Mathlib.Omega.{arith}
 use Rattle.sheet_spec.specs.Slots.{unsafeBox}
-use Rattle.machine_spec.specs.Box.{any, meets}
-use Rattle.machine_spec.proofs.Box.{any-more, any-at}
+use Rattle.sheet_spec.specs.Box.{any, meets}
+use Rattle.sheet_spec.proofs.Box.{any-more, any-at}
 use Rattle.boxes_shape.proofs.compare.meets_unsafe.Statement.{statement}
 use Rattle.boxes_shape.proofs.compare.meets_unsafe.Tie as tie
 

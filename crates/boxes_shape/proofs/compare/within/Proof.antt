@@ -7,8 +7,9 @@ use native.Mathlib.Omega.{arith}
 use lib.Signed.{leZ}
 use borrow.Author.Tests.{not-true, not-false}
 use Rattle.integers.proofs.Z.{told}
-use Rattle.machine_spec.specs.Box.{lo, hi, all, within}
-use Rattle.machine_spec.proofs.Box.{all-more, all-stop}
+use Rattle.sheet_spec.specs.Box.{lo, hi, all}
+use Rattle.machine_spec.specs.Box.{within}
+use Rattle.sheet_spec.proofs.Box.{all-more, all-stop}
 use Rattle.boxes_shape.proofs.compare.within.Statement.{statement}
 use Rattle.boxes_shape.proofs.compare.within.Tie as tie
 

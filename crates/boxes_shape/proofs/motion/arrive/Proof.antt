@@ -12,7 +12,8 @@ use borrow.Author.Needs.{needs}
 use Rattle.integers.specs.Order.{minZ, maxZ}
 use Rattle.integers.proofs.Z.{told}
 use Rattle.sheet_spec.specs.Slots.{N}
-use Rattle.machine_spec.specs.Box.{lo, hi, trim, hull, moved}
+use Rattle.sheet_spec.specs.Box.{lo, hi}
+use Rattle.machine_spec.specs.Box.{trim, hull, moved}
 use Rattle.machine_spec.proofs.Box.{sides-lo, sides-hi}
 use Rattle.machine_spec.proofs.InPlace.{filled, filled-none, filled-more, turn-lo, turn-hi, filled-sides, sides-same}
 use Rattle.boxes_shape.proofs.Sides.{side-movable}

@@ -15,8 +15,10 @@ use borrow.Author.Needs.{needs}
 use Rattle.integers.specs.Order.{minZ, maxZ}
 use Rattle.integers.proofs.Z.{told}
 use Rattle.sheet_spec.specs.Slots.{N}
-use Rattle.machine_spec.specs.Box.{lo, hi, all, hull, moved, within}
-use Rattle.machine_spec.proofs.Box.{swept-lo, swept-hi, all-last, all-false}
+use Rattle.sheet_spec.specs.Box.{lo, hi, all}
+use Rattle.machine_spec.specs.Box.{hull, moved, within}
+use Rattle.sheet_spec.proofs.Box.{all-last, all-false}
+use Rattle.machine_spec.proofs.Box.{swept-lo, swept-hi}
 use Rattle.machine_spec.proofs.InPlace.{filled, filled-none, filled-more, turn-lo, turn-hi, turn-hi-set, filled-sides}
 use Rattle.boxes_shape.proofs.Sides.{side-movable}
 use Rattle.boxes_shape.proofs.motion.grow.Statement.{statement}

@@ -6,7 +6,8 @@ use native.Mathlib.Omega.{arith}
 use borrow.Author.Needs.{needs}
 use Rattle.sheet_encoding.proofs.RecordTurn.{rows-most}
 use Rattle.sheet_spec.proofs.Length.{file-length}
-use Rattle.sheet_spec.specs.Slots.{N, maxBands, maxBoxes}
+use Rattle.sheet_spec.specs.Limits.{maxBands, maxBoxes}
+use Rattle.sheet_spec.specs.Slots.{N}
 use Rattle.sheet_spec.specs.File.{sized}
 use Rattle.sheet_spec.specs.Sizes.{letters, rowBytes, bandHead, boxBytes}
 use Rattle.sheet_encoding.proofs.marks.file_length.Statement.{statement}

@@ -9,7 +9,8 @@ use Rattle.sheet_encoding.proofs.RecordTurn.{band-is, size-is, head-is, recover
 use Rattle.sheet_spec.proofs.Length.{recordSize}
 use Rattle.sheet_spec.specs.Fields.{coded}
 use Rattle.sheet_spec.specs.File.{Shape, countAt, fieldsAt, recordAt, sized}
-use Rattle.sheet_spec.specs.Layout.{unsafeLimit, recoveryLimit, Record, band, count, fields, head, recovery, unsafe}
+use Rattle.sheet_spec.specs.Limits.{maxUnsafeSide, maxRecoverySide}
+use Rattle.sheet_spec.specs.Layout.{Record, band, count, fields, head, recovery, unsafe}
 use Rattle.sheet_spec.specs.Sizes.{letters}
 use borrow.Author.Needs.{needs}
 use Rattle.sheet_writer.proofs.record.write_numbers.Statement.{statement}
@@ -62,11 +63,11 @@ returns-2 c = those (c .before .before .before .before .before .before .before) 
 
 returns-3 : tie.Need-returns-3
 unfolding fields
-returns-3 c = those (c .before .before .before .before .before .before .before .before) (is-unsafe (c .before .before .before .before)) (c .before .before .write-box .ensures unsafeLimit)
+returns-3 c = those (c .before .before .before .before .before .before .before .before) (is-unsafe (c .before .before .before .before)) (c .before .before .write-box .ensures maxUnsafeSide)
 
 returns-4 : tie.Need-returns-4
 unfolding fields
-returns-4 c = those (c .before .before .before .before .before .before .before .before) (is-recovery (c .before .before .before .before)) (c .before .before .write-box2 .ensures recoveryLimit)
+returns-4 c = those (c .before .before .before .before .before .before .before .before) (is-recovery (c .before .before .before .before)) (c .before .before .write-box2 .ensures maxRecoverySide)
 
 pub write-numbers-spec : {M : Type 1} → statement M
 write-numbers-spec =

@@ -1,0 +1,105 @@
+-- Laws about tests of each number below a count, and about the boxes of a sheet. Assumes nothing.
+use mathlib.Core.Path.{_≡_, refl, sym, _∙_, subst}
+use mathlib.Core.Logic.{⊎-elim}
+use mathlib.Core.Bool.{Bool, true, false, _&&_, _||_}
+use mathlib.Core.List.{List}
+use Prim.Native.Nat.{ℕ, zero, suc, _+_, _<_}
+use native.Mathlib.Nat.{eq-or-lt-of-le}
+use native.Mathlib.Numerals.{add-one}
+use native.Mathlib.Omega.{arith}
+use lib.Dec.{T}
+use lib.IntN.{ℤ, pos}
+use lib.Signed.{leZ, _≤ℤ_, _<ℤ_}
+use lib.ListN.{drop}
+use lib.Seq.{getD-take, getD-drop}
+use Rattle.integers.proofs.Z.{ints, le-true}
+use Rattle.sheet_spec.specs.Slots.{_!_, N, boxSize, boxAt}
+use Rattle.sheet_spec.specs.Box.{lo, hi, all, any, meets}
+
+-- ---- tests
+
+pub differ : {t : Bool} → t ≡ true → t ≡ false → ⊥
+differ e f = subst T (sym e ∙ f) tt
+
+pub is-true : (t : Bool) → (t ≡ false → ⊥) → t ≡ true
+is-true true h = refl
+is-true false h = absurd (h refl)
+
+pub is-false : (t : Bool) → (t ≡ true → ⊥) → t ≡ false
+is-false true h = absurd (h refl)
+is-false false h = refl
+
+pub le-is : (a b : ℤ) → a ≤ℤ b → leZ a b ≡ true
+le-is a b h = is-true (leZ a b) (λ e. omega ints)
+
+pub le-not : (a b : ℤ) → b <ℤ a → leZ a b ≡ false
+le-not a b h = is-false (leZ a b) (λ e. omega ints)
+
+pub and-both : (a b : Bool) → (a && b) ≡ true → (a ≡ true) × (b ≡ true)
+and-both true b e = (refl, e)
+and-both false b e = absurd (differ e refl)
+
+-- ---- one more
+
+module _ (n : ℕ) where
+  pub all-last : (f : ℕ → Bool) → all n f ≡ true → all (n + 1) f ≡ f n
+  unfolding all
+  all-last f e = rw add-one (rw e refl)
+
+  pub all-more : (f : ℕ → Bool) → all n f ≡ true → f n ≡ true → all (n + 1) f ≡ true
+  all-more f e g = all-last f e ∙ g
+
+  pub all-false : (f : ℕ → Bool) → all n f ≡ false → all (n + 1) f ≡ false
+  unfolding all
+  all-false f e = rw add-one (rw e refl)
+
+  pub any-more : (f : ℕ → Bool) → any n f ≡ false → f n ≡ false → any (n + 1) f ≡ false
+  unfolding any
+  any-more f e g = rw add-one (rw (e, g) refl)
+
+-- ---- at each i below n
+
+pub all-at : (n : ℕ) (f : ℕ → Bool) (i : ℕ) → all n f ≡ true → i < n → f i ≡ true
+unfolding all
+all-at zero f i e h = absurd (omega arith)
+all-at (suc n) f i e h =
+    let b = and-both (all n f) (f n) e in
+    ⊎-elim (λ q. rw q (b .1)) (λ l. all-at n f i (b .0) l) (eq-or-lt-of-le (omega arith))
+
+pub all-of : (n : ℕ) (f : ℕ → Bool) → ((i : ℕ) → i < n → f i ≡ true) → all n f ≡ true
+unfolding all
+all-of zero f h = refl
+all-of (suc n) f h = rw (all-of n f (λ i l. h i (omega arith)), h n (omega arith)) refl
+
+pub all-stop : (n : ℕ) (f : ℕ → Bool) (i : ℕ) → i < n → f i ≡ false → all n f ≡ false
+all-stop n f i h e = is-false (all n f) (λ g. differ (all-at n f i g h) e)
+
+pub any-at : (n : ℕ) (f : ℕ → Bool) (i : ℕ) → i < n → f i ≡ true → any n f ≡ true
+unfolding any
+any-at zero f i h e = absurd (omega arith)
+any-at (suc n) f i h e = ⊎-elim (λ q. last (any n f) (rw q at e)) (λ l. rw (any-at n f i l e) refl) (eq-or-lt-of-le (omega arith))
+  where
+    last : (a : Bool) → f n ≡ true → (a || f n) ≡ true
+    last true q = refl
+    last false q = q
+
+pub any-none : (n : ℕ) (f : ℕ → Bool) (i : ℕ) → any n f ≡ false → i < n → f i ≡ false
+any-none n f i e h = is-false (f i) (λ g. differ (any-at n f i h g) e)
+
+-- ---- boxes
+
+-- of a box in a sheet's value
+pub box-at : (v : List ℤ) (at j : ℕ) → j < boxSize → boxAt v at ! j ≡ v ! (at + j)
+box-at v at j h = getD-take boxSize (drop at v) j (pos 0) h ∙ getD-drop at v j (pos 0)
+
+module _ (v : List ℤ) (at i : ℕ) (h : i < N) where
+  pub box-lo : lo (boxAt v at) i ≡ v ! (at + i)
+  box-lo = box-at v at i (omega arith)
+
+  pub box-hi : hi (boxAt v at) i ≡ v ! (at + i + N)
+  box-hi = let q : at + (i + N) ≡ at + i + N = omega arith in box-at v at (i + N) (omega arith) ∙ rw q refl
+
+module _ (n : ℕ) (A B : List ℤ) (i : ℕ) (h : i < n) where
+  pub meets-at : meets n A B ≡ true → (lo A i ≤ℤ hi B i) × (lo B i ≤ℤ hi A i)
+  unfolding meets
+  meets-at e = let b = and-both _ _ (all-at n _ i e h) in (le-true _ _ (b .0), le-true _ _ (b .1))

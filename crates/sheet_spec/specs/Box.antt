@@ -1,0 +1,30 @@
+-- Boxes as a sheet has them, and tests of each number below a count. All of it computes.
+-- A box is 2N numbers: variable i's lower side at i, its upper side at i + N. Places that no variable has are 0.
+use mathlib.Core.Bool.{Bool, true, false, _&&_, _||_}
+use mathlib.Core.List.{List}
+use Prim.Native.Nat.{ℕ, zero, suc, _+_}
+use lib.IntN.{ℤ}
+use lib.Signed.{leZ}
+use Rattle.sheet_spec.specs.Slots.{_!_, N}
+
+abbrev pub lo : List ℤ → ℕ → ℤ
+lo B i = B ! i
+
+abbrev pub hi : List ℤ → ℕ → ℤ
+hi B i = B ! (i + N)
+
+-- ---- for each i below n
+
+unfoldable pub all : ℕ → (ℕ → Bool) → Bool
+all zero f = true
+all (suc n) f = all n f && f n
+
+unfoldable pub any : ℕ → (ℕ → Bool) → Bool
+any zero f = false
+any (suc n) f = any n f || f n
+
+-- ---- boxes
+
+-- A and B share a state
+unfoldable pub meets : ℕ → List ℤ → List ℤ → Bool
+meets n A B = all n (λ i. leZ (lo A i) (hi B i) && leZ (lo B i) (hi A i))
