@@ -7,7 +7,9 @@ use lib.IntN.{ℤ}
 use Rattle.sheet_spec.specs.Slots.{vars, boxes, δ, α, ρ, recoveryBox}
 use Rattle.sheet_spec.specs.Sheet.{refusal, values}
 use Rattle.machine_spec.specs.Box.{within}
-use Rattle.machine_spec.specs.Machine.{Law, baseline, command, machine}
+use Rattle.machine_spec.specs.declared.Law.{Law}
+use Rattle.machine_spec.specs.declared.Law.the-variants.{Baseline, Command}
+use Rattle.machine_spec.specs.Machine.{machine}
 use Rattle.boxes_spec.specs.Step.{Result, ok, failed, exhausted, unrecovered, andThen}
 use Rattle.boxes_spec.specs.Reach.{reach, clear}
 use Rattle.decision_spec.specs.Question.{questionRefusal, allowanceOf, commandOf, measured}
@@ -70,7 +72,7 @@ attempts attemptAt (suc fuel) w c = outcome (attemptAt w c) w (λ c′. attempts
 
 -- δ ticks under the command, then α under the plain law
 unfoldable pub decisionPhases : List ℤ → ℤ → List Phase
-decisionPhases v u = phase (command u) (δ v) ∷ phase baseline (α v) ∷ []
+decisionPhases v u = phase (Command u) (δ v) ∷ phase Baseline (α v) ∷ []
 
 -- from the measured box B, with an allowance (if `limited`)
 abbrev pub decisionWithin : Bool → ℕ → List ℤ → List ℤ → ℤ → Reply
@@ -82,7 +84,7 @@ decisionOf v B u allowance = decisionWithin true allowance v B u
 
 -- ρ ticks under the plain law from the recovery box, with no allowance
 unfoldable pub recoveryPhases : List ℤ → List Phase
-recoveryPhases v = phase baseline (ρ v) ∷ []
+recoveryPhases v = phase Baseline (ρ v) ∷ []
 
 unfoldable pub recoveryOf : List ℤ → Reply
 recoveryOf v = attempts (λ w c. attempt false 0 v w (recoveryPhases v) (recoveryBox v) c) (ρ v) (ρ v) 0
