@@ -20,6 +20,7 @@ use boxes_shape::compare::box_at;
 use boxes_shape::compare::within;
 use boxes_step::Budget;
 use decision_answers::Decision;
+use machine_spec::Law;
 use sheet_spec::slots::BOX_SIZE;
 use sheet_spec::slots::BOXES;
 use sheet_spec::slots::RECOVERY;
@@ -89,7 +90,7 @@ fn attempt(
     ensures { λ r. ⌜ r ≡ summary (now (sheet .entry)) (attemptOf plan (now (sheet .entry)) (now (start .entry)) width count) ⌝ }
 {
     let budget = plan.budget;
-    let p = plant(sheet, false, plan.command);
+    let p = plant(sheet, Law::Command(plan.command));
     let boxes = sheet_encoding::count(sheet, BOXES);
     let mut end = *start;
     let mut swept = end;
@@ -105,7 +106,7 @@ fn attempt(
     };
     let plain = ReachPlan {
         budget: budget,
-        plant: plant(sheet, true, plan.command),
+        plant: plant(sheet, Law::Baseline),
         boxes: boxes,
         width: width,
     };

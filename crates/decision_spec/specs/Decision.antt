@@ -7,7 +7,9 @@ use lib.IntN.{ℤ}
 use Rattle.sheet_spec.specs.Slots.{vars, boxes, δ, α, ρ, recoveryBox}
 use Rattle.sheet_spec.specs.Sheet.{refusal, values}
 use Rattle.machine_spec.specs.Box.{within}
-use Rattle.machine_spec.specs.Machine.{Law, baseline, command, machine}
+use Rattle.machine_spec.specs.declared.Law.{Law}
+use Rattle.machine_spec.specs.declared.Law.the-variants.{Baseline, Command}
+use Rattle.machine_spec.specs.Machine.{machine}
 use Rattle.boxes_spec.specs.Step.{Failure, unsettled, unrecovered, Result, ok, failed, exhausted, andThen}
 use Rattle.boxes_spec.specs.Reach.{reach, clear}
 use Rattle.decision_spec.specs.Question.{questionRefusal, allowanceOf, commandOf, measured}
@@ -107,7 +109,7 @@ lastReply (a ∷ b ∷ others) = lastReply (b ∷ others)
 
 -- δ ticks under the command, then α under the plain law
 unfoldable pub decisionPhases : List ℤ → ℤ → List Phase
-decisionPhases v u = phase (command u) (δ v) ∷ phase baseline (α v) ∷ []
+decisionPhases v u = phase (Command u) (δ v) ∷ phase Baseline (α v) ∷ []
 
 -- the attempts from the measured box B, with an allowance (if `limited`)
 abbrev pub decisionAttempts : Bool → ℕ → List ℤ → List ℤ → ℤ → List Attempt
@@ -122,7 +124,7 @@ decisionOf v B u allowance = decisionWithin true allowance v B u
 
 -- ρ ticks under the plain law from the recovery box, with no allowance
 unfoldable pub recoveryPhases : List ℤ → List Phase
-recoveryPhases v = phase baseline (ρ v) ∷ []
+recoveryPhases v = phase Baseline (ρ v) ∷ []
 
 abbrev pub recoveryAttempts : List ℤ → List Attempt
 recoveryAttempts v = attempts (λ w c. attempt false 0 v w (recoveryPhases v) (recoveryBox v) c) (ρ v) (ρ v) 0
