@@ -1,5 +1,5 @@
 -- A phase of an attempt for a reach of the code, and an attempt of the definitions for a turn of the code's loop. Assumes nothing.
-use mathlib.Core.Path.{_≡_, refl, sym, ap, _∙_, subst}
+use mathlib.Core.Path.{_≡_, refl, sym, ap, _∙_}
 use mathlib.Core.Bool.{Bool, true, false}
 use mathlib.Core.List.{List, [], _∷_}
 use Prim.Native.Nat.{ℕ, zero, suc, _+_, _*_, _-_, _/_, _≤_, _<_}
@@ -53,9 +53,9 @@ plant-reach v {law = law} under limited allowance count w S ticks c all-boxes =
     ap (λ (l : Law). reach limited allowance (machine v l) (clear (vars v) v count) w S ticks c) under
     ∙ ap (λ (j : ℕ). reach limited allowance (machine v law) (clear (vars v) v j) w S ticks c) all-boxes
 
--- the lowest number of a no-go box, with the number of no-go boxes that the code has
-pub plant-names : (v : List ℤ) {count : ℕ} (W : List ℤ) (r : ReachResult) → count ≡ boxes v → Names (lowestMet (vars v) v count W) r → Names (lowestMet (vars v) v (boxes v) W) r
-plant-names v W r counted names = subst (λ (m : ℕ). Names (lowestMet (vars v) v m W) r) counted names
+-- the number of a no-go box, with the number of them that the code has
+pub names-all : (v : List ℤ) {count : ℕ} (W : List ℤ) (r : ReachResult) → count ≡ boxes v → Names (lowestMet (vars v) v count W) r → Names (lowestMet (vars v) v (boxes v) W) r
+names-all v W r all-boxes names = subst (λ (j : ℕ). Names (lowestMet (vars v) v j W) r) all-boxes names
 
 -- a box lies in another exactly if it lies in what counts of it
 pub within-trim : (n : ℕ) (A B : List ℤ) → n ≤ N → within n A (trim n B) ≡ within n A B

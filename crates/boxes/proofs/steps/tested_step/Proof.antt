@@ -15,7 +15,7 @@ use Rattle.boxes_rates.proofs.Bounds.{wider}
 use Rattle.boxes_shape.specs.Limits.{ArriveDone}
 use Rattle.boxes_spec.specs.Step.{step}
 use Rattle.boxes.specs.declared.steps.ReachPlan.{ReachPlan}
-use Rattle.boxes.specs.ReachPlan.{machineOn, clearOn}
+use Rattle.boxes.specs.ReachPlan.{machineOn, clearOn, lowestOn}
 use Rattle.boxes.specs.ReachResult.{isEnded, Names}
 use Rattle.boxes.proofs.Bounds.{step-ticks, zero-bound}
 use Rattle.boxes.proofs.Turn.{trimmed-by, Stepping, tested-unsettled, tested-exhausted, tested-clear, tested-unsafe, is-clear, is-not-clear}
@@ -85,10 +85,9 @@ module _ (at-arrival : tie.After-arrive) where
   trimmed : trim (vars (v stepped)) E ≡ E
   trimmed = trim-as (vars (v stepped)) (arrived .end) (trim-moved (vars (v stepped)) (room stepped) (S stepped) t (R stepped))
 
--- the lowest number of a no-go box that the swept box meets
-lowest-is : (at-test : tie.After-lowest-met)
-    → let a = at-test .before .before in at-test .lowest-met .result ≡ lowestMet (vars (v (stepped a))) (v (stepped a)) (plan (stepped a) .boxes) (P a)
-lowest-is at-test =
+-- what is known after the test
+number-is : (at-test : tie.After-lowest-met) → let a = at-test .before .before in at-test .lowest-met .result ≡ lowestOn (plan (stepped a)) (v (stepped a)) (P a)
+number-is at-test =
     let a = at-test .before .before in
     at-test .lowest-met .ensures ∙ ap (λ (n : ℕ). lowestMet n (v (stepped a)) (plan (stepped a) .boxes) (P a)) (vars-are (stepped a))
 
@@ -126,8 +125,8 @@ returns at-return =
     let at-test = at-return .before .before in
     let a = at-test .before .before in
     record {
-      same = tested-unsafe (stepping (stepped a)) (free (stepped a)) (t a) (d a) (settled a .r .given .1) (arrived a .end) (arrived a .path) _ (is-not-clear _ _ _ (P a) (lowest-is at-test) (at-return .if1 .taken));
-      names = lowest-is at-test;
+      same = tested-unsafe (stepping (stepped a)) (free (stepped a)) (t a) (d a) (settled a .r .given .1) (arrived a .end) (arrived a .path) _ (is-not-clear _ _ _ (P a) (number-is at-test) (at-return .if1 .taken));
+      names = number-is at-test;
       arrived = λ no. absurd (differ no refl);
       trimmed = trimmed a;
     }
@@ -139,7 +138,7 @@ returns-2 at-return =
     let at-test = at-return .before .before in
     let a = at-test .before .before in
     record {
-      same = tested-clear (stepping (stepped a)) (free (stepped a)) (t a) (d a) (settled a .r .given .1) (arrived a .end) (arrived a .path) (is-clear _ _ _ (P a) (lowest-is at-test) (at-return .if1 .left));
+      same = tested-clear (stepping (stepped a)) (free (stepped a)) (t a) (d a) (settled a .r .given .1) (arrived a .end) (arrived a .path) (is-clear _ _ _ (P a) (number-is at-test) (at-return .if1 .left));
       names = tt;
       arrived = λ yes. record { work = arrived a .work; swept = arrived a .path };
       trimmed = trimmed a;

@@ -24,7 +24,7 @@ use Rattle.decision_spec.specs.Decision.{Phase, phase, attempt}
 use Rattle.decision.specs.declared.attempt.AttemptPlan.{AttemptPlan}
 use Rattle.decision.specs.AttemptResult.{summary}
 use Rattle.decision.specs.Limits.{startLimit}
-use Rattle.decision.proofs.Turn.{reached, plant-names, plant-reach, phase-near, phase-on, phase-stops, attempt-succeeds, attempt-fails, within-trim}
+use Rattle.decision.proofs.Turn.{reached, plant-reach, names-all, phase-near, phase-on, phase-stops, attempt-succeeds, attempt-fails, within-trim}
 use Rattle.decision.proofs.attempt.attempt.Statement.{statement}
 use Rattle.decision.proofs.attempt.attempt.Tie as tie
 
@@ -176,7 +176,7 @@ returns : tie.Need-returns
 returns at-return =
     let r = at-return .before .before in
     let p = at-plant r in
-    at-return .summary-of .ensures (v p) (E r) (W r) (plant-names (v p) (W r) _ (at-count r .count .ensures) (r .reach .ensures .names))
+    at-return .summary-of .ensures (v p) (E r) (W r) (names-all (v p) (W r) _ (at-count r .count .ensures) (r .reach .ensures .names))
     ∙ phase-stops _ _ _ _ (commanded p) (plain p ∷ []) _ _ _ (E r) (W r) (first-reach r) (not-ended (at-return .before .match .keys2))
 
 reach-requires-2 : tie.Need-reach-requires-2
@@ -204,7 +204,7 @@ reach-requires-2 c κs =
 returns-2 : tie.Need-returns-2
 returns-2 at-return =
     let q = at-return .before .before in
-    let named = plant-names (v (before q)) (X q) _ (at-count (at-reach (first-ended q)) .count .ensures) (q .reach2 .ensures .names) in
+    let named = names-all (v (before q)) (X q) _ (at-count (at-reach (first-ended q)) .count .ensures) (q .reach2 .ensures .names) in
     at-return .summary-of2 .ensures (v (before q)) (F q) (X q) named
     ∙ phase-stops _ _ _ _ (plain (before q)) [] _ _ _ (F q) (X q) (last-reach q) (not-ended (at-return .before .match2 .keys2))
     ∙ ap (summary {A = List ℤ} _) (sym (first-on (first-ended q)))
