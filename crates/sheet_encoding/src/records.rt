@@ -1,11 +1,9 @@
 // The records of a file: how many there are, which of them is where, and their lengths.
 ghost use mathlib.Core.Path.{_≡_};
-ghost use Prim.Native.Nat.{_+_};
 ghost use Rattle.sheet_spec.specs.Slots.{headSize};
-ghost use Rattle.sheet_spec.specs.Fields.{offset, bad};
-ghost use Rattle.sheet_spec.specs.Sizes.{letters};
-ghost use Rattle.sheet_spec.specs.Layout.{headFields, fields, count};
-ghost use Rattle.sheet_spec.specs.File.{shape, Small, records, recordAt, start};
+ghost use Rattle.sheet_spec.specs.Fields.{bad};
+ghost use Rattle.sheet_spec.specs.Layout.{headFields};
+ghost use Rattle.sheet_spec.specs.File.{shape, Small, records, recordAt, recordLength, start};
 use crate::count;
 use sheet_spec::Record;
 use sheet_spec::Shape;
@@ -56,7 +54,7 @@ pub fn record_at(shape: Shape, r: usize) -> Record
 // The bytes of a record.
 pub fn record_length(shape: Shape, record: Record) -> usize
     requires { ⌜ Small shape ⌝ }
-    ensures { λ l. ⌜ l ≡ letters + offset (fields (shape .vars) «record») (count (shape .vars) «record») ⌝ }
+    ensures { λ l. ⌜ l ≡ recordLength (shape .vars) «record» ⌝ }
 {
     let n = shape.vars;
     match record {

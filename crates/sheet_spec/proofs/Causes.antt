@@ -12,7 +12,7 @@ use Rattle.sheet_spec.specs.Refusals.{Cause, greatestNumber}
 use Rattle.sheet_spec.specs.Fields.{Field, test, bad}
 use Rattle.sheet_spec.specs.Sizes.{capsAt}
 use Rattle.sheet_spec.specs.declared.Record.{Record}
-use Rattle.sheet_spec.specs.declared.Record.the-variants.{Head}
+use Rattle.sheet_spec.specs.declared.Record.the-variants.{Head, Band, Unsafe, Recovery}
 use Rattle.sheet_spec.specs.Layout.{headFields}
 use Rattle.sheet_spec.specs.declared.Shape.{Shape}
 use Rattle.sheet_spec.specs.File.{shape, records, recordAt, fieldsAt, countAt, start, marked, markedAt, closing, badRecord, badAll}
@@ -29,7 +29,10 @@ bad-most p v = first-most (λ j. test v (p j)) (λ j. test-most v (p j))
 
 closing-most : (v : List ℤ) (s : Shape) (x : Record) → closing v s x ≤ greatestNumber
 unfolding closing
-closing-most v s x = omega arith
+closing-most v s Head = omega arith
+closing-most v s (Band k) = omega arith
+closing-most v s (Unsafe j) = omega arith
+closing-most v s Recovery = omega arith
 
 all-most : (marks : ℕ → Bool) (s : Shape) (v : List ℤ) (k : ℕ) → badAll marks s v k ≤ greatestNumber
 unfolding badAll

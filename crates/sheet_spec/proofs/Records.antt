@@ -27,9 +27,12 @@ module _ (s : Shape) where
   unfolding recordAt
   unsafe-at j l = next _ _ (s .bands + j) ∙ first-after (s .bands) _ _ j ∙ first-low (s .boxes) _ _ j l
 
-  pub recovery-at : recordAt s (1 + (s .bands + s .boxes)) ≡ Recovery
+  pub beyond-at : (j : ℕ) → s .boxes ≤ j → recordAt s (1 + (s .bands + j)) ≡ Recovery
   unfolding recordAt
-  recovery-at = next _ _ (s .bands + s .boxes) ∙ first-after (s .bands) _ _ (s .boxes) ∙ first-high (s .boxes) _ _ (s .boxes) (omega arith)
+  beyond-at j l = next _ _ (s .bands + j) ∙ first-after (s .bands) _ _ j ∙ first-high (s .boxes) _ _ j l
+
+  pub recovery-at : recordAt s (1 + (s .bands + s .boxes)) ≡ Recovery
+  recovery-at = beyond-at (s .boxes) (omega arith)
 
   -- what holds of the four kinds holds of each record
   module _ (P : ℕ → Record → Type 0) where

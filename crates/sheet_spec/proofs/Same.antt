@@ -12,7 +12,7 @@ use Rattle.sheet_spec.specs.Layout.{_▸_, headFields, edgeField, rowRes
 use Rattle.sheet_spec.specs.declared.Shape.{Shape}
 use Rattle.sheet_spec.specs.File.{records, recordAt, closing}
 use Rattle.sheet_spec.proofs.Streams.{Each, each-next, each-first, each-groups, rows-more, caps-more}
-use Rattle.sheet_spec.proofs.Records.{EachField, each-field, each-head, each-band, each-unsafe, each-recovery, each-side}
+use Rattle.sheet_spec.proofs.Records.{record-cases, EachField, each-field, each-head, each-band, each-unsafe, each-recovery, each-side}
 use Rattle.sheet_spec.proofs.Tests.{InRange, Good, good-ranges}
 use Rattle.sheet_spec.proofs.Places.{edge-slot}
 
@@ -98,7 +98,7 @@ module _ (v w : List ℤ) where
     -- the test of a whole record goes by the sheet's numbers up to the counts
     pub same-closing : (r : ℕ) → r < records s → closing v s (recordAt s r) ≡ closing w s (recordAt s r)
     unfolding closing
-    same-closing r l = refl
+    same-closing = record-cases s (λ r x. closing v s x ≡ closing w s x) refl (λ k l. refl) (λ j l. refl) refl
 
     pub same-good : Each (Good v s) (recordAt s) (records s) → Each (Good w s) (recordAt s) (records s)
     same-good g = record { at = λ r l. record { ranges = same-ranges (good-ranges v s g) .at r l; closed = sym (same-closing r l) ∙ g .at r l .closed } }

@@ -77,7 +77,10 @@ markedAt s f r = marked f (start s r) (recordAt s r)
 
 -- the test of a whole record, made after those of its fields: 0, or why the sheet is refused. It passes every record
 unfoldable pub closing : List ℤ → Shape → Record → ℕ
-closing v s x = 0
+closing v s Head = 0
+closing v s (Band k) = 0
+closing v s (Unsafe j) = 0
+closing v s Recovery = 0
 
 -- the refusal of a record's fields or, if there is none, of the whole record
 abbrev pub badNumbers : List ℤ → Shape → Record → ℕ
