@@ -1,5 +1,5 @@
 -- The records of a file as the code goes through them, one at each turn: x is the r-th. Assumes nothing.
-use mathlib.Core.Path.{_≡_, ap, ap₂, _∙_}
+use mathlib.Core.Path.{_≡_, sym, ap, ap₂, _∙_, subst}
 use mathlib.Core.Bool.{Bool}
 use mathlib.Core.List.{List}
 use Prim.Native.Nat.{ℕ, zero, suc, _+_, _*_, _-_, _≤_, _<_}
@@ -14,7 +14,8 @@ use Rattle.sheet_spec.specs.Sizes.{letters, rowBytes}
 use Rattle.sheet_spec.specs.declared.Shape.{Shape}
 use Rattle.sheet_spec.specs.declared.Record.{Record}
 use Rattle.sheet_spec.specs.Layout.{fields, count}
-use Rattle.sheet_spec.specs.File.{recordAt, recordLength, start, filledAll, badNumbers, badRecord, badAll}
+use Rattle.sheet_spec.specs.File.{Small, HasRoom, records, recordAt, recordLength, start, filledAll, badNumbers, badRecord, badAll}
+use Rattle.sheet_spec.proofs.Records.{room-at}
 
 -- the refusal of a wrong mark or, if it is right, x
 abbrev afterMark : Bool → ℕ → ℕ
@@ -27,6 +28,9 @@ module _ (s : Shape) (r : ℕ) where
   next-start = rw (add-one r, start) (omega arith)
 
   module _ {x : Record} (is : x ≡ recordAt s r) where
+    pub has-room : Small s → r < records s → HasRoom x
+    has-room l h = subst HasRoom (sym is) (room-at s l r h)
+
     pub start-more : {a l b : ℕ} → l ≡ recordLength (s .vars) x → a ≡ start s r → b ≡ a + l → b ≡ start s (r + 1)
     start-more hl ha hb = omega (arith, next-start, hl ∙ ap (recordLength (s .vars)) is)
 

@@ -1,13 +1,12 @@
 -- `bad_values`: the tests of every record. The invariant: those of the first r were made. The measure: the records left. Assumes nothing.
 use mathlib.Core.Bool.{true}
-use mathlib.Core.Path.{_∙_, _≡_, ap, refl, subst, sym}
+use mathlib.Core.Path.{_∙_, _≡_, ap, refl, sym}
 use Prim.Native.Nat.{_-_, _≤_, _<_}
 use native.Mathlib.Omega.{arith}
 use borrow.Author.Needs.{needs}
-use Rattle.sheet_encoding.proofs.RecordTurn.{bad-is, bad-more}
+use Rattle.sheet_encoding.proofs.RecordTurn.{bad-is, bad-more, has-room}
 use Rattle.sheet_spec.proofs.Laws.{goes-on}
-use Rattle.sheet_spec.proofs.Records.{room-at}
-use Rattle.sheet_spec.specs.File.{HasRoom, badAll, records}
+use Rattle.sheet_spec.specs.File.{badAll, records}
 use Rattle.sheet_spec.specs.Refusals.{firstRefusal}
 use Rattle.sheet_validation.proofs.bad_values.Statement.{statement}
 use Rattle.sheet_validation.proofs.bad_values.Tie as tie
@@ -27,7 +26,7 @@ bad-record-requires c κs =
     let b = c .before .before .before in
     let s = b .before in
     let l : c .before .before .loop .r < records (s .args .shape) = omega (arith, b .record-count .ensures) in
-    (s .pre, subst HasRoom (sym (c .record-at .ensures)) (room-at _ (s .pre) _ l))
+    (s .pre, has-room _ _ (c .record-at .ensures) (s .pre) l)
 
 loop-again : tie.Need-loop-again Inv-loop μ-loop
 loop-again c =
