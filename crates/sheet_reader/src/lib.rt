@@ -154,9 +154,11 @@ pub fn bad_file(f: &[u8], shape: Shape, v: &[i32; SLOTS]) -> u8
     let mut r: usize = 0;
     while r < count {
         let record = record_at(shape, r);
+        let numbers = bad_record(v, shape, record);
+        let length = record_length(shape, record);
         let right = marked(f, at, record);
-        x = first(x, wrong(right, bad_record(v, shape, record)));
-        at = at + record_length(shape, record);
+        x = first(x, wrong(right, numbers));
+        at = at + length;
         r = r + 1;
     }
     x

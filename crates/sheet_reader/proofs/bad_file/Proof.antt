@@ -34,23 +34,22 @@ loop-holds : tie.Need-loop-holds Inv-loop μ-loop
 unfolding start badAll firstRefusal
 loop-holds c = (omega arith, (refl, refl))
 
-marked-requires : tie.Need-marked-requires Inv-loop μ-loop
-marked-requires c κs = omega (arith, within-file c)
-
 bad-record-requires : tie.Need-bad-record-requires Inv-loop μ-loop
-bad-record-requires c κs =
-    let x = c .before in
-    let l = began x .pre .0 in
-    (l, has-room _ _ (x .record-at .ensures) l (below x))
+bad-record-requires c κs = let l = began c .pre .0 in (l, has-room _ _ (c .record-at .ensures) l (below c))
+
+marked-requires : tie.Need-marked-requires Inv-loop μ-loop
+marked-requires c κs = omega (arith, within-file (c .before .before))
 
 add-at : tie.Need-add-at Inv-loop μ-loop
-add-at c = omega (arith, c .record-length .ensures, within-file (c .before .before .before .before .before))
+add-at c = let l = c .before .before .before in omega (arith, l .record-length .ensures, within-file (l .before .before))
 
 loop-again : tie.Need-loop-again Inv-loop μ-loop
 loop-again c =
-    let w = c .before .before in
-    let m = w .before .before in
-    let x = m .before in
+    let w = c .before in
+    let m = w .before in
+    let l = m .before in
+    let n = l .before in
+    let x = n .before in
     let d = x .before .before in
     let a = began x .args in
     let is = x .record-at .ensures in
@@ -58,9 +57,9 @@ loop-again c =
     let right = m .marked .ensures ∙ ap₂ (marked (a .f .now)) (i .0) is in (
       omega arith,
       (
-        start-more _ _ is (c .record-length .ensures) (i .0) refl,
-        bad-more (a .shape) (d .loop .r) (markedAt (a .shape) (a .f .now)) (a .v .now) (c .before .first .ensures) (i .1)
-            (bad-is _ _ is (markedAt (a .shape) (a .f .now)) (a .v .now) right (w .before .bad-record .ensures) (w .wrong .ensures)),
+        start-more _ _ is (l .record-length .ensures) (i .0) refl,
+        bad-more (a .shape) (d .loop .r) (markedAt (a .shape) (a .f .now)) (a .v .now) (c .first .ensures) (i .1)
+            (bad-is _ _ is (markedAt (a .shape) (a .f .now)) (a .v .now) right (n .bad-record .ensures) (w .wrong .ensures)),
       ),
     )
 
@@ -80,9 +79,9 @@ bad-file-spec =
     (λ c κs. search needs)
     loop-holds
     (λ c κs. search needs)
-    marked-requires
     bad-record-requires
     (λ c κs. search needs)
+    marked-requires
     (λ c κs. search needs)
     (λ c κs. search needs)
     add-at
