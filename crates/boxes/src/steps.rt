@@ -4,27 +4,27 @@
 ghost use Prim.Native.Nat.{min};
 ghost use mathlib.Core.Path.{_≡_};
 ghost use Rattle.sheet_spec.specs.Valid.{Valid};
-ghost use Rattle.machine_spec.specs.Machine.{lawOf, machine};
-ghost use Rattle.boxes_rates.specs.Plant.{machineOf};
+ghost use Rattle.boxes_rates.specs.Plant.{Describes};
 ghost use Rattle.boxes.specs.Limits.{ReachAsked, TestedAsked};
 ghost use Rattle.boxes.specs.ReachResult.{ReachDone, TestedDone};
 use boxes_rates::Plant;
-use boxes_shape::compare::meets_unsafe;
+use boxes_shape::compare::lowest_met;
 use boxes_shape::motion::arrive;
 use boxes_shape::motion::join;
 use boxes_step::Budget;
 use boxes_step::StepResult;
 use boxes_step::step;
+use machine_spec::Law;
 use sheet_spec::slots::BAND_VAR;
 use sheet_spec::slots::BANDS;
 use sheet_spec::slots::BOX_SIZE;
 use sheet_spec::slots::SLOTS;
 use sheet_spec::slots::VARS;
 
-// The machine of an accepted sheet's value under a law: the baseline, or else one command.
-pub fn plant(sheet: &[i32; SLOTS], baseline: bool, command: i32) -> Plant
+// The machine of an accepted sheet's value under a law.
+pub fn plant(sheet: &[i32; SLOTS], law: Law) -> Plant
     requires { ⌜ Valid (now sheet) ⌝ }
-    ensures { λ r. ⌜ machineOf r (now (sheet .entry)) ≡ machine (now (sheet .entry)) (lawOf baseline command) ⌝ }
+    ensures { λ r. ⌜ (r .law ≡ law) × Describes r (now (sheet .entry)) ⌝ }
 {
     let n = sheet[VARS] as usize;
     let bands = sheet[BANDS] as usize;
@@ -33,8 +33,7 @@ pub fn plant(sheet: &[i32; SLOTS], baseline: bool, command: i32) -> Plant
         n: n,
         bands: bands,
         var: var,
-        baseline: baseline,
-        command: command,
+        law: law,
     }
 }
 
@@ -49,13 +48,25 @@ pub struct ReachPlan {
 // What a tested step or a reach came to, with the count of rounds after it. The boxes are lent beside it.
 pub enum ReachResult {
     // the ticks that it covers
-    Ended { ticks: usize, count: u32 },
+    Ended {
+        ticks: usize,
+        count: u32,
+    },
     // no length settled; it does not happen
-    Unsettled { count: u32 },
-    // a step's swept box shares a state with a no-go box: the ticks left when that step began
-    Unsafe { left: usize, count: u32 },
+    Unsettled {
+        count: u32,
+    },
+    // a step's swept box shares a state with a no-go box: the ticks left when that step began, and the lowest number of
+    // such a box
+    Unsafe {
+        left: usize,
+        number: usize,
+        count: u32,
+    },
     // a round was due and none was left
-    Exhausted { count: u32 },
+    Exhausted {
+        count: u32,
+    },
 }
 
 fn smaller(a: usize, b: usize) -> usize
@@ -97,9 +108,11 @@ fn tested_step(
             count: after,
         } => {
             arrive(plant.n, covered, &rates, work, at, swept);
-            if meets_unsafe(plant.n, swept, sheet, plan.boxes) {
+            let number = lowest_met(plant.n, swept, sheet, plan.boxes);
+            if number < plan.boxes {
                 return ReachResult::Unsafe {
                     left: left,
+                    number: number,
                     count: after,
                 };
             }

@@ -10,7 +10,7 @@ use lib.IntN.{ℤ}
 use lib.ListN.{length, getD}
 use Rattle.sheet_spec.specs.Slots.{N, vars}
 use Rattle.machine_spec.specs.Box.{trim}
-use Rattle.machine_spec.specs.Machine.{command}
+use Rattle.machine_spec.specs.declared.Law.the-variants.{Command}
 use Rattle.boxes_arithmetic.specs.Limits.{SidesWithin}
 use Rattle.sheet_spec.proofs.Box.{and-both}
 use Rattle.machine_spec.proofs.InPlace.{trim-sides}
@@ -42,9 +42,9 @@ module _ (v : List ℤ) (g : List ℕ) {form : ℕ} (form-is : form ≡ formRefu
     stop-allowance many = or-stop {a = 13} {r = allowanceRefusal g} _ (rw (lt-leb (allowanceOf g) maxAllowance many) refl) (λ none. omega arith) ∙ or-go _ form-is formed
 
     -- `law` is what the code found of the command
-    module _ (few : allowanceOf g ≤ maxAllowance) {law : ℕ} (law-is : law ≡ lawRefusal v (command (commandOf g))) where
+    module _ (few : allowanceOf g ≤ maxAllowance) {law : ℕ} (law-is : law ≡ lawRefusal v (Command (commandOf g))) where
       abbrev rest : ℕ
-      rest = orElse (lawRefusal v (command (commandOf g))) (sidesRefusal (vars v) (measured (vars v) g))
+      rest = orElse (lawRefusal v (Command (commandOf g))) (sidesRefusal (vars v) (measured (vars v) g))
 
       go-law : rest ≡ questionRefusal v g
       unfolding questionRefusal allowanceRefusal
@@ -73,5 +73,5 @@ module _ (v : List ℤ) (g : List ℕ) (passed : questionRefusal v g ≡ 0) wher
   measured-near room =
       let after-form = or-none (formRefusal (vars v) g) _ passed .1 in
       let after-allowance = or-none (allowanceRefusal g) _ after-form .1 in
-      let after-law = or-none (lawRefusal v (command (commandOf g))) _ after-allowance .1 in
+      let after-law = or-none (lawRefusal v (Command (commandOf g))) _ after-allowance .1 in
       subst (SidesWithin maxSide) (measured-trimmed (vars v) g room) (sides-near (vars v) (measured (vars v) g) after-law)

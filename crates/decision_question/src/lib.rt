@@ -9,6 +9,7 @@ ghost use Rattle.sheet_spec.specs.Slots as slots;
 ghost use Rattle.decision_spec.specs.Question.{allowanceOf, commandOf, formRefusal, measured, pairs, questionLength, questionRefusal, sidesAt};
 use boxes_refusals::law_refusal;
 use boxes_refusals::sides_refusal;
+use machine_spec::Law;
 use sheet_encoding::bytes::four;
 use sheet_encoding::bytes::get_i32;
 use sheet_spec::sizes::I32;
@@ -101,7 +102,7 @@ pub fn refusal(n: usize, sheet: &[i32; SLOTS], question: &[u8]) -> u8
     if MAX_ALLOWANCE < allowance(question) {
         return ALLOWANCE;
     }
-    let law = law_refusal(sheet, false, command(question));
+    let law = law_refusal(sheet, Law::Command(command(question)));
     if law != 0 {
         return law;
     }

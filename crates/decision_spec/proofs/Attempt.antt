@@ -12,14 +12,16 @@ use Rattle.sheet_spec.specs.Slots.{vars, boxes, δ, α, ρ, recoveryBox}
 use Rattle.sheet_spec.specs.Sheet.{refusal, values}
 use Rattle.sheet_spec.specs.Valid.{Valid}
 use Rattle.machine_spec.specs.Box.{In}
-use Rattle.machine_spec.specs.Machine.{Law, baseline, command}
+use Rattle.machine_spec.specs.declared.Law.{Law}
+use Rattle.machine_spec.specs.declared.Law.the-variants.{Baseline, Command}
 use Rattle.machine_spec.proofs.Inside.{inside-in, within-inside}
 use Rattle.machine_spec.proofs.Sound.{proper}
 use Rattle.boxes_spec.specs.Step.{Result, ok, failed, exhausted, andThen}
 use Rattle.boxes_spec.specs.Reach.{clear}
 use Rattle.boxes_spec.proofs.Sound.{reach-sound, cleared-avoids}
 use Rattle.decision_spec.specs.Question.{questionRefusal, allowanceOf, commandOf, measured}
-use Rattle.decision_spec.specs.Decision.{Phase, follow, attempt, finest, Reply, answered, outcome, attempts, decisionPhases, decisionOf, recoveryPhases, recoveryOf, unlessRefused, checkRecovery, decide, isKeep}
+use Rattle.decision_spec.specs.Decision.{Phase, follow, attempt, finest, Reply, answered, decisionPhases, decisionOf, recoveryPhases, recoveryOf, unlessRefused, checkRecovery, decide, isKeep}
+use Rattle.decision_spec.proofs.Attempts.{outcome, replyFrom, reply-none, reply-turn}
 use Rattle.decision_spec.proofs.Cover.{Covered, covered-by}
 
 -- ---- stages that give a value
@@ -93,22 +95,23 @@ pub record Succeeded (attemptAt : ℕ → ℕ → Result (List ℤ)) : Type 0 wh
   pub after : ℕ
   pub gives : attemptAt width before ≡ ok end after
 
-pub attempts-keep : (attemptAt : ℕ → ℕ → Result (List ℤ)) (fuel w c : ℕ) → T (isKeep (attempts attemptAt fuel w c)) → Succeeded attemptAt
-unfolding attempts isKeep
-attempts-keep attemptAt zero w c t = absurd t
-attempts-keep attemptAt (suc fuel) w c t =
-    outcome-keep (attemptAt w c) w (λ c′. attempts attemptAt fuel (w / 2) c′)
-    (λ E c′ e. record { width = w; before = c; end = E; after = c′; gives = e }) (λ c′. attempts-keep attemptAt fuel (w / 2) c′) t
+module _ (attemptAt : ℕ → ℕ → Result (List ℤ)) where
+  pub attempts-keep : (fuel w c : ℕ) → T (isKeep (replyFrom attemptAt fuel w c)) → Succeeded attemptAt
+  unfolding isKeep
+  attempts-keep zero w c t = absurd (subst (λ (r : Reply). T (isKeep r)) (reply-none attemptAt w c) t)
+  attempts-keep (suc fuel) w c t =
+      outcome-keep (attemptAt w c) w (replyFrom attemptAt fuel (w / 2)) (λ E c′ e. record { width = w; before = c; end = E; after = c′; gives = e })
+      (attempts-keep fuel (w / 2)) (subst (λ (r : Reply). T (isKeep r)) (reply-turn attemptAt fuel w c) t)
 
 module _ {v : List ℤ} (wf : Valid v) where
-  pub recovery-sound : {x : List ℤ} → T (isKeep (recoveryOf v)) → In (vars v) (recoveryBox v) x → Covered v (replicate (ρ v) baseline) x
+  pub recovery-sound : {x : List ℤ} → T (isKeep (recoveryOf v)) → In (vars v) (recoveryBox v) x → Covered v (replicate (ρ v) Baseline) x
   unfolding recoveryOf recoveryPhases laws
   recovery-sound {x} t b =
       let s = attempts-keep (λ w c. attempt false 0 v w (recoveryPhases v) (recoveryBox v) c) (ρ v) (ρ v) 0 t in
       rw append-nil at (attempt-sound false 0 wf (s .width) (recoveryPhases v) (recoveryBox v) (s .before) (s .gives) x b)
 
   pub decision-sound : (u : ℤ) (a : ℕ) {B x : List ℤ} → T (isKeep (decisionOf v B u a)) → In (vars v) B x
-      → Covered v (replicate (δ v) (command u) ++ replicate (α v) baseline) x
+      → Covered v (replicate (δ v) (Command u) ++ replicate (α v) Baseline) x
   unfolding decisionOf decisionPhases laws
   decision-sound u a {B} {x} t b =
       let s = attempts-keep (λ w c. attempt true a v w (decisionPhases v u) B c) _ _ 0 t in

@@ -11,7 +11,7 @@ use Rattle.sheet_spec.specs.Sizes.{letters, upperAt, pairBytes}
 use Rattle.sheet_spec.specs.Limits.{maxAllowance}
 use Rattle.sheet_spec.specs.Slots.{vars}
 use Rattle.machine_spec.specs.Box.{boxOf}
-use Rattle.machine_spec.specs.Machine.{command}
+use Rattle.machine_spec.specs.declared.Law.the-variants.{Command}
 use Rattle.sheet_spec.specs.Refusals.{orElse}
 use Rattle.boxes_spec.specs.Reach.{lawRefusal, sidesRefusal}
 
@@ -61,4 +61,4 @@ allowanceRefusal g = cond (leb (allowanceOf g) maxAllowance) 0 13
 unfoldable pub questionRefusal : List ℤ → List ℕ → ℕ
 questionRefusal v g =
     orElse (formRefusal (vars v) g)
-    (orElse (allowanceRefusal g) (orElse (lawRefusal v (command (commandOf g))) (sidesRefusal (vars v) (measured (vars v) g))))
+    (orElse (allowanceRefusal g) (orElse (lawRefusal v (Command (commandOf g))) (sidesRefusal (vars v) (measured (vars v) g))))

@@ -1,4 +1,4 @@
--- What a reach on bytes answers and what it leaves in a lent buffer. Law 0 is the baseline, any other the command u.
+-- What a reach on bytes answers and what it leaves in a lent buffer.
 use mathlib.Core.Bool.{cond}
 use mathlib.Core.List.{List, _++_}
 use Prim.Native.Nat.{ℕ, _*_}
@@ -8,7 +8,8 @@ use lib.ListN.{set, length}
 use lib.Seq.{sets}
 use Rattle.sheet_spec.specs.Slots.{vars}
 use Rattle.sheet_spec.specs.Sheet.{values}
-use Rattle.machine_spec.specs.Machine.{lawOf}
+use Rattle.machine_spec.specs.declared.Law.{Law}
+use Rattle.machine_spec.specs.declared.Law.the-variants.{Baseline, Command}
 use Rattle.boxes_spec.specs.Reach.{Answer, noBox, reachFile}
 use Rattle.decision_spec.specs.Question.{pairs}
 use Rattle.decision_spec.specs.Call.{orRefused, orUnchanged, orRoom}
@@ -30,8 +31,12 @@ module _ (n : ℕ) (a : Answer) (out : List ℕ) where
   unfoldable pub reachedOut : List ℕ
   reachedOut = orUnchanged reachedRefusal (sets out 0 (numberBytes (sidesOf n (a .end) ++ sidesOf n (a .swept)) (4 * n))) out
 
+-- law 0 is the plain law, any other the command u
+unfoldable pub lawOf : ℕ → ℤ → Law
+lawOf law u = cond (eqb law 0) Baseline (Command u)
+
 unfoldable pub reachAnswer : List ℕ → ℕ → ℕ → ℕ → ℤ → List ℕ → Answer
-reachAnswer f ticks w law u s = reachFile f ticks w (lawOf (eqb law 0) u) (startBox (vars (values f)) s)
+reachAnswer f ticks w law u s = reachFile f ticks w (lawOf law u) (startBox (vars (values f)) s)
 
 unfoldable pub reachCall : List ℕ → ℕ → ℕ → ℕ → ℤ → List ℕ → List ℕ → ℕ
 reachCall f ticks w law u s out = reachedCall (vars (values f)) (reachAnswer f ticks w law u s) out

@@ -3,9 +3,7 @@ use mathlib.Core.Path.{_≡_, ap, _∙_}
 use mathlib.Core.List.{List}
 use Prim.Native.Nat.{ℕ}
 use lib.IntN.{ℤ}
-use mir.Facts.{toZ-ofZ}
 use borrow.Author.Needs.{needs}
-use Rattle.machine_spec.specs.Machine.{lawOf}
 use Rattle.boxes_spec.specs.Reach.{lawRefusal, sidesRefusal, reachRefusal}
 use Rattle.boxes_spec.proofs.Refusals.{or-stop, or-go}
 use Rattle.boxes_refusals.proofs.reach_refusal.Statement.{statement}
@@ -25,8 +23,8 @@ module _ (at-law : tie.After-law-refusal) where
   abbrev v : List ℤ
   v = at-start .args .sheet .now
 
-  law-is : at-law .law-refusal .result ≡ lawRefusal v (lawOf (at-start .args .baseline) (at-start .args .command))
-  law-is = at-law .law-refusal .ensures ∙ ap (λ (u : ℤ). lawRefusal v (lawOf (at-start .args .baseline) u)) (toZ-ofZ (at-start .fits .command))
+  law-is : at-law .law-refusal .result ≡ lawRefusal v (at-start .args .law)
+  law-is = at-law .law-refusal .ensures
 
 -- the ticks or the width are refused
 returns : tie.Need-returns

@@ -10,7 +10,7 @@ use mir.Syntax.{w32}
 use mir.Val.{SFits}
 use borrow.Author.Needs.{needs}
 use Rattle.sheet_spec.specs.Slots.{vars}
-use Rattle.machine_spec.specs.Machine.{command, lawOf}
+use Rattle.machine_spec.specs.declared.Law.the-variants.{Command}
 use Rattle.boxes_spec.specs.Reach.{lawRefusal, sidesRefusal}
 use Rattle.sheet_spec.specs.Limits.{maxAllowance}
 use Rattle.decision_spec.specs.Question.{questionLength, allowanceOf, commandOf, measured, formRefusal}
@@ -60,11 +60,10 @@ module _ (at-law : tie.After-law-refusal) where
   abbrev tested : tie.After-form-refusal
   tested = at-form formed
 
-  law-is : at-law .law-refusal .result ≡ lawRefusal (v tested) (command (commandOf (g tested)))
-  unfolding lawOf
+  law-is : at-law .law-refusal .result ≡ lawRefusal (v tested) (Command (commandOf (g tested)))
   law-is =
       let fits : SFits w32 (at-command .command .result) = search needs in
-      at-law .law-refusal .ensures ∙ ap (λ (u : ℤ). lawRefusal (v tested) (command u)) (toZ-ofZ fits ∙ at-command .command .ensures)
+      at-law .law-refusal .ensures ∙ ap (λ (u : ℤ). lawRefusal (v tested) (Command u)) (toZ-ofZ fits ∙ at-command .command .ensures)
 
   few : allowanceOf (g tested) ≤ maxAllowance
   few = omega (arith, allowed .if2 .left, at-allowance .allowance .ensures)

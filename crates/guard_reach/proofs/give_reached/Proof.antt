@@ -9,9 +9,9 @@ use borrow.Author.Needs.{needs}
 use Rattle.decision_spec.specs.Numbers.{numberBytes, sidesOf}
 use Rattle.decision_spec.specs.ReachCall.{reachedRefusal, reachedCall, reachedOut}
 use Rattle.decision_spec.proofs.Calls.{or-refused, or-answered, or-unchanged, or-written, room-stop, room-short, room-enough}
-use Rattle.guard.proofs.ReachAnswer.{boxes-bytes}
-use Rattle.guard.proofs.reach.give_reached.Statement.{statement}
-use Rattle.guard.proofs.reach.give_reached.Tie as tie
+use Rattle.guard_reach.proofs.ReachAnswer.{boxes-bytes}
+use Rattle.guard_reach.proofs.give_reached.Statement.{statement}
+use Rattle.guard_reach.proofs.give_reached.Tie as tie
 
 returns : tie.Need-returns
 unfolding reachedRefusal reachedCall reachedOut
