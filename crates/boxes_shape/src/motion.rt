@@ -40,9 +40,10 @@ fn take_in(i: usize, low: i64, high: i64, work: &mut [i64; BOX_SIZE]) -> bool
     let upper = i + N;
     let lower_side = work[i];
     let upper_side = work[upper];
+    let inside = both_le(lower_side, low, high, upper_side);
     work[i] = min(lower_side, low);
     work[upper] = max(upper_side, high);
-    both_le(lower_side, low, high, upper_side)
+    inside
 }
 
 // Whether the hull of `start` and of `start` moved by its rates for `ticks` ticks lies in `work`, which becomes the hull of both.

@@ -18,10 +18,10 @@ use Rattle.boxes_shape.proofs.motion.take_in.Statement.{statement}
 use Rattle.boxes_shape.proofs.motion.take_in.Tie as tie
 
 returns : tie.Need-returns
-returns at-test =
-    let at-max = at-test .before in
+returns at-max =
     let at-min = at-max .before in
-    let at-upper = at-min .before in
+    let at-test = at-min .before in
+    let at-upper = at-test .before in
     let at-lower = at-upper .before in
     let at-start = at-lower .before in
     let i = at-start .args .i in
@@ -51,10 +51,10 @@ take-in-spec =
     (λ c. omega arith)
     (λ c. omega arith)
     (λ c κs. tt)
-    (λ c. omega arith)
-    (λ c. omega arith)
     (λ c κs. tt)
     (λ c. omega arith)
     (λ c. omega arith)
     (λ c κs. tt)
+    (λ c. omega arith)
+    (λ c. omega arith)
     returns)
