@@ -11,21 +11,21 @@ use lib.IntN.{ℤ}
 use lib.ListN.{length, take, drop, set, length-take}
 use lib.Seq.{take-all, take-take, take-nil, getD-take}
 use borrow.Author.Tests.{le-leb}
-use Rattle.sheet_spec.specs.Slots.{headSize, vars}
+use Rattle.sheet_spec.specs.Slots.{headSize}
 use Rattle.sheet_spec.specs.Fields.{Field, width, numberOf, decoded, offset, filled, bad}
-use Rattle.sheet_spec.specs.Layout.{head, headFields}
-use Rattle.sheet_spec.specs.File.{Shape, records, start, marked}
+use Rattle.sheet_spec.specs.declared.Shape.{Shape}
+use Rattle.sheet_spec.specs.declared.Record.the-variants.{Head}
+use Rattle.sheet_spec.specs.Layout.{headFields}
+use Rattle.sheet_spec.specs.File.{Small, records, start, marked}
 use Rattle.sheet_spec.specs.Sheet.{headOf, shapeOf, refusal, values, zeros}
-use Rattle.sheet_spec.proofs.Laws.{bad-ranges}
+use Rattle.sheet_spec.proofs.Tests.{bad-ranges}
 use Rattle.sheet_spec.proofs.Streams.{lt-or-le}
-use Rattle.sheet_spec.proofs.Places.{Small}
 use Rattle.sheet_spec.proofs.Ranges.{small}
 use Rattle.sheet_spec.proofs.Length.{cap-offset, file-length}
 use Rattle.sheet_spec.proofs.Answers.{refused-beginning, refused-head, refused-size}
-use Rattle.decision_spec.specs.Question.{questionLength}
 use Rattle.decision_spec.specs.Decision.{Reply, recoveryOf, unlessRefused, checkRecovery, isKeep}
 use Rattle.decision_spec.specs.Listing.{_␣_, newline, sheetWord, checkWord, replyText, sheetLine, questionLines, listing}
-use Rattle.listing.specs.Limits.{longest}
+use Rattle.listing.specs.Limits.{longestSheet}
 
 -- the length grows with the counts
 grows : {n m b c g k : ℕ} → n ≤ m → b ≤ c → g ≤ k
@@ -36,21 +36,21 @@ grows {n} {m} {b} {c} {g} {k} p q r =
     let side : (2 + 8 * n) * (g + 1) ≤ (2 + 8 * m) * (k + 1) = mul-le-mul (omega arith) (omega arith) in
     omega arith
 
-fits : (s : Shape) → Small s → start s (records s) ≤ longest
+fits : (s : Shape) → Small s → start s (records s) ≤ longestSheet
 fits s m = rw file-length (grows (m .vars) (m .bands) (m .boxes))
 
 -- how a file that is longer is refused
 abbrev tooLong : Bool → List ℤ → ℕ
 tooLong begun h = elim begun [ true ↦ elim (bad headFields h headSize) [ zero ↦ 5 | suc c ↦ suc c ] | false ↦ 1 ]
 
-refused : (f : List ℕ) → longest < length f → tooLong (marked f 0 head) (headOf f) ≡ refusal f
+refused : (f : List ℕ) → longestSheet < length f → tooLong (marked f 0 Head) (headOf f) ≡ refusal f
 unfolding shapeOf
-refused f l = go (marked f 0 head) refl (bad headFields (headOf f) headSize) refl
+refused f l = go (marked f 0 Head) refl (bad headFields (headOf f) headSize) refl
   where
-    begins : (b : Bool) → marked f 0 head ≡ b → leb 20 (length f) && marked f 0 head ≡ b
+    begins : (b : Bool) → marked f 0 Head ≡ b → leb 20 (length f) && marked f 0 Head ≡ b
     begins b e = rw (le-leb 20 (length f) (omega arith)) e
 
-    go : (b : Bool) → marked f 0 head ≡ b → (c : ℕ) → bad headFields (headOf f) headSize ≡ c → tooLong b (headOf f) ≡ refusal f
+    go : (b : Bool) → marked f 0 Head ≡ b → (c : ℕ) → bad headFields (headOf f) headSize ≡ c → tooLong b (headOf f) ≡ refusal f
     go false e c q = refused-beginning f (begins false e)
     go true e zero q =
         let m = small (headOf f) (bad-ranges headFields (headOf f) headSize q) in
@@ -80,12 +80,12 @@ never-none b h = go b (bad headFields h headSize)
     go true (suc c) z = omega arith
     go false c z = omega arith
 
-module _ (f : List ℕ) (k : ℕ) (l : longest < k) where
+module _ (f : List ℕ) (k : ℕ) (l : longestSheet < k) where
   head-cut : headOf (take k f) ≡ headOf f
   unfolding headOf
   head-cut = filled-cut headFields f k 2 headSize zeros (omega (arith, cap-offset 0))
 
-  mark-cut : marked (take k f) 0 head ≡ marked f 0 head
+  mark-cut : marked (take k f) 0 Head ≡ marked f 0 Head
   unfolding marked
   mark-cut = rw (getD-take k f 0 0 (omega arith), getD-take k f 1 0 (omega arith))
 
@@ -94,11 +94,11 @@ module _ (f : List ℕ) (k : ℕ) (l : longest < k) where
     refusal-cut =
         sym (refused (take k f) (simp length-take (omega arith)))
         ∙ ap (λ (b : Bool). tooLong b (headOf (take k f))) mark-cut
-        ∙ ap (tooLong (marked f 0 head)) head-cut
+        ∙ ap (tooLong (marked f 0 Head)) head-cut
         ∙ refused f (omega arith)
 
     refuses : refusal f ≡ 0 → ⊥
-    refuses e = never-none (marked f 0 head) (headOf f) (refused f (omega arith) ∙ e)
+    refuses e = never-none (marked f 0 Head) (headOf f) (refused f (omega arith) ∙ e)
 
 -- ---- the listing
 
@@ -106,9 +106,9 @@ refused-listing : (f g : List ℕ) (c : ℕ) → refusal f ≡ suc c → listing
 unfolding listing sheetLine checkRecovery unlessRefused isKeep
 refused-listing f g c e =
     ap (λ (r : ℕ). let a = unlessRefused r (recoveryOf (values f)) in
-    ((sheetWord ␣ replyText checkWord a) ++ (newline ∷ [])) ++ (elim (isKeep a) [ true ↦ questionLines f (questionLength (vars (values f))) (length g) 1 g | false ↦ [] ])) e
+    ((sheetWord ␣ replyText checkWord a) ++ (newline ∷ [])) ++ (elim (isKeep a) [ true ↦ questionLines f (length g) 1 g | false ↦ [] ])) e
 
-pub listing-cut : (f g : List ℕ) (k : ℕ) → longest < k → listing (take k f) g ≡ listing f g
+pub listing-cut : (f g : List ℕ) (k : ℕ) → longestSheet < k → listing (take k f) g ≡ listing f g
 listing-cut f g k l = ⊎-elim (λ (h : k < length f). long h (refusal f) refl) (λ (h : length f ≤ k). ap (λ (x : List ℕ). listing x g) (take-all k f h)) (lt-or-le k (length f))
   where
     long : k < length f → (c : ℕ) → refusal f ≡ c → listing (take k f) g ≡ listing f g

@@ -1,7 +1,8 @@
 pub mod Box
 pub mod Streams
-pub mod Records
 pub mod Laws
+pub mod Records
+pub mod Tests
 pub mod Causes
 pub mod Places
 pub mod Filled

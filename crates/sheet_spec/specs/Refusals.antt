@@ -74,7 +74,7 @@ unlessRefused (suc r) refuse go = refuse (suc r)
 -- the first of h 0, .. h (k - 1) that is not 0, or 0
 unfoldable pub firstRefusal : (ℕ → ℕ) → ℕ → ℕ
 firstRefusal h zero = 0
-firstRefusal h (suc k) = elim (firstRefusal h k) [ zero ↦ h k | suc c ↦ suc c ]
+firstRefusal h (suc k) = unlessRefused (firstRefusal h k) (λ c. c) (h k)
 
 -- a refusal or, if it is 0, the next
 abbrev pub orElse : ℕ → ℕ → ℕ
