@@ -6,30 +6,32 @@ use Prim.Native.Nat.{ℕ, _≤_, _<_}
 use lib.IntN.{ℤ}
 use Rattle.sheet_spec.specs.Limits.{maxTicks, maxWidth, maxSide}
 use Rattle.sheet_spec.specs.Slots.{vars}
-use Rattle.machine_spec.specs.Box.{trim}
+use Rattle.sheet_spec.specs.Valid.{Valid}
+use Rattle.machine_spec.specs.Box.{Near, trim}
 use Rattle.machine_spec.specs.declared.Law.{Law}
 use Rattle.machine_spec.specs.Machine.{machine}
-use Rattle.boxes_arithmetic.specs.Limits.{SidesWithin}
+use Rattle.machine_spec.proofs.Facts.{room}
+use Rattle.machine_spec.proofs.Ranges.{near-as, trim-near}
 use Rattle.boxes.specs.declared.steps.ReachResult.{ReachResult}
 use Rattle.boxes.specs.declared.steps.ReachResult.the-variants.{Ended, Unsettled, Unsafe, Exhausted}
 use Rattle.boxes.specs.ReachResult.{resultOf, reachedOf}
 use Rattle.boxes_spec.specs.Reach.{reach, clear, lawRefusal, ticksRefusal, reachRefusal, refused, answer, reachOf}
 use Rattle.boxes_spec.proofs.Count.{ticks-width}
 use Rattle.boxes_spec.proofs.Refusals.{or-none, if-refused, if-accepted}
-use Rattle.boxes_refusals.proofs.Turn.{sides-near}
+use Rattle.boxes_spec.proofs.Ranges.{start-sized}
 
 -- the code's refusal of a reach is a
 pub record Refusal (v : List ℤ) (ticks w : ℕ) (l : Law) (B : List ℤ) (a : ℕ) : Type 0 where
   pub is : a ≡ reachRefusal v ticks w l B
 
 -- what holds of a reach of T ticks at the width w from S that is not refused
-pub record Accepted (T w : ℕ) (S : List ℤ) : Type 0 where
+pub record Accepted (n T w : ℕ) (S : List ℤ) : Type 0 where
   pub some : 0 < w
   pub most : w ≤ maxWidth
   pub ticks : T ≤ maxTicks
-  pub start : SidesWithin maxSide S
+  pub start : Near n maxSide S
 
-module _ {v : List ℤ} {ticks w : ℕ} {l : Law} {B : List ℤ} {a : ℕ} (r : Refusal v ticks w l B a) where
+module _ {v : List ℤ} (wf : Valid v) {ticks w : ℕ} {l : Law} {B : List ℤ} {a : ℕ} (r : Refusal v ticks w l B a) where
   pub reach-refused : (a ≡ 0 → ⊥) → refused a ≡ reachOf v ticks w l B
   unfolding reachOf
   reach-refused n = if-refused _ (r .is) n
@@ -39,7 +41,7 @@ module _ {v : List ℤ} {ticks w : ℕ} {l : Law} {B : List ℤ} {a : ℕ} (r : 
     start-is : S ≡ trim (vars v) B
     start-is = s ∙ ap (λ (i : ℕ). trim i B) p
 
-    pub reachable : Accepted ticks w S
+    pub reachable : Accepted (vars v) ticks w S
     unfolding reachRefusal
     reachable =
         let t = or-none (ticksRefusal ticks w) _ (sym (r .is) ∙ e) in
@@ -48,7 +50,7 @@ module _ {v : List ℤ} {ticks w : ℕ} {l : Law} {B : List ℤ} {a : ℕ} (r : 
           some = u .1;
           most = u .2;
           ticks = u .0;
-          start = subst (SidesWithin maxSide) (sym start-is) (sides-near (vars v) B (or-none (lawRefusal v l) _ (t .1) .1));
+          start = near-as start-is (trim-near (room wf) (start-sized (vars v) B (or-none (lawRefusal v l) _ (t .1) .1) .near));
         }
 
     -- a reach came to o

@@ -1,5 +1,5 @@
 -- A turn of the definitions for a turn of the code's loops: a tested step, and the tested steps of a reach. Assumes nothing.
-use mathlib.Core.Path.{_≡_, refl, sym, ap, _∙_, subst}
+use mathlib.Core.Path.{_≡_, refl, sym, ap, _∙_}
 use mathlib.Core.Bool.{Bool, true, false, not}
 use mathlib.Core.Logic.{_⊎_, ⊎-elim}
 use mathlib.Core.List.{List}
@@ -12,7 +12,7 @@ use lib.IntN.{ℤ}
 use denote.Enum.Declared.{tagOf}
 use Rattle.integers.proofs.Tests.{pick-yes, pick-no, suc-of}
 use Rattle.sheet_spec.specs.Box.{lowestMet}
-use Rattle.machine_spec.specs.Box.{trim, hull, moved}
+use Rattle.machine_spec.specs.Box.{hull, moved}
 use Rattle.machine_spec.specs.Machine.{Machine, varsOf}
 use Rattle.boxes_step.specs.declared.StepResult.{StepResult}
 use Rattle.boxes_step.specs.declared.StepResult.the-variants.{Settled, Unsettled, Exhausted}
@@ -25,10 +25,6 @@ use Rattle.boxes_spec.specs.Reach.{Reached, clear, testedStep, steps, reach}
 use Rattle.boxes.specs.ReachResult.{resultOf, testedStepOf, reachedOf, isEnded}
 use Rattle.boxes.proofs.steps.ReachResult.{the-type}
 use Rattle.sheet_spec.proofs.Box.{differ, any-is}
-
--- a trimmed box, by an equal number of variables
-pub trimmed-by : {n k : ℕ} {B : List ℤ} → n ≡ k → trim n B ≡ B → trim k B ≡ B
-trimmed-by {B} e h = subst (λ (i : ℕ). trim i B ≡ B) e h
 
 -- ---- a tested step
 

@@ -5,8 +5,7 @@ use Prim.Native.Nat.{ℕ, _+_, _*_, _≤_, _<_}
 use lib.IntN.{ℤ}
 use Rattle.sheet_spec.specs.Limits.{maxBoxes, maxTicks, maxWidth}
 use Rattle.sheet_spec.specs.Slots.{vars}
-use Rattle.machine_spec.specs.Box.{trim}
-use Rattle.boxes_arithmetic.specs.Limits.{SidesWithin}
+use Rattle.machine_spec.specs.Box.{Near, trim}
 use Rattle.boxes_rates.specs.Plant.{Describes}
 use Rattle.boxes_step.specs.Limits.{stepLimit, countLimit}
 use Rattle.boxes.specs.declared.steps.ReachPlan.{ReachPlan}
@@ -27,7 +26,7 @@ pub record TestedAsked (p : ReachPlan) (v : List ℤ) (left c : ℕ) (A E P : Li
   pub plan : Followable p v
   pub due : 0 < left
   pub counts : c + 8 * p .width ≤ countLimit
-  pub start : SidesWithin stepLimit A
+  pub start : Near (vars v) stepLimit A
   pub trimmed : trim (vars v) A ≡ A
   pub work : E ≡ A
   pub swept : trim (vars v) P ≡ P
@@ -37,5 +36,5 @@ pub record ReachAsked (p : ReachPlan) (v : List ℤ) (T c : ℕ) (A : List ℤ) 
   pub plan : Followable p v
   pub ticks : T ≤ maxTicks
   pub counts : c + 73 * T + 8 * p .width ≤ countLimit
-  pub start : SidesWithin reachLimit A
+  pub start : Near (vars v) reachLimit A
   pub trimmed : trim (vars v) A ≡ A

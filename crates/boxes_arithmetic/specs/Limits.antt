@@ -1,17 +1,12 @@
 -- How far the numbers go that the code is given, and what it asks of its caller.
-use mathlib.Core.List.{List}
 use Prim.Native.Nat.{ℕ}
 use lib.IntN.{ℤ, pos, negℤ}
 use lib.Signed.{_≤ℤ_}
 use Rattle.integers.specs.Bound.{Bound}
-use Rattle.sheet_spec.specs.Slots.{_!_}
+use Rattle.sheet_spec.specs.Limits.{maxCap}
 use Rattle.sheet_spec.specs.Valid.{Between}
 
--- each number of the box is at most b, without its sign
-pub record SidesWithin (b : ℕ) (B : List ℤ) : Type 0 where
-  pub at : (i : ℕ) → Bound (B ! i) b
-
--- no side that the code takes is greater
+-- no side that the code takes is greater, without its sign
 abbrev pub limit : ℕ
 limit = 16777216
 
@@ -27,5 +22,5 @@ pub record DivisionAsked (x q : ℤ) : Type 0 where
 
 -- z lies from −cap to cap
 pub record Capped (cap z : ℤ) : Type 0 where
-  pub small : Bound cap 1000
+  pub small : Bound cap maxCap
   pub within : Between (negℤ cap) cap z

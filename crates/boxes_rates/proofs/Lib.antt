@@ -1,4 +1,3 @@
 pub mod Cut
 pub mod Rates
-pub mod Bounds
 mod RowNumbers

@@ -8,12 +8,12 @@ use native.Mathlib.Omega.{arith}
 use lib.IntN.{ℤ}
 use lib.Signed.{ltZ, _≤ℤ_, _<ℤ_}
 use borrow.Author.Tests.{le-leb, lt-leb}
-use Rattle.sheet_spec.specs.Slots.{bands, bandVar, edge, safetyLeast, safetyGreatest}
+use Rattle.sheet_spec.specs.Slots.{bands, bandVar, edge}
 use Rattle.sheet_spec.specs.Box.{lo, hi}
 use Rattle.machine_spec.specs.declared.Law.{Law}
 use Rattle.machine_spec.specs.declared.Law.the-variants.{Baseline, Command}
-use Rattle.machine_spec.specs.Machine.{leastOf, greatestOf, bandMeets}
-use Rattle.machine_spec.specs.Rate.{outer, outermost}
+use Rattle.machine_spec.specs.Machine.{machine, safetyEnd, bandMeets}
+use Rattle.machine_spec.specs.Rate.{outer, outermost, bandMet, commandOver}
 use Rattle.boxes_rates.specs.declared.Plant.{Plant}
 use Rattle.boxes_rates.specs.Plant.{Describes}
 use Rattle.sheet_spec.proofs.Box.{le-is, le-not}
@@ -22,24 +22,17 @@ pub outermost-more : (up : Bool) (z : ℤ) (n : ℕ) (f : ℕ → ℤ) → outer
 unfolding outermost
 outermost-more up z n f = rw add-one refl
 
--- the law's commands in band k
-module _ {l : Law} (v : List ℤ) (k : ℕ) where
-  pub least-plain : l ≡ Baseline → leastOf l v k ≡ safetyLeast v k
-  unfolding leastOf
-  least-plain e = rw e refl
-
-  pub greatest-plain : l ≡ Baseline → greatestOf l v k ≡ safetyGreatest v k
-  unfolding greatestOf
-  greatest-plain e = rw e refl
+-- the bounds of the commands that the law offers in band k
+module _ {l : Law} (up : Bool) (v : List ℤ) (k : ℕ) (B : List ℤ) where
+  -- under the plain law the safety range
+  pub over-plain : l ≡ Baseline → commandOver up (machine v l) k B ≡ safetyEnd up v k
+  unfolding commandOver
+  over-plain e = rw e refl
 
   -- one command is the least and the greatest
-  pub least-one : {u : ℤ} → l ≡ Command u → leastOf l v k ≡ u
-  unfolding leastOf
-  least-one e = rw e refl
-
-  pub greatest-one : {u : ℤ} → l ≡ Command u → greatestOf l v k ≡ u
-  unfolding greatestOf
-  greatest-one e = rw e refl
+  pub over-one : {u : ℤ} → l ≡ Command u → commandOver up (machine v l) k B ≡ u
+  unfolding commandOver
+  over-one e = rw e refl
 
 -- band k and the numbers from l to h
 module _ (v : List ℤ) (bands k : ℕ) (l h : ℤ) where
@@ -56,7 +49,6 @@ module _ (v : List ℤ) (bands k : ℕ) (l h : ℤ) where
   meets-next g e = rw (le-is (edge v k) h g, lt-leb bands (k + 1) e) refl
 
 -- a plant's bands and band variable are the sheet's
-pub meets-described : {p : Plant} {v : List ℤ} → Describes p v → (k : ℕ) (B : List ℤ)
-    → bandMeets v (p .bands) k (lo B (p .var)) (hi B (p .var)) ≡ bandMeets v (bands v) k (lo B (bandVar v)) (hi B (bandVar v))
-meets-described {p} {v} d k B =
+pub met-described : {p : Plant} {v : List ℤ} → Describes p v → (k : ℕ) (B : List ℤ) → bandMeets v (p .bands) k (lo B (p .var)) (hi B (p .var)) ≡ bandMet (machine v (p .law)) k B
+met-described {p} {v} d k B =
     ap (λ (n : ℕ). bandMeets v n k (lo B (p .var)) (hi B (p .var))) (d .bands) ∙ ap (λ (i : ℕ). bandMeets v (bands v) k (lo B i) (hi B i)) (d .var)

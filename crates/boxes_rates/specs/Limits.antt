@@ -1,6 +1,6 @@
 -- How far the numbers go that the code is given, what it asks of its caller, and what it promises.
 use mathlib.Core.Path.{_≡_}
-use mathlib.Core.Bool.{Bool}
+use mathlib.Core.Bool.{Bool, true, false}
 use mathlib.Core.List.{List}
 use Prim.Native.Nat.{ℕ, _+_, _*_, _≤_, _<_}
 use lib.IntN.{ℤ, pos, negℤ, _*ℤ_}
@@ -9,9 +9,10 @@ use Rattle.integers.specs.Bound.{Bound}
 use Rattle.sheet_spec.specs.Limits.{maxTicks, maxCap}
 use Rattle.sheet_spec.specs.Slots.{N, rowSize, slots, vars, bands, cap, Row, rowAt}
 use Rattle.sheet_spec.specs.Valid.{Between}
-use Rattle.machine_spec.specs.Machine.{Machine, least, greatest}
-use Rattle.machine_spec.specs.Rate.{bound, outer}
-use Rattle.boxes_arithmetic.specs.Limits.{Capped, SidesWithin, limit, word}
+use Rattle.machine_spec.specs.Box.{side, Near}
+use Rattle.machine_spec.specs.Machine.{Machine}
+use Rattle.machine_spec.specs.Rate.{bound, commandOver, outer}
+use Rattle.boxes_arithmetic.specs.Limits.{Capped, limit, word}
 use Rattle.boxes_rates.specs.declared.Plant.{Plant}
 use Rattle.boxes_rates.specs.Plant.{Describes}
 
@@ -33,11 +34,11 @@ reachLimit = (maxTicks + 1) * maxCap
 pub record RowAsked (n row : ℕ) (B : List ℤ) : Type 0 where
   pub vars : n ≤ N
   pub place : row + rowSize ≤ slots
-  pub sides : SidesWithin limit B
+  pub sides : Near n limit B
 
--- t is the outer one of b·u over the law's commands u in a band
+-- t is the outer one of b·u over the commands u that the law offers in a band, over any box
 pub record CommandTerm (up : Bool) (m : Machine) (r : Row) (band : ℕ) (t : ℤ) : Type 0 where
-  pub same : t ≡ outer up (r .b *ℤ least m band) (r .b *ℤ greatest m band)
+  pub same : (B : List ℤ) → t ≡ outer up (r .b *ℤ commandOver false m band B) (r .b *ℤ commandOver true m band B)
   pub near : Bound t termLimit
 
 -- x is the row's N bounded over the box B and over the commands whose outer term is t
@@ -57,7 +58,7 @@ pub record ChangeAsked (cap : ℤ) (v : List ℤ) (row : ℕ) (x z : ℤ) : Type
 -- the rate of variable i over the box B can be worked out
 pub record RateAsked (p : Plant) (v B : List ℤ) (i : ℕ) : Type 0 where
   pub plant : Describes p v
-  pub sides : SidesWithin limit B
+  pub sides : Near (vars v) limit B
   pub var : i < vars v
 
 -- so can a band's share in it, beside the outermost so far, z
@@ -72,11 +73,11 @@ pub record BandAsked (p : Plant) (v B : List ℤ) (i band : ℕ) (z : ℤ) : Typ
 pub record NarrowAsked (S : List ℤ) (reach : ℤ) (i : ℕ) : Type 0 where
   pub room : i < N
   pub near : Bound reach reachLimit
-  pub start : SidesWithin limit S
+  pub start : (up : Bool) → Bound (side up S i) limit
 
 -- the rates of a step of k ticks from the box S can be worked out with the working box E
 pub record RatesAsked (p : Plant) (v S : List ℤ) (k : ℕ) (E : List ℤ) : Type 0 where
   pub plant : Describes p v
   pub ticks : k ≤ maxTicks
-  pub start : SidesWithin limit S
-  pub work : SidesWithin limit E
+  pub start : Near (vars v) limit S
+  pub work : Near (vars v) limit E

@@ -3,11 +3,10 @@ ghost use mathlib.Core.Path.{_≡_};
 ghost use mathlib.Core.Bool.{true};
 ghost use Prim.Native.Nat.{_+_, _≤_, _<_};
 ghost use Rattle.integers.specs.Bound.{Bound};
-ghost use Rattle.sheet_spec.specs.Limits.{maxBands};
+ghost use Rattle.sheet_spec.specs.Limits.{maxBands, maxCap};
 ghost use Rattle.sheet_spec.specs.Slots as slots;
-ghost use Rattle.sheet_spec.specs.Box.{hi, lo};
 ghost use Rattle.machine_spec.specs.Machine.{bandMeets, machine};
-ghost use Rattle.machine_spec.specs.Rate.{bandRate, faceRate, neighborhood, neutral, outer, rate, rates};
+ghost use Rattle.machine_spec.specs.Rate.{bandMet, bandRate, faceRate, neighborhood, neutral, outer, rate, rates};
 ghost use Rattle.boxes_rates.specs.Limits.{BandAsked, CommandTerm, NarrowAsked, RateAsked, RatesAsked};
 ghost use Rattle.boxes_rates.specs.Plant.{cutAt};
 use crate::Plant;
@@ -49,13 +48,13 @@ fn band_meets(sheet: &[i32; SLOTS], bands: usize, band: usize, low: i64, high: i
 
 // The value that leaves the outermost as it is.
 fn neutral(up: bool, cap: i64) -> i64
-    requires { ⌜ Bound cap 1000 ⌝ }
+    requires { ⌜ Bound cap maxCap ⌝ }
     ensures { λ r. ⌜ r ≡ neutral up cap ⌝ }
 {
     if up { -cap } else { cap }
 }
 
-// The outer one of b·u over the law's commands u in the band, where b is that of the row at a slot.
+// The outer one of b·u over the commands u that the law offers in the band, where b is that of the row at a slot.
 fn command_term(up: bool, law: Law, sheet: &[i32; SLOTS], row: usize, band: usize) -> i64
     requires { ⌜ (row + slots.rowSize ≤ slots.slots) × (band < maxBands) ⌝ }
     ensures { λ r. ⌜ CommandTerm up (machine (now (sheet .entry)) law) (slots.rowAt (now (sheet .entry)) row) band r ⌝ }
@@ -87,7 +86,7 @@ fn row_rate(
     band: usize,
     outermost: i64,
 ) -> i64
-    requires { ⌜ BandAsked plant (now sheet) (now over) i band outermost × (bandMeets (now sheet) (slots.bands (now sheet)) band (lo (now over) (slots.bandVar (now sheet))) (hi (now over) (slots.bandVar (now sheet))) ≡ true) ⌝ }
+    requires { ⌜ BandAsked plant (now sheet) (now over) i band outermost × (bandMet (machine (now sheet) (plant .law)) band (now over) ≡ true) ⌝ }
     ensures { λ r. ⌜ r ≡ outer up outermost (bandRate up (machine (now (sheet .entry)) (plant .law)) (now (over .entry)) i band) ⌝ }
 {
     let row = FIRST_BAND + band * BAND_SIZE + FIRST_ROW + i * ROW_SIZE;

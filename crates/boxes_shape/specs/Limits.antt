@@ -8,24 +8,25 @@ use lib.ListN.{set}
 use lib.Signed.{leZ}
 use Rattle.integers.specs.Bound.{Bound}
 use Rattle.integers.specs.Order.{minZ, maxZ}
+use Rattle.sheet_spec.specs.Limits.{maxTicks, maxCap}
 use Rattle.sheet_spec.specs.Slots.{_!_, N}
 use Rattle.sheet_spec.specs.Box.{lo, hi}
-use Rattle.machine_spec.specs.Box.{trim, hull, moved}
+use Rattle.machine_spec.specs.Box.{Near, trim, hull, moved}
 use Rattle.machine_spec.specs.Rate.{outer}
-use Rattle.boxes_arithmetic.specs.Limits.{SidesWithin, limit}
+use Rattle.boxes_arithmetic.specs.Limits.{limit}
 
 -- the side x can be moved by k of the rate r
 pub record SideMovable (x : ℤ) (k : ℕ) (r : ℤ) : Type 0 where
   pub side : Bound x limit
-  pub ticks : k ≤ 1000
-  pub rate : Bound r 1000
+  pub ticks : k ≤ maxTicks
+  pub rate : Bound r maxCap
 
 -- the box A of n variables can be moved by k of the rates R
 pub record Movable (n : ℕ) (A : List ℤ) (k : ℕ) (R : List ℤ) : Type 0 where
   pub room : n ≤ N
-  pub ticks : k ≤ 1000
-  pub start : SidesWithin limit A
-  pub rates : SidesWithin 1000 R
+  pub ticks : k ≤ maxTicks
+  pub start : Near n limit A
+  pub rates : Near n maxCap R
 
 -- the boxes that `arrive` writes have 0 at places that no variable has
 pub record Trimmed (n : ℕ) (E A P : List ℤ) : Type 0 where

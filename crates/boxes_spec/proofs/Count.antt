@@ -7,6 +7,7 @@ use native.Mathlib.Omega.{arith}
 use lib.Dec.{leb}
 use lib.IntN.{ℤ}
 use borrow.Author.Tests.{leb-true}
+use Rattle.sheet_spec.specs.Limits.{maxTicks, maxWidth}
 use Rattle.sheet_spec.specs.Slots.{N, vars}
 use Rattle.sheet_spec.specs.Valid.{Valid}
 use Rattle.sheet_spec.specs.Box.{any}
@@ -15,7 +16,7 @@ use Rattle.machine_spec.specs.declared.Law.{Law}
 use Rattle.machine_spec.specs.Machine.{Machine, machine, varsOf}
 use Rattle.sheet_spec.proofs.Box.{differ, and-both}
 use Rattle.machine_spec.proofs.Inside.{trim-holds}
-use Rattle.machine_spec.proofs.Sound.{proper}
+use Rattle.machine_spec.proofs.Facts.{room}
 use Rattle.boxes_spec.specs.Step.{Failure, unsettled, Result, ok, failed, exhausted, step}
 use Rattle.sheet_spec.specs.Refusals.{orElse}
 use Rattle.boxes_spec.specs.Reach.{Reached, reach, clear, ticksRefusal, reachRefusal, answer, ifAccepted, reachOf}
@@ -37,11 +38,11 @@ takes-count (spent i e n) = n
 
 module _ (l : Bool) (a : ℕ) (m : Machine) (room : varsOf m ≤ N) where
   -- a step of at most 1,000 ticks takes at most 73 rounds
-  pub step-count : (S : List ℤ) (k c : ℕ) → 0 < k → k ≤ 1000 → Counted l a c 73 (count (step l a m S k c))
+  pub step-count : (S : List ℤ) (k c : ℕ) → 0 < k → k ≤ maxTicks → Counted l a c 73 (count (step l a m S k c))
   step-count S k c z h = takes-count (step-takes l a m S room k c 9 z (omega arith))
 
   -- a reach at a width of at most 1,000 takes at most 73 rounds for each tick
-  pub reach-count : (clear : List ℤ → Bool) (w : ℕ) (S : List ℤ) (ticks c : ℕ) → 0 < w → w ≤ 1000 → Counted l a c (73 * ticks) (count (reach l a m clear w S ticks c))
+  pub reach-count : (clear : List ℤ → Bool) (w : ℕ) (S : List ℤ) (ticks c : ℕ) → 0 < w → w ≤ maxWidth → Counted l a c (73 * ticks) (count (reach l a m clear w S ticks c))
   reach-count clear w S ticks c z h = takes-count (reach-takes l a m clear w 9 room z (omega arith) S ticks c)
 
   -- ---- every step settles
@@ -71,12 +72,12 @@ cond-zero true n e = refl
 cond-zero false n e = absurd (omega arith)
 
 -- the ticks and the width of a reach that is not refused
-pub ticks-width : (ticks w : ℕ) → ticksRefusal ticks w ≡ 0 → (ticks ≤ 1000) × (0 < w) × (w ≤ 1000)
+pub ticks-width : (ticks w : ℕ) → ticksRefusal ticks w ≡ 0 → (ticks ≤ maxTicks) × (0 < w) × (w ≤ maxWidth)
 unfolding ticksRefusal
 ticks-width ticks w e =
-    let a = and-both (leb ticks 1000 && leb 1 w) (leb w 1000) (cond-zero _ 15 e) in
-    let b = and-both (leb ticks 1000) (leb 1 w) (a .0) in
-    (leb-true ticks 1000 (b .0), leb-true 1 w (b .1), leb-true w 1000 (a .1))
+    let a = and-both (leb ticks maxTicks && leb 1 w) (leb w maxWidth) (cond-zero _ 15 e) in
+    let b = and-both (leb ticks maxTicks) (leb 1 w) (a .0) in
+    (leb-true ticks maxTicks (b .0), leb-true 1 w (b .1), leb-true w maxWidth (a .1))
 
 accepted : {k : ℕ} {g h : Result Reached} → k ≡ 0 → g ≡ h → ifAccepted k (answer g) ≡ answer h
 accepted {k} {g} e f = rw (e, f) refl
@@ -92,5 +93,5 @@ pub reach-answers : {v : List ℤ} → Valid v → (ticks w : ℕ) (l : Law) (B 
 unfolding reachRefusal reachOf answer
 reach-answers {v} wf ticks w l B e =
     let t = ticks-width ticks w (or-first (ticksRefusal ticks w) _ e) in
-    let r = has-value (λ why s. differ (clear-none (vars v) v _) (s .hits .hits)) (reach-takes false 0 (machine v l) (clear (vars v) v 0) w 9 (proper l wf .room) (t .1) (omega (arith, t .2)) (trim (vars v) B) ticks 0) in
-    record { reached = r .value; rounds = r .count; says = accepted e (r .same); few = omega (arith, r .counted .few); sound = reaches-part (trim-holds (proper l wf .room) B) (ends-reach (proper l wf) (r .holds)) }
+    let r = has-value (λ why s. differ (clear-none (vars v) v _) (s .hits .hits)) (reach-takes false 0 (machine v l) (clear (vars v) v 0) w 9 (room wf) (t .1) (omega (arith, t .2)) (trim (vars v) B) ticks 0) in
+    record { reached = r .value; rounds = r .count; says = accepted e (r .same); few = omega (arith, r .counted .few); sound = reaches-part (trim-holds (room wf) B) (ends-reach wf (r .holds)) }

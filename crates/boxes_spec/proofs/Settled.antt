@@ -11,12 +11,12 @@ use lib.IntN.{ℤ, pos, _+ℤ_, _*ℤ_}
 use borrow.Author.Tests.{leb-true, leb-false}
 use Rattle.integers.proofs.Z.{ints, flat}
 use Rattle.sheet_spec.specs.Slots.{N}
-use Rattle.machine_spec.specs.Box.{hull}
+use Rattle.machine_spec.specs.Box.{side, hull}
 use Rattle.machine_spec.specs.Machine.{Machine, varsOf}
 use Rattle.machine_spec.specs.Rate.{rates}
 use Rattle.sheet_spec.proofs.Box.{differ}
 use Rattle.machine_spec.proofs.Face.{beyond-refl}
-use Rattle.machine_spec.proofs.Inside.{side, moved-side, inside-refl, hull-least, inside-within}
+use Rattle.machine_spec.proofs.Inside.{moved-side, inside-refl, hull-least, inside-within}
 use Rattle.boxes_spec.specs.Step.{lifted, settles, endBox, grown, Failure, unsafe, andThen, Step, rounds, halving, step, swept}
 use Rattle.boxes_spec.specs.Reach.{Reached, testedStep, steps, reach}
 use Rattle.boxes_spec.proofs.Stages.{Takes, value, failure, counted-none, counted-less, takes-map, takes-then, takes-retry, takes-if, takes-round}

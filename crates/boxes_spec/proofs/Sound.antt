@@ -11,15 +11,17 @@ use lib.IntN.{ℤ, pos, _+ℤ_, _-ℤ_, _*ℤ_}
 use lib.Signed.{_≤ℤ_}
 use Rattle.integers.proofs.Z.{ints, flat}
 use Rattle.sheet_spec.specs.Slots.{_!_, N, unsafeBox}
-use Rattle.machine_spec.specs.Box.{In, hull, moved}
+use Rattle.sheet_spec.specs.Valid.{Valid}
+use Rattle.machine_spec.specs.Box.{side, In, hull, moved}
 use Rattle.machine_spec.specs.Machine.{Machine, varsOf, cap, Tick}
 use Rattle.machine_spec.specs.Rate.{outer, neutral, faceRate, rates}
 use borrow.Author.Tests.{not-true}
 use Rattle.sheet_spec.proofs.Box.{differ, any-none}
 use Rattle.machine_spec.proofs.Face.{Beyond, beyond-refl, beyond-trans, beyond-flip, beyond-back, beyond-or, beyond-sum, beyond-times, beyond-more, outer-left, outer-right}
-use Rattle.machine_spec.proofs.Inside.{side, hull-side, lift-side, in-side, in-by, meets-by, Inside, inside-in, within-inside, hull-left, hull-right}
+use Rattle.machine_spec.proofs.Inside.{hull-side, lift-side, in-side, in-by, meets-by, Inside, inside-in, within-inside, hull-left, hull-right}
 use Rattle.machine_spec.proofs.Neighborhood.{inward, near-in}
-use Rattle.machine_spec.proofs.Sound.{Proper, rate-bounds, cap-bounds, beyond-neutral, rate-within}
+use Rattle.machine_spec.proofs.Facts.{room, cap-low}
+use Rattle.machine_spec.proofs.Sound.{rate-bounds, cap-bounds, beyond-neutral, rate-within}
 use Rattle.boxes_spec.specs.Step.{lifted, settles, endBox, ok, Step, step, swept}
 use Rattle.boxes_spec.specs.Reach.{Reached, reach, clear}
 use Rattle.boxes_spec.proofs.Stages.{value-of}
@@ -65,7 +67,7 @@ face-next up k j c s x z r l p at inner capped near =
 abbrev pub Ticks : Machine → (ℕ → List ℤ) → ℕ → Type 0
 Ticks m x k = (j : ℕ) → j < k → Tick m (x j) (x (suc j))
 
-module _ {m : Machine} (wf : Proper m) (S : List ℤ) (k : ℕ) (E : List ℤ) where
+module _ (m : Machine) (wf : Valid (m .sheet)) (S : List ℤ) (k : ℕ) (E : List ℤ) where
   -- the state lies in S with each face moved by j of its rates
   record Lies (j : ℕ) (x : List ℤ) : Type 0 where
     at : (up : Bool) (i : ℕ) → i < varsOf m → Beyond up (side up S i +ℤ pos j *ℤ faceRate up m S k E i) (x ! i)
@@ -74,18 +76,18 @@ module _ {m : Machine} (wf : Proper m) (S : List ℤ) (k : ℕ) (E : List ℤ) w
   lies-start b = record { at = λ up i h. rw (still (side up S i) _) (in-side b up i h) }
 
   lies-moved : {j : ℕ} {x : List ℤ} → Lies j x → In (varsOf m) (moved (varsOf m) S j (rates m S k E)) x
-  lies-moved {j} a = in-by (λ up i h. rw (lift-side m i (wf .room) h up S k E j) (a .at up i h))
+  lies-moved {j} a = in-by (λ up i h. rw (lift-side m i (room wf) h up S k E j) (a .at up i h))
 
   lies-hull : {j d : ℕ} {x : List ℤ} → j ≤ d → Lies j x → In (varsOf m) (hull (varsOf m) S (moved (varsOf m) S d (rates m S k E))) x
-  lies-hull {j} {d} l a = in-by (λ up i h. rw (hull-side (varsOf m) i (wf .room) h up S _, lift-side m i (wf .room) h up S k E d) (beyond-trans (between up d j (side up S i) (faceRate up m S k E i) l) (a .at up i h)))
+  lies-hull {j} {d} l a = in-by (λ up i h. rw (hull-side (varsOf m) i (room wf) h up S _, lift-side m i (room wf) h up S k E d) (beyond-trans (between up d j (side up S i) (faceRate up m S k E i) l) (a .at up i h)))
 
   lies-next : {x y : List ℤ} (j : ℕ) → settles m S k E ≡ true → j < k → Tick m x y → Lies j x → Lies (suc j) y
   unfolding settles lifted faceRate
   lies-next {x} {y} j s l t a = record {
     at = λ up i h.
         let e : In (varsOf m) E x = inside-in (within-inside _ E s) (lies-hull {j = j} {d = k - 1} (omega arith) a) in
-        face-next up k j (cap m i) (side up S i) (x ! i) (y ! i) _ l (wf .caps i h) (a .at up i h) (beyond-neutral (rate-within up m _ i (wf .caps i h)) up) (cap-bounds wf t i h up)
-        (λ near. rate-bounds wf t i h up _ (near-in (wf .room) S _ i h up e near));
+        face-next up k j (cap m i) (side up S i) (x ! i) (y ! i) _ l (cap-low wf i h) (a .at up i h) (beyond-neutral (rate-within up m _ i (cap-low wf i h)) up) (cap-bounds wf t i h up)
+        (λ near. rate-bounds wf t i h up _ (near-in (room wf) S _ i h up e near));
   }
 
   lies-at : {x : ℕ → List ℤ} → settles m S k E ≡ true → In (varsOf m) S (x 0) → (j : ℕ) → j ≤ k → Ticks m x j → Lies j (x j)
@@ -97,18 +99,18 @@ pub record Sound (m : Machine) (S : List ℤ) (t : Step) : Type 0 where
   pub sweeps : (x : ℕ → List ℤ) → In (varsOf m) S (x 0) → (j : ℕ) → j ≤ t .ticks → Ticks m x j → In (varsOf m) (swept m S t) (x j)
   pub ends : (x : ℕ → List ℤ) → In (varsOf m) S (x 0) → Ticks m x (t .ticks) → In (varsOf m) (t .end) (x (t .ticks))
 
-pub settled-sound : {m : Machine} {S : List ℤ} {k : ℕ} {t : Step} → Proper m → Settled m S k t → Sound m S t
+pub settled-sound : {m : Machine} {S : List ℤ} {k : ℕ} {t : Step} → Valid (m .sheet) → Settled m S k t → Sound m S t
 unfolding swept endBox
 settled-sound {m} {S} {t} wf s =
     let k = t .ticks in
     let E = s .E in
     record {
-      sweeps = λ x b j l f. rw (s .end) (lies-hull wf S k E l (lies-at wf S k E (s .settled) b j l f));
-      ends = λ x b f. rw (s .end) (lies-moved wf S k E (lies-at wf S k E (s .settled) b k (le-refl k) f));
+      sweeps = λ x b j l f. rw (s .end) (lies-hull m wf S k E l (lies-at m wf S k E (s .settled) b j l f));
+      ends = λ x b f. rw (s .end) (lies-moved m wf S k E (lies-at m wf S k E (s .settled) b k (le-refl k) f));
     }
 
-pub step-sound : {m : Machine} (l : Bool) (a : ℕ) (S : List ℤ) (k c : ℕ) {t : Step} {c′ : ℕ} → Proper m → 0 < k → step l a m S k c ≡ ok t c′ → Sound m S t
-step-sound l a S k c wf z e = settled-sound wf (value-of (step-takes l a _ S (wf .room) k c k z (below-power k)) e .0)
+pub step-sound : {m : Machine} (l : Bool) (a : ℕ) (S : List ℤ) (k c : ℕ) {t : Step} {c′ : ℕ} → Valid (m .sheet) → 0 < k → step l a m S k c ≡ ok t c′ → Sound m S t
+step-sound l a S k c wf z e = settled-sound wf (value-of (step-takes l a _ S (room wf) k c k z (below-power k)) e .0)
 
 -- ---- a reach: steps in a row
 
@@ -176,11 +178,11 @@ module _ {m : Machine} (room : varsOf m ≤ N) {clear : List ℤ → Bool} (p q 
     ends = λ x b f. r .ends (later x (t .ticks)) (onward x b d f) (later-ticks x (t .ticks) d f);
   }
 
-pub steps-contain : {m : Machine} {clear : List ℤ → Bool} {w : ℕ} {p q : Place} → Proper m → StepsTo m clear w q p → Contains m clear p q (p .left - q .left)
+pub steps-contain : {m : Machine} {clear : List ℤ → Bool} {w : ℕ} {p q : Place} → Valid (m .sheet) → StepsTo m clear w q p → Contains m clear p q (p .left - q .left)
 steps-contain {m} {clear} {q} wf here = let e : 0 ≡ q .left - q .left = omega arith in subst (Contains m clear q q) e (contains-none q)
 steps-contain {m} {clear} {p} {q} wf (next {t = t} s k r) =
     let e : t .ticks + (p .left - t .ticks - q .left) ≡ p .left - q .left = omega (arith, steps-less r, s .some, s .most) in
-    subst (Contains m clear p q) e (contains-next (wf .room) p q (settled-sound wf s) k (steps-contain wf r))
+    subst (Contains m clear p q) e (contains-next (room wf) p q (settled-sound wf s) k (steps-contain wf r))
 
 -- ---- a reach
 
@@ -191,16 +193,16 @@ pub record Reaches (m : Machine) (clear : List ℤ → Bool) (S : List ℤ) (tic
   pub clears : (x : ℕ → List ℤ) → In (varsOf m) S (x 0) → (j : ℕ) → 0 < ticks → j ≤ ticks → Ticks m x j → Cleared (varsOf m) clear (x j)
   pub ends : (x : ℕ → List ℤ) → In (varsOf m) S (x 0) → Ticks m x ticks → In (varsOf m) (r .end) (x ticks)
 
-pub ends-reach : {m : Machine} {clear : List ℤ → Bool} {w : ℕ} {S : List ℤ} {ticks : ℕ} {r : Reached} → Proper m → Ends m clear w (start S ticks) r → Reaches m clear S ticks r
+pub ends-reach : {m : Machine} {clear : List ℤ → Bool} {w : ℕ} {S : List ℤ} {ticks : ℕ} {r : Reached} → Valid (m .sheet) → Ends m clear w (start S ticks) r → Reaches m clear S ticks r
 ends-reach {m} {clear} {S} {ticks} {r} wf e =
     let q : ticks - 0 ≡ ticks = omega arith in
     let k = subst (Contains m clear (start S ticks) (finish r)) q (steps-contain wf (e .path)) in
     record { sweeps = λ x b. k .sweeps x b b; clears = k .clears; ends = k .ends }
 
-pub reach-sound : {m : Machine} (l : Bool) (a : ℕ) (clear : List ℤ → Bool) (w : ℕ) (S : List ℤ) (ticks c : ℕ) {r : Reached} {c′ : ℕ} → Proper m
+pub reach-sound : {m : Machine} (l : Bool) (a : ℕ) (clear : List ℤ → Bool) (w : ℕ) (S : List ℤ) (ticks c : ℕ) {r : Reached} {c′ : ℕ} → Valid (m .sheet)
     → reach l a m clear w S ticks c ≡ ok r c′ → Reaches m clear S ticks r
 reach-sound l a clear zero S ticks c wf e = ends-reach wf (value-of (reach-zero l a clear S ticks c) e .0)
-reach-sound {m} l a clear (suc w) S ticks c wf e = ends-reach wf (value-of (reach-takes l a m clear (suc w) (suc w) (wf .room) (omega arith) (below-power (suc w)) S ticks c) e .0)
+reach-sound {m} l a clear (suc w) S ticks c wf e = ends-reach wf (value-of (reach-takes l a m clear (suc w) (suc w) (room wf) (omega arith) (below-power (suc w)) S ticks c) e .0)
 
 -- it covers every box inside S too
 pub reaches-part : {m : Machine} {clear : List ℤ → Bool} {B S : List ℤ} {ticks : ℕ} {r : Reached} → Inside (varsOf m) B S → Reaches m clear S ticks r → Reaches m clear B ticks r

@@ -1,12 +1,12 @@
 -- The reach (document 01, "One lifted step", its last paragraph), and the public reach with its refusals. All of it computes.
 use mathlib.Core.Bool.{Bool, true, false, not, cond, _&&_}
 use mathlib.Core.List.{List}
-use Prim.Native.Nat.{ℕ, zero, suc, _-_, min}
+use Prim.Native.Nat.{ℕ, zero, suc, _+_, _*_, _-_, min}
 use lib.Dec.{leb}
 use lib.IntN.{ℤ, pos, negℤ}
 use lib.Signed.{leZ}
 use lib.ListN.{replicate}
-use Rattle.sheet_spec.specs.Limits.{maxSide, maxTicks, maxWidth}
+use Rattle.sheet_spec.specs.Limits.{maxSide, maxTicks, maxWidth, maxCap}
 use Rattle.sheet_spec.specs.Slots.{boxSize, vars, leastCommand, greatestCommand, unsafeBox}
 use Rattle.sheet_spec.specs.Refusals.{orElse}
 use Rattle.sheet_spec.specs.Sheet.{refusal, values}
@@ -20,6 +20,10 @@ use Rattle.boxes_spec.specs.Step.{Result, ok, failed, exhausted, unsafe,
 pub record Reached : Type 0 where
   pub end : List ℤ
   pub swept : List ℤ
+
+-- how far the sides of a reach's boxes go: a cap a tick from the start box
+abbrev pub maxReached : ℕ
+maxReached = maxSide + maxTicks * maxCap
 
 -- an allowance (if `limited`), a machine, the test that a swept box is clear of the no-go boxes, the width
 module _ (limited : Bool) (allowance : ℕ) (m : Machine) (clear : List ℤ → Bool) (w : ℕ) where

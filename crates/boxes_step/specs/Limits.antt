@@ -5,8 +5,8 @@ use Prim.Native.Nat.{ℕ, _+_, _≤_, _<_}
 use lib.IntN.{ℤ}
 use Rattle.sheet_spec.specs.Limits.{maxTicks, maxCap}
 use Rattle.sheet_spec.specs.Slots.{vars}
-use Rattle.machine_spec.specs.Box.{trim}
-use Rattle.boxes_arithmetic.specs.Limits.{SidesWithin, limit}
+use Rattle.machine_spec.specs.Box.{Near, trim}
+use Rattle.boxes_arithmetic.specs.Limits.{limit}
 use Rattle.boxes_rates.specs.declared.Plant.{Plant}
 use Rattle.boxes_rates.specs.Plant.{Describes}
 
@@ -23,8 +23,8 @@ pub record RoundAsked (p : Plant) (v S : List ℤ) (k : ℕ) (E : List ℤ) : Ty
   pub plant : Describes p v
   pub some : 0 < k
   pub most : k ≤ maxTicks
-  pub start : SidesWithin limit S
-  pub work : SidesWithin limit E
+  pub start : Near (vars v) limit S
+  pub work : Near (vars v) limit E
   pub trimmed : trim (vars v) E ≡ E
   pub first : k ≡ 1 → E ≡ S
 
@@ -34,7 +34,7 @@ pub record StepAsked (p : Plant) (v S : List ℤ) (k c more : ℕ) (E R : List �
   pub some : 0 < k
   pub most : k ≤ maxTicks
   pub counts : c + more ≤ countLimit
-  pub start : SidesWithin stepLimit S
+  pub start : Near (vars v) stepLimit S
   pub trimmed : trim (vars v) S ≡ S
   pub work : E ≡ S
-  pub rates : SidesWithin maxCap R
+  pub rates : Near (vars v) maxCap R

@@ -5,10 +5,9 @@ use mathlib.Core.List.{List}
 use Prim.Native.Nat.{ℕ}
 use lib.IntN.{ℤ}
 use Rattle.sheet_spec.specs.Limits.{maxCap}
-use Rattle.machine_spec.specs.Box.{trim, moved}
+use Rattle.machine_spec.specs.Box.{Near, trim, moved}
 use Rattle.machine_spec.specs.Machine.{Machine, varsOf}
 use Rattle.machine_spec.specs.Rate.{rates}
-use Rattle.boxes_arithmetic.specs.Limits.{SidesWithin}
 use Rattle.boxes_step.specs.declared.StepResult.{StepResult}
 use Rattle.boxes_step.specs.declared.StepResult.the-variants.{Settled, Unsettled, Exhausted}
 use Rattle.boxes_spec.specs.Step.{Result, ok, failed, exhausted, unsettled, settles, grown, Step}
@@ -30,4 +29,4 @@ pub record RoundDone (m : Machine) (S : List ℤ) (k : ℕ) (E : List ℤ) (answ
 pub record StepDone (n : ℕ) (S : List ℤ) (result : Result Step) (r : StepResult) (F R : List ℤ) : Type 0 where
   pub same : stepOf n S R r ≡ result
   pub trimmed : trim n F ≡ F
-  pub rates : SidesWithin maxCap R
+  pub rates : Near n maxCap R

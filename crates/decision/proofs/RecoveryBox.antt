@@ -14,11 +14,11 @@ use Rattle.sheet_spec.specs.Valid.{Valid}
 use Rattle.sheet_spec.proofs.Streams.{lt-or-le}
 use Rattle.sheet_spec.proofs.Valid.{valid, recovery-beyond}
 use Rattle.sheet_spec.specs.Box.{lo, hi}
-use Rattle.machine_spec.specs.Box.{boxOf, trim}
-use Rattle.boxes_arithmetic.specs.Limits.{SidesWithin}
+use Rattle.machine_spec.specs.Box.{Near, boxOf, trim}
 use Rattle.sheet_spec.proofs.Box.{box-at}
 use Rattle.machine_spec.proofs.Box.{sides-length, sides-lo, sides-hi}
-use Rattle.boxes_rates.proofs.Bounds.{sides-bound}
+use Rattle.machine_spec.proofs.Facts as facts
+use Rattle.machine_spec.proofs.Ranges.{trim-near}
 use Rattle.boxes_spec.proofs.Ranges.{recovery-sized}
 use Rattle.decision.specs.Limits.{startLimit}
 
@@ -70,8 +70,5 @@ module _ (f : List ℕ) (passed : refusal f ≡ 0) where
 
 -- ---- a start box
 
-pub recovery-near : {v : List ℤ} → Valid v → SidesWithin startLimit (trim (vars v) (recoveryBox v))
-unfolding trim
-recovery-near {v} sheet =
-    let sized = recovery-sized sheet in
-    sides-bound startLimit (vars v) (lo (recoveryBox v)) (hi (recoveryBox v)) (sized .near .at false) (sized .near .at true)
+pub recovery-near : {v : List ℤ} → Valid v → Near (vars v) startLimit (trim (vars v) (recoveryBox v))
+recovery-near sheet = trim-near (facts.room sheet) (recovery-sized sheet .near)

@@ -14,10 +14,9 @@ use lib.Seq.{drop-cons, getD-take}
 use Rattle.sheet_spec.specs.Slots.{N, vars, boxes, recoveryBox}
 use Rattle.sheet_spec.specs.Valid.{Valid}
 use Rattle.sheet_spec.specs.Box.{all, lowestMet}
-use Rattle.machine_spec.specs.Box.{trim, within}
+use Rattle.machine_spec.specs.Box.{Near, trim, within}
 use Rattle.machine_spec.specs.declared.Law.{Law}
 use Rattle.machine_spec.specs.Machine.{machine}
-use Rattle.boxes_arithmetic.specs.Limits.{SidesWithin}
 use Rattle.machine_spec.proofs.Box.{trim-lo, trim-hi}
 use Rattle.boxes.specs.declared.steps.ReachResult.{ReachResult}
 use Rattle.boxes.specs.declared.steps.ReachResult.the-variants.{Ended, Unsettled, Unsafe}
@@ -27,7 +26,7 @@ use Rattle.sheet_spec.specs.Limits.{maxTicks, maxWidth, maxCap}
 use Rattle.boxes_spec.specs.Reach.{Reached, reach, clear}
 use Rattle.boxes.specs.ReachResult.{resultOf, reachedOf, Names}
 use Rattle.boxes_spec.proofs.Stages.{value, failure, spent}
-use Rattle.boxes_rates.proofs.Bounds.{wider}
+use Rattle.machine_spec.proofs.Ranges.{near-less}
 use Rattle.boxes.proofs.Bounds.{reach-near}
 use Rattle.integers.proofs.Tests.{pick-yes, pick-no}
 use Rattle.decision_answers.specs.declared.Decision.the-variants.{Keep, Finest, Spent}
@@ -94,12 +93,12 @@ module _ (limited : Bool) (allowance : ℕ) (v : List ℤ) (w : ℕ) where
   -- an attempt of the phases ps from S after c rounds, whose loop has come to E after d rounds with the phases `rest` left
   pub record Following (ps : List Phase) (S : List ℤ) (c : ℕ) (rest : List Phase) (E : List ℤ) (d : ℕ) : Type 0 where
     pub fewer : ticksOf rest ≤ ticksOf ps
-    pub near : SidesWithin (startLimit + (ticksOf ps - ticksOf rest) * maxCap) E
+    pub near : Near (vars v) (startLimit + (ticksOf ps - ticksOf rest) * maxCap) E
     pub counts : d + 73 * ticksOf rest ≤ c + 73 * ticksOf ps
     pub same : attempted ps S c ≡ attempted rest E d
 
-  pub following-starts : (ps : List Phase) (S : List ℤ) (c : ℕ) → SidesWithin startLimit S → Following ps S c ps S c
-  following-starts ps S c near = record { fewer = le-refl (ticksOf ps); near = wider (omega arith) near; counts = omega arith; same = refl }
+  pub following-starts : (ps : List Phase) (S : List ℤ) (c : ℕ) → Near (vars v) startLimit S → Following ps S c ps S c
+  following-starts ps S c near = record { fewer = le-refl (ticksOf ps); near = near-less (omega arith) near; counts = omega arith; same = refl }
 
   -- no phase is left
   pub following-ends : {ps : List Phase} {S : List ℤ} {c : ℕ} {E : List ℤ} {d : ℕ} → Following ps S c [] E d → finish v E d ≡ attempted ps S c
@@ -122,7 +121,7 @@ module _ (limited : Bool) (allowance : ℕ) (v : List ℤ) (w : ℕ) where
         let b = reach-near limited allowance _ _ w E (p .ticks) d sheet some most (k .near) (sym reaches ∙ ap (reachedOf F W) ended) in
         record {
           fewer = omega (arith, k .fewer);
-          near = wider (omega (arith, k .fewer)) (b .0);
+          near = near-less (omega (arith, k .fewer)) (b .0);
           counts = omega (arith, k .counts, b .1);
           same = k .same ∙ sym phase-turn ∙ ap (λ (o : ReachResult). others (reachedOf F W o)) ended;
         }

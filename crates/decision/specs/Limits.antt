@@ -6,8 +6,7 @@ use lib.IntN.{ℤ}
 use lib.ListN.{length}
 use Rattle.sheet_spec.specs.Slots.{vars}
 use Rattle.sheet_spec.specs.Valid.{Valid}
-use Rattle.machine_spec.specs.Box.{trim}
-use Rattle.boxes_arithmetic.specs.Limits.{SidesWithin}
+use Rattle.machine_spec.specs.Box.{Near, trim}
 use Rattle.sheet_spec.specs.Limits.{maxSide, maxTicks, maxWidth}
 use Rattle.boxes_step.specs.Limits.{countLimit}
 use Rattle.boxes.specs.Limits.{reachLimit}
@@ -27,7 +26,7 @@ maxPhases = 2
 -- attempts of the plan on the sheet v from the box S, at the width w and below
 pub record AttemptsAsked (plan : AttemptPlan) (v S : List ℤ) (w : ℕ) : Type 0 where
   pub sheet : Valid v
-  pub start : SidesWithin startLimit S
+  pub start : Near (vars v) startLimit S
   pub trimmed : trim (vars v) S ≡ S
   pub phases : plan .count ≤ maxPhases
   pub among : plan .count ≤ length (plan .phases)
@@ -43,7 +42,7 @@ pub record AttemptAsked (plan : AttemptPlan) (v S : List ℤ) (w c : ℕ) : Type
 -- the reach of a phase of it from the box A, after c rounds
 pub record PhaseAsked (phase : Phase) (v A : List ℤ) (w c : ℕ) : Type 0 where
   pub sheet : Valid v
-  pub start : SidesWithin reachLimit A
+  pub start : Near (vars v) reachLimit A
   pub trimmed : trim (vars v) A ≡ A
   pub ticks : phase .ticks ≤ maxTicks
   pub counts : c + 73 * phase .ticks + 8 * w ≤ countLimit

@@ -9,9 +9,8 @@ use lib.Dec.{eqb}
 use lib.IntN.{ℤ}
 use lib.ListN.{length, getD}
 use Rattle.sheet_spec.specs.Slots.{N, vars}
-use Rattle.machine_spec.specs.Box.{trim}
+use Rattle.machine_spec.specs.Box.{Near, trim}
 use Rattle.machine_spec.specs.declared.Law.the-variants.{Command}
-use Rattle.boxes_arithmetic.specs.Limits.{SidesWithin}
 use Rattle.sheet_spec.proofs.Box.{and-both}
 use Rattle.machine_spec.proofs.InPlace.{trim-sides}
 use Rattle.sheet_spec.specs.Refusals.{orElse}
@@ -19,7 +18,7 @@ use Rattle.sheet_spec.specs.Limits.{maxSide, maxAllowance}
 use Rattle.boxes_spec.specs.Reach.{lawRefusal, sidesRefusal}
 use Rattle.boxes_spec.proofs.Count.{cond-zero}
 use Rattle.boxes_spec.proofs.Refusals.{or-stop, or-go, or-none}
-use Rattle.boxes_refusals.proofs.Turn.{sides-near}
+use Rattle.boxes_spec.proofs.Ranges.{start-sized}
 use Rattle.decision_spec.specs.Question.{questionLength, allowanceOf, commandOf, pairs, measured, formRefusal, allowanceRefusal, questionRefusal}
 
 pub form-length : (n : ℕ) (g : List ℕ) → formRefusal n g ≡ 0 → length g ≡ questionLength n
@@ -68,10 +67,10 @@ module _ (v : List ℤ) (g : List ℕ) (passed : questionRefusal v g ≡ 0) wher
   unfolding questionRefusal
   asked-length = form-length (vars v) g (or-none (formRefusal (vars v) g) _ passed .0)
 
-  pub measured-near : vars v ≤ N → SidesWithin maxSide (measured (vars v) g)
+  pub measured-near : Near (vars v) maxSide (measured (vars v) g)
   unfolding questionRefusal
-  measured-near room =
+  measured-near =
       let after-form = or-none (formRefusal (vars v) g) _ passed .1 in
       let after-allowance = or-none (allowanceRefusal g) _ after-form .1 in
       let after-law = or-none (lawRefusal v (Command (commandOf g))) _ after-allowance .1 in
-      subst (SidesWithin maxSide) (measured-trimmed (vars v) g room) (sides-near (vars v) (measured (vars v) g) after-law)
+      start-sized (vars v) (measured (vars v) g) after-law .near

@@ -20,7 +20,7 @@ use Rattle.sheet_spec.specs.Box.{lo, hi, all}
 use Rattle.machine_spec.specs.Box.{within}
 use Rattle.machine_spec.specs.Machine.{machine}
 use Rattle.sheet_spec.proofs.Box.{differ}
-use Rattle.machine_spec.proofs.Sound.{proper}
+use Rattle.machine_spec.proofs.Facts.{room}
 use Rattle.boxes_spec.specs.Step.{Result, ok, failed, exhausted}
 use Rattle.sheet_spec.specs.Refusals.{orElse}
 use Rattle.boxes_spec.specs.Reach.{clear, lawRefusal, sidesRefusal}
@@ -44,7 +44,7 @@ module _ (l : Bool) (a : ℕ) {v : List ℤ} (wf : Valid v) (w e : ℕ) (z : 0 <
   follow-takes [] S c = value tt (counted-less (omega arith) (counted-none c))
   follow-takes (p ∷ ps) S c =
       takes-then _ (omega arith)
-      (takes-map (le-refl ((8 * e + 1) * p .ticks)) (λ r i. tt {0}) (λ why i. tt) (reach-takes l a (machine v (p .law)) (clear (vars v) v (boxes v)) w e (proper (p .law) wf .room) z h S (p .ticks) c))
+      (takes-map (le-refl ((8 * e + 1) * p .ticks)) (λ r i. tt {0}) (λ why i. tt) (reach-takes l a (machine v (p .law)) (clear (vars v) v (boxes v)) w e (room wf) z h S (p .ticks) c))
       (λ r c′ _. follow-takes ps _ c′)
 
   pub attempt-takes : (ps : List Phase) (S : List ℤ) (c : ℕ) → Spends l a c ((8 * e + 1) * ticksOf ps) (attempt l a v w ps S c)

@@ -15,7 +15,6 @@ use Rattle.machine_spec.specs.Box.{In}
 use Rattle.machine_spec.specs.declared.Law.{Law}
 use Rattle.machine_spec.specs.declared.Law.the-variants.{Baseline, Command}
 use Rattle.machine_spec.proofs.Inside.{inside-in, within-inside}
-use Rattle.machine_spec.proofs.Sound.{proper}
 use Rattle.boxes_spec.specs.Step.{Result, ok, failed, exhausted, andThen}
 use Rattle.boxes_spec.specs.Reach.{clear}
 use Rattle.boxes_spec.proofs.Sound.{reach-sound, cleared-avoids}
@@ -63,7 +62,7 @@ module _ (limited : Bool) (allowance : ℕ) {v : List ℤ} (wf : Valid v) (w : �
   follow-sound [] S c {E} e ends x b = ends x (let q : S ≡ E = cc in subst (λ (B : List ℤ). In (vars v) B x) q b)
   follow-sound (p ∷ ps) S c e ends x b =
       let s = both _ _ e in
-      let r = reach-sound limited allowance (clear (vars v) v (boxes v)) w S (p .ticks) c (proper (p .law) wf) (s .first) in
+      let r = reach-sound limited allowance (clear (vars v) v (boxes v)) w S (p .ticks) c wf (s .first) in
       covered-by v (p .law) (laws ps) (p .ticks) x
       (λ y q j h f. record { outside = cleared-avoids v (boxes v) (r .clears y (rw q b) j (omega arith) (omega arith) f) })
       (λ y q f. follow-sound ps (s .value .end) (s .count) (s .second) ends (y (p .ticks)) (r .ends y (rw q b) f))

@@ -17,6 +17,7 @@ use Rattle.integers.proofs.Lists.{sets-append}
 use Rattle.sheet_spec.specs.Slots.{_!_}
 use Rattle.sheet_spec.specs.Fields.{i32, encoded}
 use Rattle.sheet_spec.specs.Box.{lo, hi}
+use Rattle.boxes_spec.specs.Reach.{maxReached}
 use Rattle.decision_spec.specs.Numbers.{numberBytes, sidesOf}
 
 -- ---- numbers to bytes
@@ -47,8 +48,8 @@ sides-more l at i B e p q =
     rw (add-one (at + 2 * i), add-one i, e, p, q, n) (sets-append l at (sidesOf i B) (lo B i ∷ hi B i ∷ []))
 
 -- a side as 32 bits
-pub side-fits : {z : ℤ} → Bound z 2000000 → SFits w32 (toZ w64 (ofZ w64 z))
+pub side-fits : {z : ℤ} → Bound z maxReached → SFits w32 (toZ w64 (ofZ w64 z))
 side-fits b = rw (toZ-ofZ (fits64 b tt)) (fits {w = w32} b tt)
 
-pub side-is : {z : ℤ} → Bound z 2000000 → toZ w32 (ofZ w32 (toZ w64 (ofZ w64 z))) ≡ z
+pub side-is : {z : ℤ} → Bound z maxReached → toZ w32 (ofZ w32 (toZ w64 (ofZ w64 z))) ≡ z
 side-is b = ap (λ (x : ℤ). toZ w32 (ofZ w32 x)) (toZ-ofZ (fits64 b tt)) ∙ toZ-ofZ (fits {w = w32} b tt)

@@ -4,7 +4,8 @@
 ghost use mathlib.Core.Path.{_≡_};
 ghost use Prim.Native.Nat.{_≤_};
 ghost use Rattle.sheet_spec.specs.Slots as slots;
-ghost use Rattle.boxes_arithmetic.specs.Limits.{SidesWithin};
+ghost use Rattle.machine_spec.specs.Box.{Near};
+ghost use Rattle.boxes_spec.specs.Reach.{maxReached};
 ghost use Rattle.boxes.specs.ReachAnswer.{answerOf};
 ghost use Rattle.decision_spec.specs.ReachCall.{lawOf, reachCall, reachOut, reachedCall, reachedOut, startBox};
 
@@ -40,7 +41,7 @@ fn start_box(n: usize, start: &[u8]) -> [i64; BOX_SIZE]
 
 // The answer of a reach of n variables.
 fn give_reached(n: usize, a: ReachAnswer, out: &mut [u8]) -> u64
-    requires { ⌜ (n ≤ slots.N) × (SidesWithin 2000000 (a .end) × SidesWithin 2000000 (a .swept)) ⌝ }
+    requires { ⌜ (n ≤ slots.N) × (Near n maxReached (a .end) × Near n maxReached (a .swept)) ⌝ }
     ensures { λ r. ⌜ r ≡ reachedCall n (answerOf a) (now (out .entry)) ⌝ }
     ensures { λ _. ⌜ now (out .exit) ≡ reachedOut n (answerOf a) (now (out .entry)) ⌝ }
 {

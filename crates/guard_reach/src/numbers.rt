@@ -5,7 +5,8 @@ ghost use Prim.Native.Nat.{_+_, _*_, _≤_};
 ghost use lib.ListN.{length};
 ghost use lib.Seq.{sets};
 ghost use Rattle.sheet_spec.specs.Slots as slots;
-ghost use Rattle.boxes_arithmetic.specs.Limits.{SidesWithin};
+ghost use Rattle.machine_spec.specs.Box.{Near};
+ghost use Rattle.boxes_spec.specs.Reach.{maxReached};
 ghost use Rattle.decision_spec.specs.Numbers.{numberBytes, sidesOf};
 use sheet_encoding::bytes::put_i32;
 use sheet_spec::sizes::I32;
@@ -27,7 +28,7 @@ pub fn put_numbers(out: &mut [u8], v: &[i32; SLOTS], count: usize)
 
 // Puts the sides of a box's variables into v, from a slot on.
 pub fn put_sides(v: &mut [i32; SLOTS], at: usize, n: usize, b: &[i64; BOX_SIZE])
-    requires { ⌜ (n ≤ slots.N) × ((at + 2 * n ≤ slots.slots) × SidesWithin 2000000 (now b)) ⌝ }
+    requires { ⌜ (n ≤ slots.N) × ((at + 2 * n ≤ slots.slots) × Near n maxReached (now b)) ⌝ }
     ensures { λ _. ⌜ now (v .exit) ≡ sets (now (v .entry)) at (sidesOf n (now (b .entry))) ⌝ }
 {
     let mut i: usize = 0;

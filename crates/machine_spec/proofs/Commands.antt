@@ -15,7 +15,7 @@ use Rattle.integers.proofs.Z.{ints, flat, le-true, min-is, max-is}
 use Rattle.integers.proofs.Division.{floor-hi, ceil-lo}
 use Rattle.sheet_spec.specs.Slots.{N, rowAt}
 use Rattle.machine_spec.specs.declared.Law.the-variants.{Baseline}
-use Rattle.machine_spec.specs.Machine.{Machine, machine, rowOf, least, greatest, clamp, numerator, change, Allowed, Tick}
+use Rattle.machine_spec.specs.Machine.{Machine, machine, rowOf, commandAt, clamp, numerator, change, Allowed, Tick}
 use Rattle.machine_spec.proofs.Everything.{everything}
 
 -- two variables and one band; each variable changes by the command, which lies in 0..1
@@ -29,9 +29,9 @@ v = (pos 2 ∷ pos 1 ∷ pos 1 ∷ pos 0 ∷ pos 4 ∷ pos 4 ∷ pos 4 ∷ pos 0
 abbrev m : Machine
 m = machine v Baseline
 
-commands : (least m 0 ≡ pos 0) × (greatest m 0 ≡ pos 1)
+commands : (x : List ℤ) → (commandAt false m 0 x ≡ pos 0) × (commandAt true m 0 x ≡ pos 1)
 unfolding everything
-commands = (refl, refl)
+commands x = (refl, refl)
 
 -- from 0 and 0 to 1 and 0: the first variable's change is allowed under the command 1, the second's under the command 0
 abbrev x : List ℤ

@@ -43,7 +43,11 @@ module _ (n : ℕ) (k : n ≤ N) where
 pub trim-as : (n : ℕ) {A B : List ℤ} → A ≡ B → trim n B ≡ B → trim n A ≡ A
 trim-as n e h = subst (λ (X : List ℤ). trim n X ≡ X) (sym e) h
 
--- and so is one that equals a hull
+-- and one that is trimmed stays so by an equal number of variables
+pub trimmed-by : {n k : ℕ} {B : List ℤ} → n ≡ k → trim n B ≡ B → trim k B ≡ B
+trimmed-by {B} e h = subst (λ (i : ℕ). trim i B ≡ B) e h
+
+-- a box that equals a hull is trimmed
 pub trim-as-hull : (n : ℕ) {A : List ℤ} (B C : List ℤ) → n ≤ N → A ≡ hull n B C → trim n A ≡ A
 trim-as-hull n B C h e = trim-as n e (trim-hull n h B C)
 

@@ -10,16 +10,12 @@ use Rattle.integers.specs.Order.{minZ, maxZ}
 use Rattle.integers.proofs.Z.{ints, min-is, max-is}
 use Rattle.sheet_spec.specs.Slots.{_!_, N}
 use Rattle.sheet_spec.specs.Box.{lo, hi, meets}
-use Rattle.machine_spec.specs.Box.{In, boxOf, trim, hull, within, moved}
+use Rattle.machine_spec.specs.Box.{side, In, boxOf, trim, hull, within, moved}
 use Rattle.machine_spec.specs.Machine.{Machine, varsOf}
 use Rattle.machine_spec.specs.Rate.{outer, faceRate, rates}
 use Rattle.sheet_spec.proofs.Box.{le-is, all-of}
 use Rattle.machine_spec.proofs.Box.{sides-lo, sides-hi, hull-lo, hull-hi, moved-lo, moved-hi, trim-lo, trim-hi, within-at}
 use Rattle.machine_spec.proofs.Face.{Beyond, beyond-refl, beyond-trans, outer-left, outer-right, outer-in}
-
-abbrev pub side : Bool → List ℤ → ℕ → ℤ
-side false B i = lo B i
-side true B i = hi B i
 
 -- ---- the sides of a box that is made of others
 

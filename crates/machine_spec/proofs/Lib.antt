@@ -6,6 +6,8 @@ pub mod Face
 pub mod Inside
 pub mod Neighborhood
 pub mod Bands
+pub mod Facts
+pub mod Offers
 pub mod Sound
 pub mod Progress
 pub mod Order

@@ -10,11 +10,11 @@ use lib.ListN.{length, set}
 use lib.Signed.{_≤ℤ_}
 use Rattle.integers.proofs.Z.{ints, flat}
 use Rattle.sheet_spec.specs.Slots.{_!_, N}
-use Rattle.machine_spec.specs.Box.{In}
+use Rattle.machine_spec.specs.Box.{side, In}
 use Rattle.machine_spec.specs.Rate.{outer, neighborhood}
 use Rattle.sheet_spec.proofs.Box.{differ}
 use Rattle.machine_spec.proofs.Face.{Beyond, beyond-refl, beyond-trans, beyond-flip, beyond-back, outer-left, outer-in, outer-mono}
-use Rattle.machine_spec.proofs.Inside.{side, in-side, in-by, Inside, Ordered, ordered-side, ordered-by}
+use Rattle.machine_spec.proofs.Inside.{in-side, in-by, Inside, Ordered, ordered-side, ordered-by}
 
 -- what lies as far as `reach` in from s
 abbrev pub inward : Bool → ℤ → ℤ → ℤ
@@ -56,7 +56,7 @@ module _ {n : ℕ} (room : n ≤ N) (S : List ℤ) (reach : ℤ) (i : ℕ) (h : 
   sides-both true true R E F j e g r f = set-both R E F i (j + N) _ _ e r (λ q. absurd (omega arith))
 
   -- the same of one
-  sides-one : (up face : Bool) (P : ℤ → Type 0) (E : List ℤ) (j : ℕ) → j < n → P (side face E j) → (face ≡ not up → j ≡ i → P (cut up S reach E i)) → P (side face (neighborhood up S reach E i) j)
+  pub sides-one : (up face : Bool) (P : ℤ → Type 0) (E : List ℤ) (j : ℕ) → j < n → P (side face E j) → (face ≡ not up → j ≡ i → P (cut up S reach E i)) → P (side face (neighborhood up S reach E i) j)
   sides-one up face P E j g p f = sides-both up face (λ a b. P a) E E j refl g p f
 
   -- a state of the working box that is near the face

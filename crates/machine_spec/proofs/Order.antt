@@ -8,15 +8,17 @@ use lib.IntN.{ℤ, _*ℤ_}
 use lib.Signed.{_≤ℤ_}
 use Rattle.integers.proofs.Z.{ints}
 use Rattle.sheet_spec.specs.Slots.{_!_, Row}
-use Rattle.sheet_spec.specs.Box.{lo, hi}
 use Rattle.machine_spec.specs.Box.{In}
-use Rattle.machine_spec.specs.Machine.{Machine, varsOf, bandsOf, bandVarOf, cap, rowOf, least, greatest, bandMeets}
-use Rattle.machine_spec.specs.Rate.{outer, outermost, weighted, bound, part, bandRate, rate}
+use Rattle.machine_spec.specs.Machine.{Machine, varsOf, bandsOf, bandVarOf, cap, rowOf}
+use Rattle.machine_spec.specs.Accepted.{Accepted}
+use Rattle.machine_spec.specs.Rate.{outer, outermost, weighted, bound, bandMet, part, bandRate, rate}
 use Rattle.machine_spec.proofs.Face.{Beyond, beyond-refl, beyond-sum, sum-beyond, outer-in, outer-mono, span, change-mono}
 use Rattle.machine_spec.proofs.Inside.{Inside, Ordered}
+use Rattle.machine_spec.proofs.Facts.{cap-low, divisor}
+use Rattle.machine_spec.proofs.Offers.{over-wider, over-ordered}
 use Rattle.machine_spec.proofs.Bands.{Band, meets-read, meets-show, meets-wider}
-use Rattle.machine_spec.proofs.Sound.{Proper, change-within, beyond-neutral, rate-bounds}
-use Rattle.machine_spec.proofs.Progress.{Permits, goes-on}
+use Rattle.machine_spec.proofs.Sound.{change-within, beyond-neutral, rate-bounds}
+use Rattle.machine_spec.proofs.Progress.{goes-on}
 
 -- ---- a wider box has wider rates
 
@@ -28,10 +30,11 @@ outermost-mono z (suc n) f g h = outer-mono (outermost-mono z n f g (λ i k. h i
 wider-span : (up : Bool) (a : ℤ) {l h l′ h′ : ℤ} → l ≤ℤ h → l′ ≤ℤ l → h ≤ℤ h′ → Beyond up (outer up (a *ℤ l′) (a *ℤ h′)) (outer up (a *ℤ l) (a *ℤ h))
 wider-span up a {l} {h} {l′} {h′} g i j = outer-in up _ _ _ (span up a l′ h′ l i (omega ints)) (span up a l′ h′ h (omega ints) j)
 
-bound-mono : (up : Bool) (n : ℕ) (r : Row) (A B : List ℤ) (u w : ℤ) → Ordered n A → Inside n A B → Beyond up (bound up n r B u w) (bound up n r A u w)
+-- over a wider box and more commands
+bound-mono : (up : Bool) (n : ℕ) (r : Row) (A B : List ℤ) {u w u′ w′ : ℤ} → Ordered n A → Inside n A B → u ≤ℤ w → u′ ≤ℤ u → w ≤ℤ w′ → Beyond up (bound up n r B u′ w′) (bound up n r A u w)
 unfolding bound weighted
-bound-mono up n r A B u w o s =
-    beyond-sum (beyond-sum (sum-beyond n _ _ (λ j h. wider-span up (r .a j) (o .at j h) (s .at false j h .order) (s .at true j h .order))) (beyond-refl up _)) (beyond-refl up (r .c))
+bound-mono up n r A B o s g i j =
+    beyond-sum (beyond-sum (sum-beyond n _ _ (λ q h. wider-span up (r .a q) (o .at q h) (s .at false q h .order) (s .at true q h .order))) (wider-span up (r .b) g i j)) (beyond-refl up (r .c))
 
 cond-beyond : {up : Bool} (t t′ : Bool) {x y z : ℤ} → (T t → T t′) → (T t → Beyond up y x) → Beyond up y z → Beyond up (cond t′ y z) (cond t x z)
 cond-beyond true true f g h = g tt
@@ -39,28 +42,25 @@ cond-beyond true false f g h = absurd (f tt)
 cond-beyond false true f g h = h
 cond-beyond {up} false false {z = z} f g h = beyond-refl up z
 
--- band k meets the box
-abbrev met : Machine → ℕ → List ℤ → Bool
-met m k B = bandMeets (m .sheet) (bandsOf m) k (lo B (bandVarOf m)) (hi B (bandVarOf m))
-
-module _ {m : Machine} (wf : Proper m) (A B : List ℤ) (o : Ordered (varsOf m) A) (s : Inside (varsOf m) A B) where
+module _ {m : Machine} (wf : Accepted m) (A B : List ℤ) (o : Ordered (varsOf m) A) (s : Inside (varsOf m) A B) where
   -- what a band's row is bounded over: not empty where the band meets the box, and wider in a wider box
-  part-ordered : (k : ℕ) → T (met m k A) → Ordered (varsOf m) (part m k A)
+  part-ordered : (k : ℕ) → T (bandMet m k A) → Ordered (varsOf m) (part m k A)
   part-ordered k t = o
 
-  part-inside : (k : ℕ) → T (met m k A) → Inside (varsOf m) (part m k A) (part m k B)
+  part-inside : (k : ℕ) → T (bandMet m k A) → Inside (varsOf m) (part m k A) (part m k B)
   part-inside k t = s
 
-  met-wider : (k : ℕ) → T (met m k A) → T (met m k B)
-  met-wider k t = meets-show (meets-wider (s .at false (bandVarOf m) (wf .var) .order) (s .at true (bandVarOf m) (wf .var) .order) (meets-read t))
+  met-wider : (k : ℕ) → T (bandMet m k A) → T (bandMet m k B)
+  met-wider k t = meets-show (meets-wider (s .at false (bandVarOf m) (wf .sheet .var) .order) (s .at true (bandVarOf m) (wf .sheet .var) .order) (meets-read t))
 
   share-mono : (up : Bool) (i k : ℕ) → i < varsOf m → k < bandsOf m → Beyond up (bandRate up m B i k) (bandRate up m A i k)
   unfolding bandRate
   share-mono up i k h g =
-      cond-beyond (met m k A) (met m k B) (met-wider k)
-      (λ t. change-mono up (cap m i) (rowOf m k i) _ _ (wf .divisors k i g h)
-      (bound-mono up (varsOf m) (rowOf m k i) (part m k A) (part m k B) (least m k) (greatest m k) (part-ordered k t) (part-inside k t)))
-      (beyond-neutral (change-within up (cap m i) (rowOf m k i) _ (wf .caps i h)) up)
+      cond-beyond (bandMet m k A) (bandMet m k B) (met-wider k)
+      (λ t. change-mono up (cap m i) (rowOf m k i) _ _ (divisor (wf .sheet) k i g h)
+      (bound-mono up (varsOf m) (rowOf m k i) (part m k A) (part m k B) (part-ordered k t) (part-inside k t) (over-ordered wf k g _ (part-ordered k t))
+      (over-wider m k _ _ (part-ordered k t) (part-inside k t) false .order) (over-wider m k _ _ (part-ordered k t) (part-inside k t) true .order)))
+      (beyond-neutral (change-within up (cap m i) (rowOf m k i) _ (cap-low (wf .sheet) i h)) up)
 
   pub rate-mono : (up : Bool) (i : ℕ) → i < varsOf m → Beyond up (rate up m B i) (rate up m A i)
   unfolding rate
@@ -68,7 +68,7 @@ module _ {m : Machine} (wf : Proper m) (A B : List ℤ) (o : Ordered (varsOf m) 
 
 -- ---- rates over two boxes that share a state
 
-pub rates-ordered : {m : Machine} {x : List ℤ} (A B : List ℤ) (i : ℕ) → Proper m → Permits m → Band (m .sheet) (bandsOf m) (x ! (bandVarOf m)) → In (varsOf m) A x → In (varsOf m) B x → i < varsOf m → rate false m A i ≤ℤ rate true m B i
-rates-ordered {m} {x} A B i wf p b a c h =
-    let t = goes-on x wf p b .tick in
-    omega (ints, rate-bounds wf t i h false A a .order, rate-bounds wf t i h true B c .order)
+pub rates-ordered : {m : Machine} {x : List ℤ} (A B : List ℤ) (i : ℕ) → Accepted m → Band (m .sheet) (bandsOf m) (x ! (bandVarOf m)) → In (varsOf m) A x → In (varsOf m) B x → i < varsOf m → rate false m A i ≤ℤ rate true m B i
+rates-ordered {m} {x} A B i wf b a c h =
+    let t = goes-on x wf b .tick in
+    omega (ints, rate-bounds (wf .sheet) t i h false A a .order, rate-bounds (wf .sheet) t i h true B c .order)

@@ -1,30 +1,40 @@
 -- How far a box's sides, a rate and a row's number go. Assumes nothing.
+use mathlib.Core.Path.{_≡_, sym, subst}
 use mathlib.Core.Bool.{Bool, true, false}
 use mathlib.Core.List.{List}
 use Prim.Native.Nat.{ℕ, zero, suc, _+_, _*_, _≤_, _<_}
 use native.Mathlib.Omega.{arith}
-use lib.IntN.{ℤ, pos, negℤ, _*ℤ_}
+use lib.IntN.{ℤ, pos, negℤ, _+ℤ_, _-ℤ_, _*ℤ_}
+use lib.ListN.{replicate}
 use lib.Signed.{_≤ℤ_}
 use Rattle.integers.specs.Bound.{Bound}
-use Rattle.integers.proofs.Z.{ints, neg, bound-in, bound-less, bound-sum, bound-sub, bound-mul}
-use Rattle.sheet_spec.specs.Slots.{N, Row, bands, leastCommand, greatestCommand}
+use Rattle.integers.proofs.Z.{ints, sum as plus, neg, sub, min-is, max-is, bound-in, bound-less, bound-sum, bound-sub, bound-mul}
+use Rattle.sheet_spec.specs.Limits.{maxCommand, maxCap, maxCoefficient, maxConstant}
+use Rattle.sheet_spec.specs.Slots.{_!_, N, boxSize, Row, vars, cap}
+use Rattle.sheet_spec.specs.Box.{lo, hi}
 use Rattle.sheet_spec.specs.Valid.{Between, ValidRow, Valid}
-use Rattle.machine_spec.specs.Box.{sum, hull, moved}
+use Rattle.machine_spec.specs.Box.{side, Near, sum, trim, hull, moved}
 use Rattle.machine_spec.specs.declared.Law.{Law}
-use Rattle.machine_spec.specs.declared.Law.the-variants.{Baseline, Command}
-use Rattle.machine_spec.specs.Machine.{Machine, machine, varsOf, bandsOf, cap, rowOf, least, greatest, leastOf, greatestOf}
-use Rattle.machine_spec.specs.Rate.{weighted, bound, rate, rates, faceRate}
+use Rattle.machine_spec.specs.Machine.{Machine, machine, varsOf, bandsOf}
+use Rattle.machine_spec.specs.Accepted.{Accepted}
+use Rattle.machine_spec.specs.Rate.{outer, neighborhood, weighted, bound, rowOver, rate, rates, faceRate}
 use Rattle.machine_spec.proofs.Face.{outer-one}
-use Rattle.machine_spec.proofs.Inside.{side, hull-side, moved-side, rates-side, Inside, Ordered}
-use Rattle.machine_spec.proofs.Neighborhood.{inward}
-use Rattle.machine_spec.proofs.Sound.{Proper, rate-within}
-
--- no side of a variable is further from 0 than b
-pub record Near (n b : ℕ) (B : List ℤ) : Type 0 where
-  pub at : (up : Bool) (i : ℕ) → i < n → Bound (side up B i) b
+use Rattle.machine_spec.proofs.Inside.{hull-side, moved-side, trim-side, rates-side, Inside, Ordered}
+use Rattle.machine_spec.proofs.Neighborhood.{inward, cut, sides-one}
+use Rattle.machine_spec.proofs.Facts.{room, cap-low, cap-near}
+use Rattle.machine_spec.proofs.Offers.{over-near}
+use Rattle.machine_spec.proofs.Sound.{rate-within}
 
 pub near-less : {n b c : ℕ} {B : List ℤ} → b ≤ c → Near n b B → Near n c B
 near-less h k = record { at = λ up i l. bound-less (k .at up i l) h }
+
+-- an equal box
+pub near-as : {n b : ℕ} {A B : List ℤ} → A ≡ B → Near n b B → Near n b A
+near-as {n} {b} e h = subst (Near n b) (sym e) h
+
+-- by an equal number of variables
+pub near-by : {n k b : ℕ} {B : List ℤ} → n ≡ k → Near n b B → Near k b B
+near-by {b} {B} e h = subst (λ (i : ℕ). Near i b B) e h
 
 bound-between : {l h z : ℤ} {b : ℕ} → Bound l b → Bound h b → l ≤ℤ z → z ≤ℤ h → Bound z b
 bound-between {b} k j u w = bound-in (omega (ints, neg (pos b), k .at-most)) (omega (ints, j .at-most))
@@ -37,54 +47,59 @@ near-part {n} {b} {A} o s k = record { at = at }
     at false i h = bound-between (k .at false i h) (k .at true i h) (s .at false i h .order) (omega (ints, o .at i h, s .at true i h .order))
     at true i h = bound-between (k .at false i h) (k .at true i h) (omega (ints, o .at i h, s .at false i h .order)) (s .at true i h .order)
 
+-- the box of zeros
+pub zero-near : (n b : ℕ) → Near n b (replicate boxSize (pos 0))
+zero-near n b = record { at = at }
+  where
+    zeros : (m j : ℕ) → Bound (replicate m (pos 0) ! j) b
+    zeros zero j = record { at-most = omega arith }
+    zeros (suc m) zero = record { at-most = omega arith }
+    zeros (suc m) (suc j) = zeros m j
+
+    at : (up : Bool) (i : ℕ) → i < n → Bound (side up (replicate boxSize (pos 0)) i) b
+    at false i h = zeros boxSize i
+    at true i h = zeros boxSize (i + N)
+
 module _ {n : ℕ} (room : n ≤ N) where
+  pub trim-near : {b : ℕ} {B : List ℤ} → Near n b B → Near n b (trim n B)
+  trim-near {b} {B} h = record { at = λ up i l. rw (trim-side n i room l up B) (h .at up i l) }
+
   pub hull-near : {b : ℕ} {A B : List ℤ} → Near n b A → Near n b B → Near n b (hull n A B)
   hull-near {b} {A} {B} h k = record { at = λ up i l. rw (hull-side n i room l up A B) (outer-one (λ z. Bound z b) up (h .at up i l) (k .at up i l)) }
 
   pub moved-near : {b c : ℕ} {A r : List ℤ} (k : ℕ) → Near n b A → Near n c r → Near n (b + k * c) (moved n A k r)
   moved-near {A} {r} k h u = record { at = λ up i l. rw (moved-side n i room l up A k r) (bound-sum (h .at up i l) (bound-mul {x = pos k} {B = k} (record { at-most = omega arith }) (u .at up i l))) }
 
+-- nor is one of the neighborhood of a face of such a box, in a working box that is such
+pub neighborhood-near : {n b : ℕ} {S E : List ℤ} {reach : ℤ} → n ≤ N → pos 0 ≤ℤ reach → Near n b S → Near n b E → (up : Bool) (i : ℕ) → i < n → Near n b (neighborhood up S reach E i)
+unfolding outer
+neighborhood-near {b} {S} {E} {reach} room z s e up i h = record { at = λ face j g. sides-one room S reach i h up face (λ a. Bound a b) E j g (e .at face j g) (λ _ _. cut-near up) }
+  where
+    cut-near : (up : Bool) → Bound (cut up S reach E i) b
+    cut-near false =
+        let x = e .at true i h .at-most in
+        let y = s .at false i h .at-most in
+        bound-in (omega (ints, neg (pos b), min-is (hi E i) (lo S i +ℤ reach), plus (lo S i) reach)) (omega (ints, min-is (hi E i) (lo S i +ℤ reach)))
+    cut-near true =
+        let x = e .at false i h .at-most in
+        let y = s .at true i h .at-most in
+        bound-in (omega (ints, neg (pos b), max-is (lo E i) (hi S i -ℤ reach))) (omega (ints, max-is (lo E i) (hi S i -ℤ reach), sub (hi S i) reach))
+
 -- ---- a rate
 
--- what a sheet says of its rows and commands
-pub record Ranged (m : Machine) : Type 0 where
-  pub caps : (i : ℕ) → i < varsOf m → cap m i ≤ℤ pos 1000
-  pub rows : (k i : ℕ) → k < bandsOf m → i < varsOf m → ValidRow (varsOf m) (rowOf m k i)
-  pub least : (k : ℕ) → k < bandsOf m → Bound (least m k) 10000
-  pub greatest : (k : ℕ) → k < bandsOf m → Bound (greatest m k) 10000
+module _ {v : List ℤ} (wf : Valid v) (l : Law) where
+  rate-near : (up : Bool) (B : List ℤ) (i : ℕ) → i < vars v → Bound (rate up (machine v l) B i) maxCap
+  rate-near up B i h =
+      let w = rate-within up (machine v l) B i (cap-low wf i h) in
+      bound-in (omega (ints, w .low, neg (cap v i), wf .caps i h .high)) (omega (ints, w .high, wf .caps i h .high))
 
--- a command is one of the head's
-abbrev pub Lawful : List ℤ → Law → Type 0
-Lawful v Baseline = Unit
-Lawful v (Command u) = Between (leastCommand v) (greatestCommand v) u
-
-module _ {v : List ℤ} (wf : Valid v) where
-  head-near : {u : ℤ} → Between (leastCommand v) (greatestCommand v) u → Bound u 10000
-  head-near h = bound-in (omega (ints, wf .commands-low, h .low)) (omega (ints, wf .commands-high, h .high))
-
-  least-near : (l : Law) (k : ℕ) → Lawful v l → k < bands v → Bound (leastOf l v k) 10000
-  unfolding leastOf
-  least-near Baseline k t h = head-near (record { low = wf .safety-low k h; high = omega (ints, wf .safety k h, wf .safety-high k h) })
-  least-near (Command u) k t h = head-near t
-
-  greatest-near : (l : Law) (k : ℕ) → Lawful v l → k < bands v → Bound (greatestOf l v k) 10000
-  unfolding greatestOf
-  greatest-near Baseline k t h = head-near (record { low = omega (ints, wf .safety-low k h, wf .safety k h); high = wf .safety-high k h })
-  greatest-near (Command u) k t h = head-near t
-
-  pub ranged : (l : Law) → Lawful v l → Ranged (machine v l)
-  ranged l t = record { caps = λ i h. wf .caps i h .high; rows = wf .rows; least = λ k h. least-near l k t h; greatest = λ k h. greatest-near l k t h }
-
-pub rate-near : {m : Machine} → Proper m → Ranged m → (up : Bool) (B : List ℤ) (i : ℕ) → i < varsOf m → Bound (rate up m B i) 1000
-rate-near {m} wf r up B i h = let w = rate-within up m B i (wf .caps i h) in bound-in (omega (ints, w .low, neg (cap m i), r .caps i h)) (omega (ints, w .high, r .caps i h))
-
-pub rates-near : {m : Machine} → Proper m → Ranged m → (S : List ℤ) (k : ℕ) (E : List ℤ) → Near (varsOf m) 1000 (rates m S k E)
-unfolding faceRate
-rates-near {m} wf r S k E = record { at = λ up i h. rw (rates-side m i (wf .room) h up S k E) (rate-near wf r up _ i h) }
+  pub rates-near : (S : List ℤ) (k : ℕ) (E : List ℤ) → Near (vars v) maxCap (rates (machine v l) S k E)
+  unfolding faceRate
+  rates-near S k E = record { at = λ up i h. rw (rates-side (machine v l) i (room wf) h up S k E) (rate-near up _ i h) }
 
 -- where the neighborhood of a face of S is cut
-pub limit-near : {m : Machine} {S : List ℤ} {b : ℕ} → Proper m → Ranged m → Near (varsOf m) b S → (up : Bool) (k i : ℕ) → i < varsOf m → Bound (inward up (side up S i) (pos k *ℤ cap m i)) (b + k * 1000)
-limit-near {m} wf r s up k i h = at up (s .at up i h) (bound-mul {x = pos k} {B = k} (record { at-most = omega arith }) (bound-in (omega (ints, wf .caps i h)) (r .caps i h)))
+pub limit-near : {v S : List ℤ} {b : ℕ} → Valid v → Near (vars v) b S → (up : Bool) (k i : ℕ) → i < vars v → Bound (inward up (side up S i) (pos k *ℤ cap v i)) (b + k * maxCap)
+limit-near wf s up k i h = at up (s .at up i h) (bound-mul {x = pos k} {B = k} (record { at-most = omega arith }) (cap-near wf i h))
   where
     at : (up : Bool) {x y : ℤ} {b c : ℕ} → Bound x b → Bound y c → Bound (inward up x y) (b + c)
     at false h k = bound-sum h k
@@ -100,9 +115,15 @@ sum-bound (suc n) f h = bound-less (bound-sum (sum-bound n f (λ i k. h i (omega
 in-range : {b : ℕ} {z : ℤ} → Between (negℤ (pos b)) (pos b) z → Bound z b
 in-range h = bound-in (h .low) (h .high)
 
-pub row-near : {n b : ℕ} {r : Row} {B : List ℤ} (u w : ℤ) → ValidRow n r → Near n b B → Bound u 10000 → Bound w 10000 → (up : Bool) → Bound (bound up n r B u w) (n * (1000 * b) + 1000 * 10000 + 100000000)
+row-near : {n b : ℕ} {r : Row} {B : List ℤ} (u w : ℤ) → ValidRow n r → Near n b B → Bound u maxCommand → Bound w maxCommand → (up : Bool)
+    → Bound (bound up n r B u w) (n * (maxCoefficient * b) + maxCoefficient * maxCommand + maxConstant)
 unfolding bound weighted
 row-near {n} {b} {r} {B} u w wf k h g up =
     bound-sum (bound-sum
-    (sum-bound n _ (λ j l. let a = in-range (wf .a j l) in outer-one (λ z. Bound z (1000 * b)) up (bound-mul a (k .at false j l)) (bound-mul a (k .at true j l))))
-    (let c = in-range (wf .b) in outer-one (λ z. Bound z (1000 * 10000)) up (bound-mul c h) (bound-mul c g))) (in-range (wf .c))
+    (sum-bound n _ (λ j l. let a = in-range (wf .a j l) in outer-one (λ z. Bound z (maxCoefficient * b)) up (bound-mul a (k .at false j l)) (bound-mul a (k .at true j l))))
+    (let c = in-range (wf .b) in outer-one (λ z. Bound z (maxCoefficient * maxCommand)) up (bound-mul c h) (bound-mul c g))) (in-range (wf .c))
+
+-- the number of band j's row for variable i
+pub number-near : {m : Machine} {b : ℕ} {B : List ℤ} → Accepted m → Near (varsOf m) b B → (up : Bool) (i j : ℕ) → i < varsOf m → j < bandsOf m
+    → Bound (rowOver up m B i j) (varsOf m * (maxCoefficient * b) + maxCoefficient * maxCommand + maxConstant)
+number-near {B} wf n up i j h g = row-near _ _ (wf .sheet .rows j i g h) n (over-near wf j g false B) (over-near wf j g true B) up

@@ -6,38 +6,20 @@ use mathlib.Core.List.{List}
 use Prim.Native.Nat.{ℕ, _≤_, _<_}
 use native.Mathlib.Omega.{arith}
 use lib.Dec.{T}
-use lib.IntN.{ℤ, pos, negsuc, negℤ, natAbs, _-ℤ_}
+use lib.IntN.{ℤ, pos, negℤ, natAbs, _-ℤ_}
 use lib.Signed.{_≤ℤ_, ≤ℤ-refl}
 use Rattle.integers.specs.Order.{minZ}
 use Rattle.integers.proofs.Z.{ints, min-is, max-is, neg}
-use Rattle.sheet_spec.specs.Slots.{_!_, N, Row}
+use Rattle.sheet_spec.specs.Slots.{_!_, Row}
 use Rattle.sheet_spec.specs.Valid.{Between, Valid}
-use Rattle.sheet_spec.specs.Box.{lo, hi}
 use Rattle.machine_spec.specs.Box.{In}
 use Rattle.machine_spec.specs.declared.Law.{Law}
-use Rattle.machine_spec.specs.Machine.{Machine, machine, varsOf, bandsOf, bandVarOf, cap, rowOf, least, greatest, bandMeets, clamp, numerator, change, Tick}
-use Rattle.machine_spec.specs.Rate.{outer, outermost, weighted, bound, part, neutral, bandRate, rate}
+use Rattle.machine_spec.specs.Machine.{Machine, varsOf, bandsOf, bandVarOf, cap, rowOf, bandHolds, clamp, numerator, change, Tick}
+use Rattle.machine_spec.specs.Rate.{outer, outermost, weighted, bound, bandMet, part, commandOver, neutral, bandRate, rate}
 use Rattle.machine_spec.proofs.Face.{Beyond, beyond-refl, beyond-trans, beyond-sum, sum-beyond, span, change-mono, cond-one, outer-one, outermost-one, outermost-at}
+use Rattle.machine_spec.proofs.Facts.{cap-low, divisor}
+use Rattle.machine_spec.proofs.Offers.{offered-within}
 use Rattle.machine_spec.proofs.Bands.{meets-read, meets-show, meets-wider}
-
--- what the argument asks of a machine
-pub record Proper (m : Machine) : Type 0 where
-  pub room : varsOf m ≤ N
-  pub var : bandVarOf m < varsOf m
-  pub caps : (i : ℕ) → i < varsOf m → pos 0 ≤ℤ cap m i
-  pub divisors : (k i : ℕ) → k < bandsOf m → i < varsOf m → 0 < natAbs (rowOf m k i .q)
-
-positive : (q : ℤ) → pos 1 ≤ℤ q → 0 < natAbs q
-positive (pos n) h = omega ints
-positive (negsuc n) h = absurd (h .le)
-
-pub proper : {v : List ℤ} (l : Law) → Valid v → Proper (machine v l)
-proper l wf = record {
-  room = omega (arith, wf .vars-high);
-  var = wf .var;
-  caps = λ i h. omega (ints, wf .caps i h .low);
-  divisors = λ k i h g. positive _ (wf .rows k i h g .q .low);
-}
 
 -- ---- a row over a box that holds the state, and over commands that hold the one used
 
@@ -48,21 +30,19 @@ bound-holds up n r B x u v w b h k =
 
 -- what band k's share in the rates over B is worked out over holds the state x and the command u
 pub record InPart (m : Machine) (B : List ℤ) (k : ℕ) (x : List ℤ) (u : ℤ) : Type 0 where
-  pub meets : T (bandMeets (m .sheet) (bandsOf m) k (lo B (bandVarOf m)) (hi B (bandVarOf m)))
+  pub meets : T (bandMet m k B)
   pub state : In (varsOf m) (part m k B) x
-  pub least-used : least m k ≤ℤ u
-  pub most-used : u ≤ℤ greatest m k
+  pub command : Between (commandOver false m k (part m k B)) (commandOver true m k (part m k B)) u
 
 -- the part of a box that a band's row is bounded over holds those of the box's states that are in the band
-pub part-holds : (m : Machine) (k : ℕ) (B x : List ℤ) → In (varsOf m) B x → T (bandMeets (m .sheet) (bandsOf m) k (x ! (bandVarOf m)) (x ! (bandVarOf m))) → In (varsOf m) (part m k B) x
+pub part-holds : (m : Machine) (k : ℕ) (B x : List ℤ) → In (varsOf m) B x → T (bandHolds m k x) → In (varsOf m) (part m k B) x
 part-holds m k B x b t = b
 
-pub tick-in-part : {m : Machine} {x y : List ℤ} (B : List ℤ) → Proper m → In (varsOf m) B x → (t : Tick m x y) → InPart m B (t .band) x (t .used)
-tick-in-part {m} {x} B wf b t = record {
+pub tick-in-part : {m : Machine} {x y : List ℤ} (B : List ℤ) → Valid (m .sheet) → In (varsOf m) B x → (t : Tick m x y) → InPart m B (t .band) x (t .used)
+tick-in-part {m} {x} B wf b t = let s = part-holds m (t .band) B x b (t .holds) in record {
   meets = meets-show (meets-wider (b .low (bandVarOf m) (wf .var)) (b .high (bandVarOf m) (wf .var)) (meets-read (t .holds)));
-  state = part-holds m (t .band) B x b (t .holds);
-  least-used = t .least-used;
-  most-used = t .most-used;
+  state = s;
+  command = offered-within m (t .band) (part m (t .band) B) x s (t .offered);
 }
 
 -- ---- the rates
@@ -77,7 +57,7 @@ pub share-bounds : {m : Machine} {B : List ℤ} {k : ℕ} {x : List ℤ} {u : �
 unfolding bandRate
 share-bounds {m} {B} {k} {x} {u} up i c q =
     rw (cond-yes _ _ _ (c .meets))
-    (change-mono up (cap m i) (rowOf m k i) _ _ q (bound-holds up (varsOf m) (rowOf m k i) (part m k B) x _ u _ (c .state) (c .least-used) (c .most-used)))
+    (change-mono up (cap m i) (rowOf m k i) _ _ q (bound-holds up (varsOf m) (rowOf m k i) (part m k B) x _ u _ (c .state) (c .command .low) (c .command .high)))
 
 -- a change lies within the cap
 clamp-within : (c z : ℤ) → pos 0 ≤ℤ c → Between (negℤ c) c (clamp c z)
@@ -109,7 +89,7 @@ outer-neutral {c} {z} h true = omega (ints, max-is z (negℤ c), h .low)
 pub outer-within : {c z : ℤ} → Between (negℤ c) c z → (up : Bool) (r : Row) (n : ℤ) → Between (negℤ c) c (outer up z (change up c r n))
 outer-within {c} h up r n = outer-one (Between (negℤ c) c) up h (change-within up c r n (omega (ints, h .low, h .high, neg c)))
 
-module _ {m : Machine} {x y : List ℤ} (wf : Proper m) (t : Tick m x y) (i : ℕ) (h : i < varsOf m) where
+module _ {m : Machine} {x y : List ℤ} (wf : Valid (m .sheet)) (t : Tick m x y) (i : ℕ) (h : i < varsOf m) where
   allowed : (up : Bool) → Beyond up (change up (cap m i) (rowOf m (t .band) i) (numerator (varsOf m) (rowOf m (t .band) i) x (t .used))) (y ! i -ℤ x ! i)
   allowed false = record { order = t .change i h .above }
   allowed true = record { order = t .change i h .below }
@@ -119,11 +99,11 @@ module _ {m : Machine} {x y : List ℤ} (wf : Proper m) (t : Tick m x y) (i : �
   unfolding rate
   rate-bounds up B b =
       beyond-trans (outermost-at up _ (bandsOf m) _ (t .band) (t .among))
-      (beyond-trans (share-bounds up i (tick-in-part B wf b t) (wf .divisors (t .band) i (t .among) h)) (allowed up))
+      (beyond-trans (share-bounds up i (tick-in-part B wf b t) (divisor wf (t .band) i (t .among) h)) (allowed up))
 
   -- and by no more than its cap
   pub cap-bounds : (up : Bool) → Beyond up (neutral (not up) (cap m i)) (y ! i -ℤ x ! i)
-  cap-bounds up = beyond-trans (neutral-beyond (change-within up (cap m i) _ _ (wf .caps i h)) up) (allowed up)
+  cap-bounds up = beyond-trans (neutral-beyond (change-within up (cap m i) _ _ (cap-low wf i h)) up) (allowed up)
 
 -- the rates too lie within the cap
 neutral-within : (up : Bool) (c : ℤ) → pos 0 ≤ℤ c → Between (negℤ c) c (neutral up c)
@@ -137,7 +117,7 @@ unfolding bandRate
 outermost-within up m B i n h =
     let z = neutral-within up (cap m i) h in
     outermost-one (Between (negℤ (cap m i)) (cap m i)) up n (bandRate up m B i) z
-    (λ k g. cond-one (Between (negℤ (cap m i)) (cap m i)) (bandMeets (m .sheet) (bandsOf m) k (lo B (bandVarOf m)) (hi B (bandVarOf m))) (change-within up (cap m i) (rowOf m k i) _ h) z)
+    (λ k g. cond-one (Between (negℤ (cap m i)) (cap m i)) (bandMet m k B) (change-within up (cap m i) (rowOf m k i) _ h) z)
 
 pub rate-within : (up : Bool) (m : Machine) (B : List ℤ) (i : ℕ) → pos 0 ≤ℤ cap m i → Between (negℤ (cap m i)) (cap m i) (rate up m B i)
 unfolding rate

@@ -1,10 +1,11 @@
 -- Boxes of states: what they hold, how they compare, grow and move. All of it computes. sheet_spec/specs/Box says what a box is.
-use mathlib.Core.Bool.{Bool, _&&_}
+use mathlib.Core.Bool.{Bool, true, false, _&&_}
 use mathlib.Core.List.{List}
 use Prim.Native.Nat.{ℕ, zero, suc, _+_, _<_}
 use lib.IntN.{ℤ, pos, _+ℤ_, _*ℤ_}
 use lib.Signed.{leZ, _≤ℤ_}
 use lib.ListN.{set, replicate}
+use Rattle.integers.specs.Bound.{Bound}
 use Rattle.integers.specs.Order.{minZ, maxZ}
 use Rattle.sheet_spec.specs.Slots.{_!_, N, boxSize}
 use Rattle.sheet_spec.specs.Box.{lo, hi, all}
@@ -21,6 +22,15 @@ boxOf zero f g = replicate boxSize (pos 0)
 boxOf (suc n) f g = set (set (boxOf n f g) n (f n)) (n + N) (g n)
 
 -- ---- boxes
+
+-- the lower (`false`) or the upper (`true`) side of variable i
+abbrev pub side : Bool → List ℤ → ℕ → ℤ
+side false B i = lo B i
+side true B i = hi B i
+
+-- no side of a variable is greater than b, without its sign
+pub record Near (n b : ℕ) (B : List ℤ) : Type 0 where
+  pub at : (up : Bool) (i : ℕ) → i < n → Bound (side up B i) b
 
 -- the box holds the state: each variable lies from its lower to its upper side, both counted
 pub record In (n : ℕ) (B x : List ℤ) : Type 0 where

@@ -1,3 +1,4 @@
 pub mod Box
 pub mod Machine
 pub mod Rate
+pub mod Accepted

@@ -11,6 +11,7 @@ use Rattle.integers.specs.Order.{minZ, maxZ}
 use Rattle.integers.specs.Division.{floorDiv, ceilDiv}
 use Rattle.sheet_spec.specs.Slots.{_!_, Row, vars, bands, bandVar, row}
 use Rattle.sheet_spec.specs.Slots as sheet
+use Rattle.sheet_spec.specs.Valid.{Between}
 use Rattle.machine_spec.specs.declared.Law.{Law}
 use Rattle.machine_spec.specs.declared.Law.the-variants.{Baseline, Command}
 use Rattle.machine_spec.specs.Box.{sum}
@@ -40,24 +41,30 @@ cap m i = sheet.cap (m .sheet) i
 abbrev pub rowOf : Machine → ℕ → ℕ → Row
 rowOf m k i = row (m .sheet) k i
 
--- the law's commands in band k run from `least` to `greatest`: under the plain law the band's safety range
-unfoldable pub leastOf : Law → List ℤ → ℕ → ℤ
-leastOf Baseline v k = sheet.safetyLeast v k
-leastOf (Command u) v k = u
-
-unfoldable pub greatestOf : Law → List ℤ → ℕ → ℤ
-greatestOf Baseline v k = sheet.safetyGreatest v k
-greatestOf (Command u) v k = u
-
-abbrev pub least : Machine → ℕ → ℤ
-least m k = leastOf (m .law) (m .sheet) k
-
-abbrev pub greatest : Machine → ℕ → ℤ
-greatest m k = greatestOf (m .law) (m .sheet) k
+-- ---- bands
 
 -- band k has a number from l to h: it runs from its edge up to just below the next edge, the last without end
 unfoldable pub bandMeets : List ℤ → ℕ → ℕ → ℤ → ℤ → Bool
 bandMeets v bands k l h = leZ (sheet.edge v k) h && (leb bands (k + 1) || ltZ l (sheet.edge v (k + 1)))
+
+-- band k holds the state x
+abbrev pub bandHolds : Machine → ℕ → List ℤ → Bool
+bandHolds m k x = bandMeets (m .sheet) (bandsOf m) k (x ! bandVarOf m) (x ! bandVarOf m)
+
+-- ---- what a law offers
+
+-- the least (`false`) and the greatest (`true`) command of band k's safety range
+abbrev pub safetyEnd : Bool → List ℤ → ℕ → ℤ
+safetyEnd false v k = sheet.safetyLeast v k
+safetyEnd true v k = sheet.safetyGreatest v k
+
+-- the least and the greatest command that the law offers in band k at the state x: under the plain law those of the safety range
+unfoldable pub commandAt : Bool → Machine → ℕ → List ℤ → ℤ
+commandAt up m k x = elim (m .law) [ Baseline ↦ safetyEnd up (m .sheet) k | Command u ↦ u ]
+
+-- the law offers the command u there
+abbrev pub Offered : Machine → ℕ → List ℤ → ℤ → Type 0
+Offered m k x u = Between (commandAt false m k x) (commandAt true m k x) u
 
 -- ---- the allowed change
 
@@ -78,14 +85,13 @@ pub record Allowed (m : Machine) (k : ℕ) (x : List ℤ) (u : ℤ) (i : ℕ) (y
   pub above : change false (cap m i) (rowOf m k i) (numerator (varsOf m) (rowOf m k i) x u) ≤ℤ y
   pub below : y ≤ℤ change true (cap m i) (rowOf m k i) (numerator (varsOf m) (rowOf m k i) x u)
 
--- a tick from the state x to the state y: one band holds x, one of the law's commands is used for all variables, and each
+-- a tick from the state x to the state y: one band holds x, one command that the law offers is used for all variables, and each
 -- variable takes an allowed change
 pub record Tick (m : Machine) (x y : List ℤ) : Type 0 where
   pub size : length y ≡ varsOf m
   pub band : ℕ
   pub among : band < bandsOf m
-  pub holds : T (bandMeets (m .sheet) (bandsOf m) band (x ! (bandVarOf m)) (x ! (bandVarOf m)))
+  pub holds : T (bandHolds m band x)
   pub used : ℤ
-  pub least-used : least m band ≤ℤ used
-  pub most-used : used ≤ℤ greatest m band
+  pub offered : Offered m band x used
   pub change : (i : ℕ) → i < varsOf m → Allowed m band x used i (y ! i -ℤ x ! i)

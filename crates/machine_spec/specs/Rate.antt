@@ -8,8 +8,9 @@ use lib.ListN.{set}
 use Rattle.integers.specs.Order.{minZ, maxZ}
 use Rattle.sheet_spec.specs.Slots.{N, Row}
 use Rattle.sheet_spec.specs.Box.{lo, hi}
+use Rattle.machine_spec.specs.declared.Law.the-variants.{Baseline, Command}
 use Rattle.machine_spec.specs.Box.{sum, boxOf}
-use Rattle.machine_spec.specs.Machine.{Machine, varsOf, bandsOf, bandVarOf, cap, rowOf, least, greatest, bandMeets, change}
+use Rattle.machine_spec.specs.Machine.{Machine, varsOf, bandsOf, bandVarOf, cap, rowOf, bandMeets, safetyEnd, change}
 
 -- ---- rates over a box
 
@@ -31,9 +32,21 @@ weighted up n r B = sum n (λ j. outer up (r .a j *ℤ lo B j) (r .a j *ℤ hi B
 unfoldable pub bound : Bool → ℕ → Row → List ℤ → ℤ → ℤ → ℤ
 bound up n r B u v = weighted up n r B +ℤ outer up (r .b *ℤ u) (r .b *ℤ v) +ℤ r .c
 
+-- band k has a state of the box
+abbrev pub bandMet : Machine → ℕ → List ℤ → Bool
+bandMet m k B = bandMeets (m .sheet) (bandsOf m) k (lo B (bandVarOf m)) (hi B (bandVarOf m))
+
 -- what band k's row is bounded over: the whole box
 abbrev pub part : Machine → ℕ → List ℤ → List ℤ
 part m k B = B
+
+-- bounds of the least and of the greatest command that the law offers in band k, over the states of a box
+unfoldable pub commandOver : Bool → Machine → ℕ → List ℤ → ℤ
+commandOver up m k B = elim (m .law) [ Baseline ↦ safetyEnd up (m .sheet) k | Command u ↦ u ]
+
+-- the number N of band k's row for variable i, bounded over a box and over the commands that the law offers there
+abbrev pub rowOver : Bool → Machine → List ℤ → ℕ → ℕ → ℤ
+rowOver up m B i k = bound up (varsOf m) (rowOf m k i) B (commandOver false m k B) (commandOver true m k B)
 
 -- the value that leaves the outermost as it is
 unfoldable pub neutral : Bool → ℤ → ℤ
@@ -43,9 +56,7 @@ neutral true cap = negℤ cap
 -- band k's share in the rate of variable i over the box
 unfoldable pub bandRate : Bool → Machine → List ℤ → ℕ → ℕ → ℤ
 bandRate up m B i k =
-    cond (bandMeets (m .sheet) (bandsOf m) k (lo B (bandVarOf m)) (hi B (bandVarOf m)))
-    (change up (cap m i) (rowOf m k i) (bound up (varsOf m) (rowOf m k i) (part m k B) (least m k) (greatest m k)))
-    (neutral up (cap m i))
+    cond (bandMet m k B) (change up (cap m i) (rowOf m k i) (rowOver up m (part m k B) i k)) (neutral up (cap m i))
 
 -- the least (greatest) allowed change of variable i over the box: all commands, and every band that the box meets
 unfoldable pub rate : Bool → Machine → List ℤ → ℕ → ℤ

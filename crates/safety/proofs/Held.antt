@@ -11,18 +11,20 @@ use lib.Signed.{_≤ℤ_}
 use lib.ListN.{length, replicate, length-append, length-replicate}
 use Rattle.integers.specs.Bound.{size}
 use Rattle.integers.proofs.Z.{ints, sub, neg}
+use Rattle.sheet_spec.specs.Limits.{maxTicks, maxCap, maxEdge, maxSide}
 use Rattle.sheet_spec.specs.Slots.{_!_, vars, δ, α, ρ, recoveryBox}
 use Rattle.sheet_spec.specs.Valid.{Valid}
 use Rattle.machine_spec.specs.Box.{In}
 use Rattle.machine_spec.specs.declared.Law.{Law}
 use Rattle.machine_spec.specs.declared.Law.the-variants.{Baseline, Command}
+use Rattle.machine_spec.specs.Accepted.{Lawful}
 use Rattle.machine_spec.specs.Machine.{machine, Tick}
 use Rattle.machine_spec.specs.Rate.{neutral}
-use Rattle.machine_spec.proofs.Sound.{proper, cap-bounds}
+use Rattle.machine_spec.proofs.Sound.{cap-bounds}
 use Rattle.sheet_spec.specs.Refusals.{orElse}
-use Rattle.boxes_spec.specs.Reach.{lawRefusal}
+use Rattle.boxes_spec.specs.Reach.{lawRefusal, sidesRefusal}
 use Rattle.boxes_spec.proofs.Sound.{Ticks}
-use Rattle.boxes_spec.proofs.Ranges.{Sized, start-sized, recovery-sized}
+use Rattle.boxes_spec.proofs.Ranges.{Sized, lawful, start-sized, recovery-sized}
 use Rattle.decision_spec.specs.Question.{questionRefusal, formRefusal, allowanceRefusal, allowanceOf, commandOf, measured}
 use Rattle.decision_spec.specs.Decision.{recoveryOf, decisionOf, isKeep}
 use Rattle.decision_spec.proofs.Cover.{Covered}
@@ -30,17 +32,17 @@ use Rattle.decision_spec.proofs.Attempt.{recovery-sound, decision-sound}
 
 pub record Held (v : List ℤ) (ls : List Law) (x : List ℤ) : Type 0 where
   pub covered : Covered v ls x
-  pub near : (i : ℕ) → i < vars v → size (x ! i) + 1000 * length ls ≤ 2000000
+  pub near : (i : ℕ) → i < vars v → size (x ! i) + length ls * maxCap ≤ maxEdge
 
 -- ---- a tick moves it on
 
--- a tick changes a variable by at most 1,000
-change-size : {v : List ℤ} {l : Law} {x y : List ℤ} → Valid v → Tick (machine v l) x y → (i : ℕ) → i < vars v → size (y ! i) ≤ size (x ! i) + 1000
+-- a tick changes a variable by at most the greatest cap
+change-size : {v : List ℤ} {l : Law} {x y : List ℤ} → Valid v → Tick (machine v l) x y → (i : ℕ) → i < vars v → size (y ! i) ≤ size (x ! i) + maxCap
 unfolding neutral
 change-size {v} {l} {x} {y} wf t i h =
-    step (x ! i) (y ! i) _ (wf .caps i h .high) (cap-bounds (proper l wf) t i h false .order) (cap-bounds (proper l wf) t i h true .order)
+    step (x ! i) (y ! i) _ (wf .caps i h .high) (cap-bounds wf t i h false .order) (cap-bounds wf t i h true .order)
   where
-    step : (a b c : ℤ) → c ≤ℤ pos 1000 → negℤ c ≤ℤ (b -ℤ a) → (b -ℤ a) ≤ℤ c → size b ≤ size a + 1000
+    step : (a b c : ℤ) → c ≤ℤ pos maxCap → negℤ c ≤ℤ (b -ℤ a) → (b -ℤ a) ≤ℤ c → size b ≤ size a + maxCap
     step a (pos b) c k f g = omega (ints, sub (pos b) a)
     step a (negsuc b) c k f g = omega (ints, sub (negsuc b) a, neg c)
 
@@ -62,9 +64,9 @@ module _ {v : List ℤ} (wf : Valid v) where
   unfolding Covered
   held-returns k x s f = held-after {l = Baseline} {ls = []} k x (rw append-nil s) f .covered
 
--- ---- where it starts: in a measured box and in the recovery box, which lie within ±1,000,000
+-- ---- where it starts: in a measured box and in the recovery box, whose sides are at most maxSide
 
-hold : {v : List ℤ} {ls : List Law} {B x : List ℤ} → length ls ≤ 1000 → Sized (vars v) 1000000 B → In (vars v) B x → Covered v ls x → Held v ls x
+hold : {v : List ℤ} {ls : List Law} {B x : List ℤ} → length ls ≤ maxTicks → Sized (vars v) maxSide B → In (vars v) B x → Covered v ls x → Held v ls x
 hold {x} few s b c = record {
   covered = c;
   near = λ i h. omega (arith, between (x ! i) (s .near .at false i h .at-most) (s .near .at true i h .at-most) (b .low i h) (b .high i h));
@@ -78,17 +80,23 @@ or-none : (a b : ℕ) → orElse a b ≡ 0 → (a ≡ 0) × (b ≡ 0)
 or-none zero b e = (refl, e)
 or-none (suc a) b e = absurd (omega arith)
 
-measured-sized : (v : List ℤ) (g : List ℕ) → questionRefusal v g ≡ 0 → Sized (vars v) 1000000 (measured (vars v) g)
-unfolding questionRefusal
-measured-sized v g e =
-    start-sized (vars v) (measured (vars v) g)
-    (or-none (lawRefusal v (Command (commandOf g))) _ (or-none (allowanceRefusal g) _ (or-none (formRefusal (vars v) g) _ e .1) .1) .1)
+module _ (v : List ℤ) (g : List ℕ) (e : questionRefusal v g ≡ 0) where
+  -- the refusals of the command and of the measured box
+  tested : (lawRefusal v (Command (commandOf g)) ≡ 0) × (sidesRefusal (vars v) (measured (vars v) g) ≡ 0)
+  unfolding questionRefusal
+  tested = or-none (lawRefusal v (Command (commandOf g))) _ (or-none (allowanceRefusal g) _ (or-none (formRefusal (vars v) g) _ e .1) .1)
+
+  pub command-lawful : Lawful v (Command (commandOf g))
+  command-lawful = lawful v (Command (commandOf g)) (tested .0)
+
+  measured-sized : Sized (vars v) maxSide (measured (vars v) g)
+  measured-sized = start-sized (vars v) (measured (vars v) g) (tested .1)
 
 pub keep-held : {v x : List ℤ} (g : List ℕ) → Valid v → questionRefusal v g ≡ 0
     → T (isKeep (decisionOf v (measured (vars v) g) (commandOf g) (allowanceOf g))) → In (vars v) (measured (vars v) g) x
     → Held v (replicate (δ v) (Command (commandOf g)) ++ replicate (α v) Baseline) x
 keep-held {v} g wf e t b =
-    let few : length (replicate (δ v) (Command (commandOf g)) ++ replicate (α v) Baseline) ≤ 1000 = simp (length-append, length-replicate) (wf .sum-high) in
+    let few : length (replicate (δ v) (Command (commandOf g)) ++ replicate (α v) Baseline) ≤ maxTicks = simp (length-append, length-replicate) (wf .sum-high) in
     hold few (measured-sized v g e) b (decision-sound wf (commandOf g) (allowanceOf g) t b)
 
 -- ---- the way back to the recovery box
@@ -104,7 +112,7 @@ module _ {v : List ℤ} (wf : Valid v) (passed : T (isKeep (recoveryOf v))) wher
   -- a state of the recovery box comes back to it in ρ ticks
   pub recovered : {x : List ℤ} → In (vars v) (recoveryBox v) x → Returning v x
   recovered {x} b =
-      let few : length (replicate (ρ v) Baseline) ≤ 1000 = rw (length-replicate (ρ v) Baseline) (wf .ρ-high) in
+      let few : length (replicate (ρ v) Baseline) ≤ maxTicks = rw (length-replicate (ρ v) Baseline) (wf .ρ-high) in
       from (ρ v) (wf .ρ-low) (omega arith) (hold few (recovery-sized wf) b (recovery-sound wf passed b))
     where
       from : (k : ℕ) → 1 ≤ k → k ≤ max (α v) (ρ v) → Held v (replicate k Baseline) x → Returning v x

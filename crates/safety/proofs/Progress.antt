@@ -12,25 +12,26 @@ use lib.ListN.{length, getD, length-append, List·getD-append}
 use lib.Seq.{getD-append-add}
 use Rattle.integers.specs.Bound.{Bound}
 use Rattle.integers.proofs.Z.{ints}
+use Rattle.sheet_spec.specs.Limits.{maxEdge}
 use Rattle.sheet_spec.specs.Slots.{_!_, vars, bands, bandVar, δ, recoveryBox}
 use Rattle.sheet_spec.specs.Sheet.{values}
 use Rattle.sheet_spec.specs.Valid.{Valid}
 use Rattle.machine_spec.specs.Box.{In}
 use Rattle.machine_spec.specs.declared.Law.{Law}
+use Rattle.machine_spec.specs.Accepted.{Lawful}
 use Rattle.machine_spec.specs.Machine.{Machine, machine, Tick}
 use Rattle.machine_spec.proofs.Bands.{Band, has-band}
-use Rattle.machine_spec.proofs.Sound.{proper}
-use Rattle.machine_spec.proofs.Progress.{permits, goes-on}
+use Rattle.machine_spec.proofs.Progress.{goes-on}
 use Rattle.boxes_spec.proofs.Sound.{Ticks}
 use Rattle.decision_spec.specs.Decision.{checkRecovery, isKeep}
 use Rattle.safety.specs.Run.{Period, periodLaw, lawAt, Measured, Run}
 use Rattle.decision_spec.proofs.Cover.{behind, behind-ticks}
 use Rattle.safety.proofs.Acting.{law-at, law-before, law-behind}
-use Rattle.safety.proofs.Run.{Backed, Guarded, backed-guarded, wf, begins, backed-tick, at-period, guarded}
+use Rattle.safety.proofs.Run.{Backed, Guarded, backed-guarded, period-lawful, wf, begins, backed-tick, at-period, guarded}
 
 -- ---- the states of a run
 
-guarded-bound : {v x : List ℤ} → Guarded v x → (i : ℕ) → i < vars v → Bound (x ! i) 2000000
+guarded-bound : {v x : List ℤ} → Guarded v x → (i : ℕ) → i < vars v → Bound (x ! i) maxEdge
 guarded-bound g i h = record { at-most = omega (arith, g .held .near i h) }
 
 guarded-band : {v x : List ℤ} → Valid v → Guarded v x → Band v (bands v) (x ! bandVar v)
@@ -38,7 +39,7 @@ guarded-band {v} wf g = has-band (wf .bands-low) (omega (ints, wf .first-edge, g
 
 module _ (f : List ℕ) (passed : T (isKeep (checkRecovery f))) (qs : List Period) (x : ℕ → List ℤ)
     (start : In (vars (values f)) (recoveryBox (values f)) (x 0)) (run : Run f qs x) (t : ℕ) (h : t ≤ length qs * δ (values f)) where
-  pub within-limits : (i : ℕ) → i < vars (values f) → Bound (x t ! i) 2000000
+  pub within-limits : (i : ℕ) → i < vars (values f) → Bound (x t ! i) maxEdge
   within-limits = guarded-bound (guarded f passed qs x start run t h)
 
   pub has-bands : Band (values f) (bands (values f)) (x t ! bandVar (values f))
@@ -122,12 +123,12 @@ pub record Continued (f : List ℕ) (qs : List Period) (x : ℕ → List ℤ) (q
   pub run : Run f (qs ++ (q ∷ [])) states
 
 module _ (f : List ℕ) (passed : T (isKeep (checkRecovery f))) where
-  onward : (left : ℕ) (l : Law) (s : List ℤ) → Backed (values f) l left s → Trajectory (machine (values f) l) s left
+  onward : (left : ℕ) (l : Law) (s : List ℤ) → Lawful (values f) l → Backed (values f) l left s → Trajectory (machine (values f) l) s left
   unfolding behind
-  onward zero l s b = record { states = λ t. s; first = refl; ticks = λ i h. absurd (omega arith) }
-  onward (suc left) l s b =
-      let n = goes-on s (proper l (wf f passed)) (permits l (wf f passed)) (guarded-band (wf f passed) (backed-guarded l left b)) in
-      let r = onward left l (n .next) (backed-tick f passed l left b (n .tick)) in
+  onward zero l s a b = record { states = λ t. s; first = refl; ticks = λ i h. absurd (omega arith) }
+  onward (suc left) l s a b =
+      let n = goes-on s (record { sheet = wf f passed; law = a }) (guarded-band (wf f passed) (backed-guarded l left b)) in
+      let r = onward left l (n .next) a (backed-tick f passed l left b (n .tick)) in
       record { states = behind s (r .states); first = refl; ticks = behind-ticks (r .states) left (r .first) (n .tick) (r .ticks) }
 
   -- every run goes on with any further period; if that is kept, its measured box has to hold the state
@@ -135,7 +136,7 @@ module _ (f : List ℕ) (passed : T (isKeep (checkRecovery f))) where
       → (q : Period) → Measured f q (x (length qs * δ (values f))) → Continued f qs x q
   runs-go-on qs x start run q m =
       let k = length qs * δ (values f) in
-      let r = onward (δ (values f)) (periodLaw f q) (x k) (begins f passed q (at-period f passed qs x start run (length qs) (omega arith)) m) in
+      let r = onward (δ (values f)) (periodLaw f q) (x k) (period-lawful f q) (begins f passed q (at-period f passed qs x start run (length qs) (omega arith)) m) in
       record {
         states = join k x (r .states);
         same = join-to k x (r .states) (sym (r .first));

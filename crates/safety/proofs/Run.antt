@@ -18,13 +18,14 @@ use Rattle.sheet_spec.proofs.Valid.{valid}
 use Rattle.machine_spec.specs.Box.{In}
 use Rattle.machine_spec.specs.declared.Law.{Law}
 use Rattle.machine_spec.specs.declared.Law.the-variants.{Baseline, Command}
+use Rattle.machine_spec.specs.Accepted.{Lawful}
 use Rattle.machine_spec.specs.Machine.{machine, Tick}
 use Rattle.decision_spec.specs.Decision.{checkRecovery, decide, isKeep}
 use Rattle.safety.specs.Run.{Period, kept, periodLaw, lawAt, Measured, Run, SafeRuns}
 use Rattle.decision_spec.proofs.Cover.{Covered}
 use Rattle.safety.proofs.Acting.{law-at}
 use Rattle.decision_spec.proofs.Attempt.{check-keep, decide-keep}
-use Rattle.safety.proofs.Held.{Held, held-tick, held-returns, keep-held, Returning, recovered, returning, returning-tick}
+use Rattle.safety.proofs.Held.{Held, held-tick, held-returns, command-lawful, keep-held, Returning, recovered, returning, returning-tick}
 
 -- what is known of the state x in a period under the law l, of which `left` ticks are to come
 unfoldable pub Backed : List ℤ → Law → ℕ → List ℤ → Type 0
@@ -48,6 +49,12 @@ backed-guarded {v} (Command u) left s = record { law = Command u; later = replic
 choose : {A : Type 0} (P : A → Type 0) (t : Bool) (x y : A) → (T t → P x) → (T (not t) → P y) → P (elim t [ true ↦ x | false ↦ y ])
 choose P true x y f g = f tt
 choose P false x y f g = g tt
+
+-- a period's law is one that the sheet allows
+pub period-lawful : (f : List ℕ) (q : Period) → Lawful (values f) (periodLaw f q)
+unfolding periodLaw kept
+period-lawful f none = tt
+period-lawful f (some g) = choose (Lawful (values f)) (isKeep (decide f g)) _ _ (λ t. command-lawful (values f) g (decide-keep f g t .0)) (λ n. tt)
 
 -- a sheet that passed
 module _ (f : List ℕ) (passed : T (isKeep (checkRecovery f))) where

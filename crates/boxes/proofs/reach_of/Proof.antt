@@ -4,11 +4,12 @@ use Prim.Native.Nat.{_≤_}
 use native.Mathlib.Omega.{arith}
 use borrow.Author.Needs.{needs}
 use Rattle.sheet_spec.specs.Slots.{N}
-use Rattle.machine_spec.proofs.InPlace.{trim-trim, trim-as}
+use Rattle.machine_spec.proofs.InPlace.{trim-trim, trim-as, trimmed-by}
 use Rattle.boxes_rates.specs.Plant.{Describes}
-use Rattle.boxes_rates.proofs.Bounds.{wider}
+use Rattle.machine_spec.proofs.Facts as facts
+use Rattle.machine_spec.proofs.Ranges.{near-less}
 use Rattle.boxes.proofs.Answer.{Refusal, reach-refused, reachable, reach-ended, reach-failed}
-use Rattle.boxes.proofs.Turn.{trimmed-by, not-ended}
+use Rattle.boxes.proofs.Turn.{not-ended}
 use Rattle.boxes.proofs.reach_of.Statement.{statement}
 use Rattle.boxes.proofs.reach_of.Tie as tie
 
@@ -23,7 +24,7 @@ module _ (at-plant : tie.After-plant) where
   described = at-plant .plant .ensures .1
 
   room : at-plant .plant .result .n ≤ N
-  room = omega (arith, described .n, at-start .pre .vars-high)
+  room = omega (arith, described .n, facts.room (at-start .pre))
 
 -- the code's refusal is the definition's
 refusal-is : (at-refusal : tie.After-reach-refusal)
@@ -35,7 +36,7 @@ reach-refusal-requires at-plant κs = (described at-plant .n, room at-plant)
 
 -- refused
 returns : tie.Need-returns
-returns at-return = at-return .refused .ensures ∙ reach-refused (refusal-is (at-return .before .before)) (at-return .before .if1 .taken)
+returns at-return = at-return .refused .ensures ∙ reach-refused (at-start (at-return .before .before .before) .pre) (refusal-is (at-return .before .before)) (at-return .before .if1 .taken)
 
 reach-requires : tie.Need-reach-requires
 reach-requires c κs =
@@ -43,12 +44,12 @@ reach-requires c κs =
     let at-refusal = at-trim .before .before in
     let at-plant = at-refusal .before in
     let n = at-plant .plant .result .n in
-    let accepted = reachable (refusal-is at-refusal) (at-trim .before .if1 .left) (law-is at-plant) (described at-plant .n) (at-trim .trim .ensures) in
+    let accepted = reachable (at-start at-plant .pre) (refusal-is at-refusal) (at-trim .before .if1 .left) (law-is at-plant) (described at-plant .n) (at-trim .trim .ensures) in
     record {
       plan = record { plant = described at-plant; boxes = omega arith; some = accepted .some; most = accepted .most };
       ticks = accepted .ticks;
       counts = omega (arith, accepted .ticks, accepted .most);
-      start = wider (omega arith) (accepted .start);
+      start = near-less (omega arith) (accepted .start);
       trimmed = trimmed-by (described at-plant .n) (trim-as n (at-trim .trim .ensures) (trim-trim n (room at-plant) (at-start at-plant .args .start .now)));
     }
 
@@ -65,14 +66,14 @@ returns-2 : tie.Need-returns-2
 returns-2 at-return =
     let r = at-return .before .before in
     at-return .refused2 .ensures
-    ∙ reach-failed (refusal-is (at-refusal r)) (at-trim r .before .if1 .left) (law-is (at-refusal r .before)) (described (at-refusal r .before) .n) (at-trim r .trim .ensures) (r .reach .result) _ _ (r .reach .ensures .same) (not-ended (at-return .before .match .keys2))
+    ∙ reach-failed (at-start (at-refusal r .before) .pre) (refusal-is (at-refusal r)) (at-trim r .before .if1 .left) (law-is (at-refusal r .before)) (described (at-refusal r .before) .n) (at-trim r .trim .ensures) (r .reach .result) _ _ (r .reach .ensures .same) (not-ended (at-return .before .match .keys2))
 
 -- it ended
 returns-3 : tie.Need-returns-3
 returns-3 at-return =
     let ended = at-return .before in
     let r = ended .before .before in
-    reach-ended (refusal-is (at-refusal r)) (at-trim r .before .if1 .left) (law-is (at-refusal r .before)) (described (at-refusal r .before) .n) (at-trim r .trim .ensures) (r .reach .result) _ _ (r .reach .ensures .same) (ended .r .given .0 .0) (ended .r .given .0 .1 .0) (ended .r .given .1)
+    reach-ended (at-start (at-refusal r .before) .pre) (refusal-is (at-refusal r)) (at-trim r .before .if1 .left) (law-is (at-refusal r .before)) (described (at-refusal r .before) .n) (at-trim r .trim .ensures) (r .reach .result) _ _ (r .reach .ensures .same) (ended .r .given .0 .0) (ended .r .given .0 .1 .0) (ended .r .given .1)
 
 pub reach-of-spec : {M : Type 1} → statement M
 reach-of-spec =

@@ -1,6 +1,6 @@
 -- `round` settles as the definition does, and leaves the rates and the next working box. A step of one tick settles in its first
 -- round, so nothing is tested then. Assumes nothing.
-use mathlib.Core.Path.{_≡_, sym, ap, _∙_, subst}
+use mathlib.Core.Path.{_≡_, sym, ap, _∙_}
 use mathlib.Core.Bool.{true}
 use mathlib.Core.List.{List}
 use Prim.Native.Nat.{ℕ, _≤_}
@@ -9,14 +9,14 @@ use lib.Dec.{eqb}
 use lib.IntN.{ℤ}
 use borrow.Author.Needs.{needs}
 use Rattle.sheet_spec.specs.Limits.{maxCap}
-use Rattle.machine_spec.specs.Box.{trim}
+use Rattle.machine_spec.specs.Box.{Near, trim}
 use Rattle.sheet_spec.specs.Slots.{N}
 use Rattle.machine_spec.specs.Machine.{Machine, machine, varsOf}
 use Rattle.machine_spec.specs.Rate.{rates}
 use Rattle.sheet_spec.proofs.Box.{differ}
-use Rattle.machine_spec.proofs.InPlace.{trim-as}
-use Rattle.boxes_arithmetic.specs.Limits.{SidesWithin}
-use Rattle.boxes_rates.proofs.Bounds.{rates-bound}
+use Rattle.machine_spec.proofs.InPlace.{trim-as, trimmed-by}
+use Rattle.machine_spec.proofs.Facts as facts
+use Rattle.machine_spec.proofs.Ranges.{near-as, near-by, rates-near}
 use Rattle.boxes_step.proofs.Turn.{settles-first, settles-is, grown-is, grown-trimmed}
 use Rattle.boxes_step.proofs.round.Statement.{statement}
 use Rattle.boxes_step.proofs.round.Tie as tie
@@ -52,11 +52,11 @@ module _ (at-rates : tie.After-rates) where
   same-work : F ≡ E
   same-work = at-rates .rates .ensures .1
 
-  slow : SidesWithin maxCap R
-  slow = rw rated (rates-bound (M .law) (at-start .pre .plant .sheet) S k E)
+  slow : Near (varsOf M) maxCap R
+  slow = near-as rated (rates-near (at-start .pre .plant .sheet) (M .law) S k E)
 
   room : varsOf M ≤ N
-  room = omega (arith, at-start .pre .plant .sheet .vars-high)
+  room = facts.room (at-start .pre .plant .sheet)
 
   -- the plant's number of variables
   vars-are : at-start .args .plant .n ≡ varsOf M
@@ -74,7 +74,8 @@ grow-requires : tie.Need-grow-requires
 grow-requires c κs =
     let at-rates = c .before .before .before in
     let asked = at-start at-rates .pre in
-    (record { room = omega (arith, vars-are at-rates, room at-rates); ticks = omega (arith, asked .some, asked .most); start = asked .start; rates = slow at-rates }, subst (λ (n : ℕ). trim n (F at-rates) ≡ F at-rates) (sym (vars-are at-rates)) (trimmed at-rates))
+    let n = sym (vars-are at-rates) in
+    (record { room = omega (arith, vars-are at-rates, room at-rates); ticks = omega (arith, asked .some, asked .most); start = near-by n (asked .start); rates = near-by n (slow at-rates) }, trimmed-by n (trimmed at-rates))
 
 -- one tick
 returns : tie.Need-returns

@@ -1,6 +1,6 @@
 -- `rounds` does what eight rounds of the definition do. Invariant: what is left to do of the definition's rounds, from the working
 -- box and the count that the loop has. Measure: the rounds left. Assumes nothing.
-use mathlib.Core.Path.{_≡_, sym, _∙_, subst}
+use mathlib.Core.Path.{_≡_, sym, _∙_}
 use mathlib.Core.Bool.{true}
 use mathlib.Core.List.{List}
 use Prim.Native.Nat.{ℕ, _≤_, _+_, _*_}
@@ -8,15 +8,15 @@ use native.Mathlib.Omega.{arith}
 use lib.IntN.{ℤ}
 use Rattle.sheet_spec.specs.Limits.{maxCap}
 use Rattle.sheet_spec.specs.Slots.{vars}
-use Rattle.machine_spec.specs.Box.{trim}
+use Rattle.machine_spec.specs.Box.{Near, trim}
 use Rattle.machine_spec.specs.Machine.{Machine, machine, varsOf}
 use Rattle.sheet_spec.proofs.Box.{differ}
 use Rattle.machine_spec.proofs.InPlace.{trim-as}
-use Rattle.boxes_arithmetic.specs.Limits.{SidesWithin}
-use Rattle.boxes_rates.proofs.Bounds.{wider, rates-bound}
+use Rattle.machine_spec.proofs.Facts.{room}
+use Rattle.machine_spec.proofs.Ranges.{near-less, near-as, rates-near}
 use Rattle.boxes_step.specs.declared.Budget.{Budget}
 use Rattle.boxes_step.specs.Limits.{stepLimit}
-use Rattle.boxes_step.proofs.Bounds.{grown-bound}
+use Rattle.boxes_step.proofs.Bounds.{grown-near}
 use Rattle.boxes_step.proofs.Turn.{settles-first, Rounding, rounding-starts, rounding-ends, rounding-exhausted, rounding-settles, rounding-on}
 use Rattle.boxes_step.proofs.rounds.Statement.{statement}
 use Rattle.boxes_step.proofs.rounds.Tie as tie
@@ -25,8 +25,8 @@ use Rattle.boxes_step.proofs.rounds.Tie as tie
 record Invariant (b : Budget) (m : Machine) (S : List ℤ) (k c : ℕ) (E R : List ℤ) (d left : ℕ) : Type 0 where
   counts : d + left ≤ c + 8
   trimmed : trim (varsOf m) E ≡ E
-  rates : SidesWithin maxCap R
-  near : SidesWithin (stepLimit + k * maxCap) E
+  rates : Near (varsOf m) maxCap R
+  near : Near (varsOf m) (stepLimit + k * maxCap) E
   rounding : Rounding (b .limited) (b .allowance) m S k c left E d
   first : k ≡ 1 → E ≡ S
 
@@ -45,7 +45,7 @@ loop-holds at-start =
       counts = omega arith;
       trimmed = trim-as (vars (a .sheet .now)) (asked .work) (asked .trimmed);
       rates = asked .rates;
-      near = subst (SidesWithin (stepLimit + a .ticks * maxCap)) (sym (asked .work)) (wider (omega arith) (asked .start));
+      near = near-as (asked .work) (near-less (omega arith) (asked .start));
       rounding = rounding-starts (a .budget .limited) (a .budget .allowance) _ (a .ticks) (a .count) (asked .work);
       first = λ one. asked .work;
     }
@@ -65,8 +65,8 @@ round-requires c κs =
       plant = asked .plant;
       some = asked .some;
       most = asked .most;
-      start = wider (omega arith) (asked .start);
-      work = wider (omega (arith, asked .most)) (inv .near);
+      start = near-less (omega arith) (asked .start);
+      work = near-less (omega (arith, asked .most)) (inv .near);
       trimmed = inv .trimmed;
       first = inv .first;
     }
@@ -88,11 +88,11 @@ module _ (at-round : tie.After-round Inv-loop μ-loop) where
   abbrev k : ℕ
   k = at-start .args .ticks
 
-  slow : SidesWithin maxCap (at-round .round .last .1 .1 .1 .1 .1 .0)
-  slow = rw (at-round .round .ensures .rated) (rates-bound (at-start .args .plant .law) (at-start .pre .plant .sheet) S k (at-loop .loop .work))
+  slow : Near (vars (at-start .args .sheet .now)) maxCap (at-round .round .last .1 .1 .1 .1 .1 .0)
+  slow = near-as (at-round .round .ensures .rated) (rates-near (at-start .pre .plant .sheet) (at-start .args .plant .law) S k (at-loop .loop .work))
 
   one-tick : k ≡ 1 → at-round .round .result ≡ true
-  one-tick one = at-round .round .ensures .settled ∙ settles-first _ S k (omega (arith, at-start .pre .plant .sheet .vars-high)) one (at-loop .loop .inv .first one)
+  one-tick one = at-round .round .ensures .settled ∙ settles-first _ S k (room (at-start .pre .plant .sheet)) one (at-loop .loop .inv .first one)
 
 -- the round settled
 returns-2 : tie.Need-returns-2 Inv-loop μ-loop
@@ -118,7 +118,7 @@ loop-again c =
       counts = omega (arith, inv .counts);
       trimmed = done .trimmed;
       rates = slow at-round;
-      near = rw grew (grown-bound _ (asked .plant .sheet) (S at-round) (k at-round) stepLimit (asked .start) (at-loop at-round .loop .work) (inv .near));
+      near = near-as grew (grown-near _ (asked .plant .sheet) (k at-round) (asked .start) (inv .near));
       rounding = rounding-on (inv .rounding) (omega arith) _ (due .before .is-exhausted .ensures) (due .if1 .left) _ (done .settled) _ grew (c .if2 .left);
       first = λ one. absurd (differ (one-tick at-round one) (c .if2 .left));
     }

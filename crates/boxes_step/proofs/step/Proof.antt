@@ -8,9 +8,9 @@ use native.Mathlib.Omega.{arith}
 use lib.IntN.{ℤ}
 use borrow.Author.Needs.{needs}
 use denote.Enum.Declared.{tagOf}
-use Rattle.machine_spec.specs.Machine.{Machine, machine}
+use Rattle.machine_spec.specs.Box.{Near}
+use Rattle.machine_spec.specs.Machine.{Machine, machine, varsOf}
 use Rattle.sheet_spec.specs.Limits.{maxCap}
-use Rattle.boxes_arithmetic.specs.Limits.{SidesWithin}
 use Rattle.boxes_step.specs.declared.Budget.{Budget}
 use Rattle.boxes_step.proofs.Bounds.{halving-count}
 use Rattle.boxes_step.proofs.Turn.{Halving, halving-starts, halving-ends, halving-finest, halving-on}
@@ -23,7 +23,7 @@ record Invariant (b : Budget) (m : Machine) (S : List ℤ) (w c : ℕ) (E R : Li
   shorter : k ≤ w
   counts : d + 8 * k ≤ c + 8 * w
   work : E ≡ S
-  rates : SidesWithin maxCap R
+  rates : Near (varsOf m) maxCap R
   halving : Halving (b .limited) (b .allowance) m S w c k d
 
 abbrev Inv-loop : tie.InvT-loop

@@ -6,7 +6,7 @@ use native.Mathlib.Omega.{arith}
 use lib.IntN.{ℤ}
 use Rattle.sheet_spec.specs.Slots.{vars, recoveryBox}
 use Rattle.machine_spec.specs.Box.{trim}
-use Rattle.boxes_arithmetic.specs.Limits.{SidesWithin}
+use Rattle.machine_spec.proofs.Ranges.{near-as}
 use Rattle.machine_spec.proofs.InPlace.{trim-as}
 use Rattle.decision_spec.specs.Decision.{ticksOf, recoveryOf}
 use Rattle.decision_answers.specs.Decision.{replyOf}
@@ -54,7 +54,7 @@ attempts-requires c κs =
     let ρ-is = c .before .count2 .ensures in
     record {
       sheet = wf;
-      start = subst (SidesWithin startLimit) (sym (start at-box)) (recovery-near wf);
+      start = near-as (start at-box) (recovery-near wf);
       trimmed = trim-as _ (start at-box ∙ trimmed) trimmed;
       phases = omega arith;
       among = omega arith;

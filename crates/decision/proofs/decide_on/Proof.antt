@@ -10,7 +10,7 @@ use mir.Syntax.{w32}
 use mir.Val.{SFits}
 use borrow.Author.Needs.{needs}
 use Rattle.sheet_spec.specs.Slots.{N, vars}
-use Rattle.boxes_arithmetic.specs.Limits.{SidesWithin}
+use Rattle.machine_spec.proofs.Ranges.{near-as}
 use Rattle.machine_spec.proofs.InPlace.{trim-as}
 use Rattle.decision_spec.specs.Question.{questionLength, measured, questionRefusal}
 use Rattle.decision_spec.specs.Decision.{ticksOf}
@@ -95,7 +95,7 @@ attempts-requires c κs =
     let width-is = c .larger .ensures in
     record {
       sheet = wf;
-      start = subst (SidesWithin startLimit) (sym (start at-box)) (measured-near (v n) (g n) (passed (accepted at-box)) (room n));
+      start = near-as (start at-box) (measured-near (v n) (g n) (passed (accepted at-box)));
       trimmed = trim-as (vars (v n)) (start at-box) (measured-trimmed (vars (v n)) (g n) (room n));
       phases = omega arith;
       among = omega arith;

@@ -10,13 +10,15 @@ use Rattle.sheet_spec.specs.Slots.{vars}
 use Rattle.sheet_spec.specs.Sheet.{values}
 use Rattle.sheet_spec.specs.Valid.{Valid}
 use Rattle.sheet_spec.proofs.Valid.{valid, zeros-are}
-use Rattle.boxes_arithmetic.specs.Limits.{SidesWithin}
+use Rattle.machine_spec.specs.Box.{Near}
 use Rattle.machine_spec.specs.declared.Law.{Law}
-use Rattle.boxes_spec.specs.Reach.{Answer, reachOf}
+use Rattle.boxes_spec.specs.Reach.{maxReached, Answer, reachOf}
 use Rattle.boxes.specs.ReachAnswer.{answerOf}
 use Rattle.decision_spec.specs.ReachCall.{startBox, lawOf, reachedRefusal, reachedCall, reachedOut, reachAnswer, reachCall, reachOut}
+use Rattle.machine_spec.proofs.Ranges.{near-by}
+use Rattle.boxes_spec.proofs.Ranges.{answer-near}
 use Rattle.decision_spec.proofs.Calls.{or-refused, or-unchanged, room-stop}
-use Rattle.guard_reach.proofs.ReachAnswer.{reach-far, file-refused, file-reached}
+use Rattle.guard_reach.proofs.ReachAnswer.{file-refused, file-reached}
 use Rattle.guard_reach.proofs.reach_call.Statement.{statement}
 use Rattle.guard_reach.proofs.reach_call.Tie as tie
 
@@ -83,9 +85,12 @@ reach-of-requires c κs = accepted (c .before .before .before .before .before .b
 give-reached-requires : tie.Need-give-reached-requires
 give-reached-requires c κs =
     let d = c .before in
-    let wf = accepted (e d) in (
+    let wf = accepted (e d) in
+    let n = k d .count .result in
+    let same = sym (k d .count .ensures) in (
       omega (arith, k d .count .ensures, wf .vars-high),
-      subst (λ (a : Answer). SidesWithin 2000000 (a .end) × SidesWithin 2000000 (a .swept)) (sym (d .reach-of .ensures)) (reach-far wf _ _ _ _),
+      let near = answer-near wf _ _ _ _ in
+          subst (λ (a : Answer). Near n maxReached (a .end) × Near n maxReached (a .swept)) (sym (d .reach-of .ensures)) (near-by same (near .0), near-by same (near .1)),
     )
 
 returns-2 : tie.Need-returns-2

@@ -8,16 +8,16 @@ use lib.IntN.{ℤ}
 use borrow.Author.Needs.{needs}
 use Rattle.sheet_spec.specs.Limits.{maxCap}
 use Rattle.sheet_spec.specs.Slots.{N, vars}
-use Rattle.machine_spec.specs.Box.{trim, hull}
-use Rattle.machine_spec.proofs.InPlace.{trim-as-hull}
-use Rattle.boxes_arithmetic.specs.Limits.{SidesWithin}
-use Rattle.boxes_rates.proofs.Bounds.{wider}
+use Rattle.machine_spec.specs.Box.{Near, trim, hull}
+use Rattle.machine_spec.proofs.InPlace.{trim-as-hull, trimmed-by}
+use Rattle.machine_spec.proofs.Facts as facts
+use Rattle.machine_spec.proofs.Ranges.{near-less}
 use Rattle.boxes.specs.declared.steps.ReachPlan.{ReachPlan}
 use Rattle.boxes.specs.Limits.{reachLimit}
 use Rattle.boxes.specs.ReachPlan.{machineOn, clearOn}
 use Rattle.boxes.specs.ReachResult.{isEnded, ticksOf, Names, Arrived}
 use Rattle.boxes.proofs.Bounds.{StepBounds, tested-bounds}
-use Rattle.boxes.proofs.Turn.{trimmed-by, Reaching, reaching-starts, reaching-ends, reaching-stops, reaching-on, not-ended, ended-not}
+use Rattle.boxes.proofs.Turn.{Reaching, reaching-starts, reaching-ends, reaching-stops, reaching-on, not-ended, ended-not}
 use Rattle.boxes.proofs.steps.reach.Statement.{statement}
 use Rattle.boxes.proofs.steps.reach.Tie as tie
 
@@ -29,7 +29,7 @@ record Invariant (p : ReachPlan) (v : List ℤ) (T c : ℕ) (A E W F P : List �
   trimmed : trim (vars v) E ≡ E
   swept : trim (vars v) W ≡ W
   path : trim (vars v) P ≡ P
-  near : SidesWithin (reachLimit + (T - left) * maxCap) E
+  near : Near (vars v) (reachLimit + (T - left) * maxCap) E
   reaching : Reaching (p .budget .limited) (p .budget .allowance) (machineOn p v) (clearOn p v) (p .width) A T c E W left d
 
 abbrev Inv-loop : tie.InvT-loop
@@ -55,7 +55,7 @@ module _ (at-step : tie.After-tested-step Inv-loop μ-loop) where
   vars-are = at-start .pre .plan .plant .n
 
   room : n ≤ N
-  room = omega (arith, at-start .pre .plan .plant .sheet .vars-high)
+  room = facts.room (at-start .pre .plan .plant .sheet)
 
   -- the step's end box and swept box
   abbrev E : List ℤ
@@ -83,7 +83,7 @@ module _ (at-join : tie.After-join Inv-loop μ-loop) where
   unfolding isEnded
   arrived = at-step .tested-step .ensures .arrived (ap isEnded (ended .r .given .1))
 
-  bounds : StepBounds (reachLimit + (at-start at-step .args .ticks - at-loop at-step .loop .left) * maxCap) (at-loop at-step .loop .left) t (E at-step) × (d ≤ at-loop at-step .loop .counted + 73)
+  bounds : StepBounds (n at-step) (reachLimit + (at-start at-step .args .ticks - at-loop at-step .loop .left) * maxCap) (at-loop at-step .loop .left) t (E at-step) × (d ≤ at-loop at-step .loop .counted + 73)
   bounds =
       let plan = at-start at-step .pre .plan in
       let inv = at-loop at-step .loop .inv in
@@ -101,7 +101,7 @@ loop-holds c =
       trimmed = asked .trimmed;
       swept = asked .trimmed;
       path = asked .trimmed;
-      near = wider (omega arith) (asked .start);
+      near = near-less (omega arith) (asked .start);
       reaching = reaching-starts (a .plan .budget .limited) (a .plan .budget .allowance) _ _ (a .plan .width) _ (a .ticks) (a .count);
     }
 
@@ -114,7 +114,7 @@ tested-step-requires c κs =
       plan = asked .plan;
       due = omega arith;
       counts = omega (arith, inv .counts, asked .counts);
-      start = wider (omega (arith, asked .ticks)) (inv .near);
+      start = near-less (omega (arith, asked .ticks)) (inv .near);
       trimmed = inv .trimmed;
       work = inv .work;
       swept = inv .path;
@@ -152,7 +152,7 @@ loop-again c =
       trimmed = s .tested-step .ensures .trimmed;
       swept = trim-as-hull (n s) (at .swept) (P s) (room s) joined;
       path = trim-as-hull (n s) (at .end) (E s) (room s) (arrived c .swept);
-      near = wider (omega (arith, b .0 .some, b .0 .most, inv .fewer)) (b .0 .sides);
+      near = near-less (omega (arith, b .0 .some, b .0 .most, inv .fewer)) (b .0 .sides);
       reaching =
           reaching-on (inv .reaching) (s .tested-step .result) _ (P s) (omega arith) (s .tested-step .ensures .same) (t c) (d c) (ended c .r .given .1) (b .0 .some) (b .0 .most) (arrived c .swept) _ joined;
     }

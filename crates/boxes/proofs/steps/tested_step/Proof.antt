@@ -10,15 +10,16 @@ use Rattle.sheet_spec.specs.Slots.{N, vars}
 use Rattle.sheet_spec.specs.Box.{lowestMet}
 use Rattle.machine_spec.specs.Box.{trim}
 use Rattle.sheet_spec.proofs.Box.{differ}
-use Rattle.machine_spec.proofs.InPlace.{trim-moved, trim-as}
-use Rattle.boxes_rates.proofs.Bounds.{wider}
+use Rattle.machine_spec.proofs.InPlace.{trim-moved, trim-as, trimmed-by}
+use Rattle.machine_spec.proofs.Facts as facts
+use Rattle.machine_spec.proofs.Ranges.{near-less, near-by, zero-near}
 use Rattle.boxes_shape.specs.Limits.{ArriveDone}
 use Rattle.boxes_spec.specs.Step.{step}
 use Rattle.boxes.specs.declared.steps.ReachPlan.{ReachPlan}
 use Rattle.boxes.specs.ReachPlan.{machineOn, clearOn, lowestOn}
 use Rattle.boxes.specs.ReachResult.{isEnded, Names}
-use Rattle.boxes.proofs.Bounds.{step-ticks, zero-bound}
-use Rattle.boxes.proofs.Turn.{trimmed-by, Stepping, tested-unsettled, tested-exhausted, tested-clear, tested-unsafe, is-clear, is-not-clear}
+use Rattle.boxes.proofs.Bounds.{step-ticks}
+use Rattle.boxes.proofs.Turn.{Stepping, tested-unsettled, tested-exhausted, tested-clear, tested-unsafe, is-clear, is-not-clear}
 use Rattle.boxes.proofs.steps.tested_step.Statement.{statement}
 use Rattle.boxes.proofs.steps.tested_step.Tie as tie
 
@@ -38,7 +39,7 @@ module _ (at-step : tie.After-step) where
   vars-are = at-start .pre .plan .plant .n
 
   room : vars v ≤ N
-  room = omega (arith, at-start .pre .plan .plant .sheet .vars-high)
+  room = facts.room (at-start .pre .plan .plant .sheet)
 
   -- the start box
   abbrev S : List ℤ
@@ -103,7 +104,7 @@ step-requires c κs =
       start = asked .start;
       trimmed = asked .trimmed;
       work = asked .work;
-      rates = zero-bound;
+      rates = zero-near _ _;
     }
 
 arrive-requires : tie.Need-arrive-requires
@@ -113,9 +114,10 @@ arrive-requires c κs =
     let asked = at-start at-step .pre in
     let done = at-step .step .ensures in
     let plan = asked .plan in
-    let most = step-ticks (stepping at-step) (room at-step) (plan .some) (plan .most) (asked .due) (settled .r .given .0 .0) (settled .r .given .0 .1 .0) (settled .r .given .1) in (
-      record { room = omega (arith, vars-are at-step, room at-step); ticks = omega (arith, most, plan .most); start = wider (omega arith) (asked .start); rates = done .rates },
-      let n = sym (vars-are at-step) in record { work = trimmed-by n (done .trimmed); at = trimmed-by n (asked .trimmed); path = trimmed-by n (asked .swept) },
+    let most = step-ticks (stepping at-step) (room at-step) (plan .some) (plan .most) (asked .due) (settled .r .given .0 .0) (settled .r .given .0 .1 .0) (settled .r .given .1) in
+    let n = sym (vars-are at-step) in (
+      record { room = omega (arith, vars-are at-step, room at-step); ticks = omega (arith, most, plan .most); start = near-by n (near-less (omega arith) (asked .start)); rates = near-by n (done .rates) },
+      record { work = trimmed-by n (done .trimmed); at = trimmed-by n (asked .trimmed); path = trimmed-by n (asked .swept) },
     )
 
 -- the swept box is not clear

@@ -8,22 +8,16 @@ use mir.Syntax.{w64}
 use mir.Val.{SFits}
 use borrow.Author.Needs.{needs}
 use Rattle.integers.proofs.Z.{told}
-use Rattle.sheet_spec.specs.Slots.{bands, bandVar}
-use Rattle.sheet_spec.specs.Box.{lo, hi}
-use Rattle.machine_spec.specs.Machine.{bandMeets}
-use Rattle.machine_spec.specs.Rate.{bandRate}
+use Rattle.machine_spec.specs.Machine.{machine}
+use Rattle.machine_spec.specs.Rate.{bandMet, bandRate}
 use Rattle.machine_spec.proofs.Sound.{outer-neutral}
-use Rattle.boxes_rates.proofs.Rates.{meets-described}
+use Rattle.boxes_rates.proofs.Rates.{met-described}
 use Rattle.boxes_rates.proofs.rate.band_rate.Statement.{statement}
 use Rattle.boxes_rates.proofs.rate.band_rate.Tie as tie
 
 -- the band is met, by the definition
 abbrev met : tie.Start → Bool
-met at-start =
-    let a = at-start .args in
-    let B = a .over .now in
-    let v = a .sheet .now in
-    bandMeets v (bands v) (a .band) (lo B (bandVar v)) (hi B (bandVar v))
+met at-start = let a = at-start .args in bandMet (machine (a .sheet .now) (a .plant .law)) (a .band) (a .over .now)
 
 module _ (at-test : tie.After-band-meets) where
   abbrev at-start : tie.Start
@@ -34,7 +28,7 @@ module _ (at-test : tie.After-band-meets) where
       let at-upper = at-test .before in
       at-test .band-meets .ensures
       ∙ simp (told, at-upper .band-meets-arg2 .given, at-upper .before .band-meets-arg .given)
-      (meets-described (at-start .pre .rate .plant) (at-start .args .band) (at-start .args .over .now))
+      (met-described (at-start .pre .rate .plant) (at-start .args .band) (at-start .args .over .now))
 
 band-meets-requires : tie.Need-band-meets-requires
 band-meets-requires at-upper κs =

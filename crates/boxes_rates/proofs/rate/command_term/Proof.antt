@@ -1,6 +1,8 @@
--- `command_term` gives the outer product of the row's b and the law's commands: under one command there is only one product.
+-- `command_term` gives the outer product of the row's b and the commands that the law offers: under one command there is only one product.
 -- Assumes nothing.
 use mathlib.Core.Path.{_≡_, sym, ap, ap₂, _∙_, subst}
+use mathlib.Core.Bool.{Bool, true, false}
+use mathlib.Core.List.{List}
 use lib.IntN.{ℤ, _*ℤ_}
 use mir.Facts.{toZ-ofZ}
 use mir.Syntax.{w32, w64}
@@ -9,11 +11,11 @@ use borrow.Author.Needs.{needs}
 use Rattle.integers.specs.Bound.{Bound}
 use Rattle.integers.proofs.Z.{told, fits64}
 use Rattle.sheet_spec.specs.Slots.{rowAt}
-use Rattle.machine_spec.specs.Machine.{Machine, machine, least, greatest}
-use Rattle.machine_spec.specs.Rate.{outer}
+use Rattle.machine_spec.specs.Machine.{Machine, machine}
+use Rattle.machine_spec.specs.Rate.{outer, commandOver}
 use Rattle.machine_spec.proofs.Face.{outer-one}
 use Rattle.boxes_rates.specs.Limits.{termLimit}
-use Rattle.boxes_rates.proofs.Rates.{least-plain, greatest-plain, least-one, greatest-one}
+use Rattle.boxes_rates.proofs.Rates.{over-plain, over-one}
 use Rattle.boxes_rates.proofs.rate.command_term.Statement.{statement}
 use Rattle.boxes_rates.proofs.rate.command_term.Tie as tie
 
@@ -24,12 +26,9 @@ module _ (at-start : tie.Start) where
   abbrev b : ℤ
   b = rowAt (at-start .args .sheet .now) (at-start .args .row) .b
 
-  -- b times the law's least and greatest command
-  abbrev least-term : ℤ
-  least-term = b *ℤ least M (at-start .args .band)
-
-  abbrev greatest-term : ℤ
-  greatest-term = b *ℤ greatest M (at-start .args .band)
+  -- b times the bound of the least or of the greatest command over a box
+  abbrev bound-term : Bool → List ℤ → ℤ
+  bound-term up B = b *ℤ commandOver up M (at-start .args .band) B
 
 -- the plain law: b times the band's least command
 module _ (at-least : tie.After-product) where
@@ -42,24 +41,24 @@ module _ (at-least : tie.After-product) where
   abbrev start : tie.Start
   start = at-coefficient .before
 
-  least-term-is : at-least .product .result ≡ least-term start
-  least-term-is =
+  least-term-is : (B : List ℤ) → at-least .product .result ≡ bound-term start false B
+  least-term-is B =
       let a = start .args in
       at-least .product .ensures .0
       ∙ simp (told, at-coefficient .coefficient .given, at-least .before .product-arg .given)
-      (ap (λ (z : ℤ). b start *ℤ z) (sym (least-plain (a .sheet .now) (a .band) (plain .enum-told .given .1))))
+      (ap (λ (z : ℤ). b start *ℤ z) (sym (over-plain false (a .sheet .now) (a .band) B (plain .enum-told .given .1))))
 
 -- and its greatest
 module _ (at-greatest : tie.After-product2) where
   abbrev at-least : tie.After-product
   at-least = at-greatest .before .before
 
-  greatest-term-is : at-greatest .product2 .result ≡ greatest-term (start at-least)
-  greatest-term-is =
+  greatest-term-is : (B : List ℤ) → at-greatest .product2 .result ≡ bound-term (start at-least) true B
+  greatest-term-is B =
       let a = start at-least .args in
       at-greatest .product2 .ensures .0
       ∙ simp (told, at-coefficient at-least .coefficient .given, at-greatest .before .product-arg2 .given)
-      (ap (λ (z : ℤ). b (start at-least) *ℤ z) (sym (greatest-plain (a .sheet .now) (a .band) (plain at-least .enum-told .given .1))))
+      (ap (λ (z : ℤ). b (start at-least) *ℤ z) (sym (over-plain true (a .sheet .now) (a .band) B (plain at-least .enum-told .given .1))))
 
 -- the plain law
 returns : tie.Need-returns
@@ -73,7 +72,7 @@ returns at-outer =
     at-outer .outer .ensures ∙ simp (toZ-ofZ, fits64 least-near tt, fits64 greatest-near tt) in
     rw (toZ-ofZ outer-fits)
     (record {
-      same = outer-is ∙ ap₂ (outer up) (least-term-is (at-least at-greatest)) (greatest-term-is at-greatest);
+      same = λ B. outer-is ∙ ap₂ (outer up) (least-term-is (at-least at-greatest) B) (greatest-term-is at-greatest B);
       near = subst (λ (z : ℤ). Bound z termLimit) (sym outer-is) (outer-one (λ z. Bound z termLimit) up least-near greatest-near);
     })
 
@@ -86,17 +85,16 @@ returns-2 at-product =
     let at-start = at-coefficient .before in
     let a = at-start .args in
     let u = one .law .given .0 .0 in
-    let least-is = least-one (a .sheet .now) (a .band) (one .law .given .1) in
-    let greatest-is = greatest-one (a .sheet .now) (a .band) (one .law .given .1) in
+    let bound-is : (up : Bool) (B : List ℤ) → commandOver up (M at-start) (a .band) B ≡ u = λ up B. over-one up (a .sheet .now) (a .band) B (one .law .given .1) in
     let near = at-product .product3 .ensures .1 in
     let command-fits : SFits w32 u = search needs in
     let product-is : at-product .product3 .result ≡ b at-start *ℤ u =
     at-product .product3 .ensures .0 ∙ simp (told, at-coefficient .coefficient .given, toZ-ofZ, command-fits) in
     rw (toZ-ofZ (fits64 near tt))
     (record {
-      same =
+      same = λ B.
           product-is
-          ∙ sym (outer-one (λ z. z ≡ b at-start *ℤ u) (a .up) (ap (λ (z : ℤ). b at-start *ℤ z) least-is) (ap (λ (z : ℤ). b at-start *ℤ z) greatest-is));
+          ∙ sym (outer-one (λ z. z ≡ b at-start *ℤ u) (a .up) (ap (λ (z : ℤ). b at-start *ℤ z) (bound-is false B)) (ap (λ (z : ℤ). b at-start *ℤ z) (bound-is true B)));
       near = near;
     })
 

@@ -11,14 +11,16 @@ use mir.Syntax.{w64}
 use mir.Val.{SFits, toZ, ofZ}
 use borrow.Author.Needs.{needs}
 use Rattle.integers.specs.Bound.{Bound}
-use Rattle.integers.proofs.Z.{ints, told, up32, bound-lit, bound-less, bound-mul, fits64}
+use Rattle.integers.proofs.Z.{told, up32, bound-lit, bound-less, bound-mul, fits64}
 use Rattle.sheet_spec.specs.Slots.{_!_, N, boxSize, vars, cap}
 use Rattle.sheet_spec.specs.Limits.{maxTicks}
 use Rattle.machine_spec.specs.Rate.{neighborhood, faceRate}
 use Rattle.boxes_rates.specs.Limits.{reachLimit, RatesAsked}
 use Rattle.boxes_arithmetic.proofs.Bounds.{wide, times-low}
 use Rattle.boxes_rates.proofs.Cut.{cut-below, cut-back}
-use Rattle.boxes_rates.proofs.Bounds.{cap-bound, neighborhood-bound}
+use Rattle.machine_spec.proofs.Facts.{cap-low, cap-near}
+use Rattle.machine_spec.proofs.Facts as facts
+use Rattle.machine_spec.proofs.Ranges.{neighborhood-near}
 use Rattle.boxes_rates.proofs.rate.face_rate.Statement.{statement}
 use Rattle.boxes_rates.proofs.rate.face_rate.Tie as tie
 
@@ -46,13 +48,13 @@ module _ (at-start : tie.Start) where
   reach = pos (at-start .args .ticks + 1) *ℤ cap v (at-start .args .i)
 
   reach-bound : Bound reach reachLimit
-  reach-bound = bound-mul {B = maxTicks + 1} (bound-less (bound-lit (pos (at-start .args .ticks + 1))) (omega (arith, asked .ticks))) (cap-bound (asked .plant .sheet) var)
+  reach-bound = bound-mul {B = maxTicks + 1} (bound-less (bound-lit (pos (at-start .args .ticks + 1))) (omega (arith, asked .ticks))) (cap-near (asked .plant .sheet) (at-start .args .i) var)
 
   reach-fits : SFits w64 reach
   reach-fits = fits64 reach-bound tt
 
   reach-low : pos 0 ≤ℤ reach
-  reach-low = times-low (at-start .args .ticks + 1) (cap v (at-start .args .i)) (omega (ints, asked .plant .sheet .caps (at-start .args .i) var .low))
+  reach-low = times-low (at-start .args .ticks + 1) (cap v (at-start .args .i)) (cap-low (asked .plant .sheet) (at-start .args .i) var)
 
   caps-are : toZ w64 (at-start .args .ticks + 1) ≡ pos (at-start .args .ticks + 1)
   caps-are = toZ-pos w64 (omega (arith, asked .ticks))
@@ -76,7 +78,7 @@ narrow-requires : tie.Need-narrow-requires
 narrow-requires at-old κs =
     let at-reach = at-old .before .before .before in
     let at-start = at-reach .before in
-    record { room = room at-start; near = simp (wide, at-reach .reach .given, reach-is at-start) (reach-bound at-start); start = asked at-start .start }
+    record { room = room at-start; near = simp (wide, at-reach .reach .given, reach-is at-start) (reach-bound at-start); start = λ up. asked at-start .start .at up (at-start .args .i) (var at-start) }
 
 -- the narrowed box B, and that it is the working box again with the saved side
 module _ (at-narrow : tie.After-narrow) where
@@ -107,7 +109,7 @@ rate-requires after-narrow κs =
     let at-start = start at-narrow in
     record {
       plant = asked at-start .plant;
-      sides = rw (narrowed at-narrow) (neighborhood-bound (at-start .args .up) (S at-start) _ (E at-start) (at-start .args .i) (reach-low at-start) (asked at-start .start) (asked at-start .work));
+      sides = rw (narrowed at-narrow) (neighborhood-near (facts.room (asked at-start .plant .sheet)) (reach-low at-start) (asked at-start .start) (asked at-start .work) (at-start .args .up) (at-start .args .i) (var at-start));
       var = var at-start;
     }
 

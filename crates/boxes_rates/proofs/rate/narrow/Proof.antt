@@ -1,4 +1,5 @@
 -- `narrow` cuts the working box off at its reach from the start's face. Assumes nothing.
+use mathlib.Core.Bool.{true, false}
 use lib.IntN.{_+ℤ_, _-ℤ_}
 use mir.Facts.{toZ-ofZ}
 use mir.Syntax.{w64}
@@ -13,10 +14,10 @@ use Rattle.boxes_rates.proofs.rate.narrow.Tie as tie
 -- where the box is cut off
 module _ (at-start : tie.Start) where
   below-upper : SFits w64 (hi (at-start .args .start .now) (at-start .args .i) -ℤ at-start .args .reach)
-  below-upper = fits64 (bound-sub (at-start .pre .start .at _) (at-start .pre .near)) tt
+  below-upper = fits64 (bound-sub (at-start .pre .start true) (at-start .pre .near)) tt
 
   above-lower : SFits w64 (lo (at-start .args .start .now) (at-start .args .i) +ℤ at-start .args .reach)
-  above-lower = fits64 (bound-sum (at-start .pre .start .at _) (at-start .pre .near)) tt
+  above-lower = fits64 (bound-sum (at-start .pre .start false) (at-start .pre .near)) tt
 
 sub-max : tie.Need-sub-max
 sub-max at-side =

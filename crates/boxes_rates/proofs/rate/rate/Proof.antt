@@ -7,13 +7,13 @@ use mir.Facts.{toZ-ofZ}
 use mir.Syntax.{w64}
 use mir.Val.{SFits, toZ}
 use borrow.Author.Needs.{needs}
-use Rattle.integers.proofs.Z.{ints, up32}
+use Rattle.integers.proofs.Z.{up32}
 use Rattle.sheet_spec.specs.Slots.{bands, cap}
 use Rattle.machine_spec.specs.Machine.{machine}
 use Rattle.machine_spec.specs.Rate.{outermost, neutral, bandRate, rate}
 use Rattle.boxes_arithmetic.proofs.Bounds.{wide}
 use Rattle.boxes_rates.proofs.Rates.{outermost-more}
-use Rattle.boxes_rates.proofs.Bounds.{cap-bound}
+use Rattle.machine_spec.proofs.Facts.{cap-low, cap-near}
 use Rattle.machine_spec.proofs.Sound.{outermost-within}
 use Rattle.boxes_rates.proofs.rate.rate.Statement.{statement}
 use Rattle.boxes_rates.proofs.rate.rate.Tie as tie
@@ -29,7 +29,7 @@ abbrev μ-loop : tie.MeasureT-loop
 neutral-requires : tie.Need-neutral-requires Inv-loop μ-loop
 neutral-requires at-cap κs =
     let asked = at-cap .before .pre in
-    simp (wide, at-cap .neutral-arg .given) (cap-bound (asked .plant .sheet) (asked .var))
+    simp (wide, at-cap .neutral-arg .given) (cap-near (asked .plant .sheet) (at-cap .before .args .i) (asked .var))
 
 loop-holds : tie.Need-loop-holds Inv-loop μ-loop
 unfolding outermost
@@ -43,7 +43,7 @@ band-rate-requires in-turn κs =
     let at-start = at-loop .before .before .before in
     let asked = at-start .pre in
     let a = at-start .args in
-    let within = outermost-within (a .up) (machine (a .sheet .now) (a .plant .law)) (a .over .now) (a .i) (at-loop .loop .band) (omega (ints, asked .plant .sheet .caps (a .i) (asked .var) .low)) in
+    let within = outermost-within (a .up) (machine (a .sheet .now) (a .plant .law)) (a .over .now) (a .i) (at-loop .loop .band) (cap-low (asked .plant .sheet) (a .i) (asked .var)) in
     record { rate = asked; among = omega (arith, asked .plant .bands); within = rw (at-loop .loop .inv .1) within }
 
 loop-again : tie.Need-loop-again Inv-loop μ-loop

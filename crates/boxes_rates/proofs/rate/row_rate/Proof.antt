@@ -1,6 +1,7 @@
 -- `row_rate` gives the outer one of the outermost so far and of a band's share in a rate where the band is met: its row bounded,
 -- then the allowed change. Assumes nothing.
-use mathlib.Core.Path.{_≡_, ap, _∙_}
+use mathlib.Core.Path.{sym, ap, _∙_}
+use mathlib.Core.Bool.{true, false}
 use mathlib.Core.List.{List}
 use Prim.Native.Nat.{ℕ, _+_, _≤_}
 use native.Mathlib.Omega.{arith}
@@ -11,11 +12,12 @@ use mir.Val.{SFits}
 use borrow.Author.Needs.{needs}
 use Rattle.integers.proofs.Z.{up32, fits64}
 use Rattle.sheet_spec.specs.Slots.{rowSize, row, rowSlot, slots}
-use Rattle.machine_spec.specs.Machine.{Machine, machine, least, greatest}
-use Rattle.machine_spec.specs.Rate.{bound, bandRate}
+use Rattle.machine_spec.specs.Machine.{Machine, machine}
+use Rattle.machine_spec.specs.Rate.{bound, commandOver, bandRate}
 use Rattle.boxes_rates.specs.Limits.{BandAsked}
 use Rattle.boxes_arithmetic.proofs.Bounds.{wide}
-use Rattle.boxes_rates.proofs.Bounds.{cap-bound}
+use Rattle.machine_spec.proofs.Facts.{cap-near}
+use Rattle.machine_spec.proofs.Ranges.{near-by}
 use Rattle.boxes_rates.proofs.rate.row_rate.Statement.{statement}
 use Rattle.boxes_rates.proofs.rate.row_rate.Tie as tie
 
@@ -40,7 +42,7 @@ bound-requires at-term κs =
     let at-start = at-term .before in
     let rate = asked at-start .rate in
     let near = at-term .command-term .ensures .near in
-    (record { vars = omega (arith, rate .plant .n, rate .plant .sheet .vars-high); place = place at-start; sides = rate .sides }, rw (toZ-ofZ (fits64 near tt)) near)
+    (record { vars = omega (arith, rate .plant .n, rate .plant .sheet .vars-high); place = place at-start; sides = near-by (sym (rate .plant .n)) (rate .sides) }, rw (toZ-ofZ (fits64 near tt)) near)
 
 further-requires : tie.Need-further-requires
 further-requires at-cap κs =
@@ -52,7 +54,7 @@ further-requires at-cap κs =
       place = place at-start;
       divisor = rate .plant .sheet .rows (at-start .args .band) (at-start .args .i) (asked at-start .among) (rate .var) .q .low;
       number = rw (toZ-ofZ (fits64 near tt)) near;
-      capped = simp (wide, at-cap .further-arg .given, toZ-ofZ, at-start .fits .outermost) (record { small = cap-bound (rate .plant .sheet) (rate .var); within = asked at-start .within });
+      capped = simp (wide, at-cap .further-arg .given, toZ-ofZ, at-start .fits .outermost) (record { small = cap-near (rate .plant .sheet) (at-start .args .i) (rate .var); within = asked at-start .within });
     }
 
 returns : tie.Need-returns
@@ -66,9 +68,12 @@ returns at-return =
     let term = at-term .command-term .ensures in
     let bounded = at-bound .bound .ensures in
     let further-fits : SFits w64 (at-return .further .result) = search needs in
+    let B = at-start .args .over .now in
+    let least = commandOver false (M at-start) band B in
+    let greatest = commandOver true (M at-start) band B in
     let number-is =
-    bounded .same (least (M at-start) band) (greatest (M at-start) band) (toZ-ofZ (fits64 (term .near) tt) ∙ term .same)
-    ∙ ap (λ (n : ℕ). bound (at-start .args .up) n (row (v at-start) band (at-start .args .i)) (at-start .args .over .now) (least (M at-start) band) (greatest (M at-start) band)) (asked at-start .rate .plant .n) in
+    bounded .same least greatest (toZ-ofZ (fits64 (term .near) tt) ∙ term .same B)
+    ∙ ap (λ (n : ℕ). bound (at-start .args .up) n (row (v at-start) band (at-start .args .i)) B least greatest) (asked at-start .rate .plant .n) in
     toZ-ofZ further-fits
     ∙ (at-return .further .ensures
     ∙ rw (at-start .pre .1, toZ-ofZ (fits64 (bounded .near) tt), number-is) (simp (wide, at-cap .further-arg .given, toZ-ofZ, at-start .fits .outermost)))

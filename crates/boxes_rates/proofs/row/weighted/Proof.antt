@@ -1,7 +1,7 @@
 -- `weighted` gives the sum of a row's terms over a box. Invariant: after j turns, the sum of the first j, and how far it goes.
 -- Measure: the variables left. Assumes nothing.
 use mathlib.Core.Path.{_≡_, refl, _∙_}
-use mathlib.Core.Bool.{Bool}
+use mathlib.Core.Bool.{Bool, true, false}
 use mathlib.Core.List.{List}
 use Prim.Native.Nat.{ℕ, _≤_, _-_, _+_, _*_}
 use native.Mathlib.Omega.{arith}
@@ -12,7 +12,7 @@ use mir.Val.{SFits, toZ}
 use borrow.Author.Needs.{sfits-of}
 use Rattle.integers.specs.Bound.{Bound}
 use Rattle.integers.proofs.Z.{told, bound-of, bound-read, bound-sum, bound-mul, bound-less, bound-lit, fits64, fits-by}
-use Rattle.sheet_spec.specs.Slots.{_!_, N, Row, rowAt}
+use Rattle.sheet_spec.specs.Slots.{_!_, Row, rowAt}
 use Rattle.sheet_spec.specs.Box.{lo, hi}
 use Rattle.machine_spec.specs.Box.{sum}
 use Rattle.machine_spec.specs.Rate.{outer, weighted}
@@ -42,7 +42,8 @@ term-requires : tie.Need-term-requires Inv-loop μ-loop
 term-requires at-upper κs =
     let at-lower = at-upper .before in
     let sides = at-lower .before .before .before .before .pre .sides in
-    (bound-less (bound-read (sfits-of (at-lower .term-arg2 .given)) (sides .at _)) (omega arith), bound-less (bound-read (sfits-of (at-upper .term-arg3 .given)) (sides .at _)) (omega arith))
+    let more = at-lower .before .before .loop-test .taken in
+    (bound-less (bound-read (sfits-of (at-lower .term-arg2 .given)) (sides .at false _ more)) (omega arith), bound-less (bound-read (sfits-of (at-upper .term-arg3 .given)) (sides .at true _ more)) (omega arith))
 
 -- the term, and the sum with it
 module _ (at-term : tie.After-term Inv-loop μ-loop) where
@@ -88,7 +89,8 @@ module _ (at-term : tie.After-term Inv-loop μ-loop) where
   term-bound =
       let coefficient = bound-of {w = w32} {z = a} (sfits-of (at-coefficient .term-arg .given)) in
       let sides = at-start .pre .sides in
-      outer-one (λ z. Bound z (word * limit)) up (bound-mul coefficient (sides .at j)) (bound-mul coefficient (sides .at (j + N)))
+      let more = at-coefficient .before .loop-test .taken in
+      outer-one (λ z. Bound z (word * limit)) up (bound-mul coefficient (sides .at false j more)) (bound-mul coefficient (sides .at true j more))
 
   term-fits : SFits w64 t
   term-fits = fits64 term-bound tt

@@ -90,7 +90,7 @@ lower-requires at-call κs =
     let in-loop = at-call .before .before .before in
     let at-loop = in-loop .before in
     let more = in-loop .loop-test .taken in
-    (omega (arith, room at-loop more), side-movable (at-loop .before .pre .0) (at-loop .loop .i) (low-was (at-loop .loop .inv) more (room at-loop more)) refl)
+    (omega (arith, room at-loop more), side-movable (at-loop .before .pre .0) false (at-loop .loop .i) more (low-was (at-loop .loop .inv) more (room at-loop more)) refl)
 
 upper-requires : tie.Need-arrive-side-requires-2 Inv-loop μ-loop
 upper-requires at-call κs =
@@ -98,7 +98,7 @@ upper-requires at-call κs =
     let in-loop = lower .before .before .before .before in
     let at-loop = in-loop .before in
     let more = in-loop .loop-test .taken in
-    (omega (arith, room at-loop more), side-movable (at-loop .before .pre .0) (at-loop .loop .i + N) (high-was (at-loop .loop .inv) more (room at-loop more) (lower .arrive-side .ensures)) refl)
+    (omega (arith, room at-loop more), side-movable (at-loop .before .pre .0) true (at-loop .loop .i) more (high-was (at-loop .loop .inv) more (room at-loop more) (lower .arrive-side .ensures)) refl)
 
 loop-again : tie.Need-loop-again Inv-loop μ-loop
 loop-again at-upper =

@@ -76,13 +76,13 @@ lower-requires : tie.Need-swept-side-requires Inv-loop μ-loop
 lower-requires at-rate κs =
     let at-side = at-rate .before in
     let at-loop = at-side .before .before in
-    side-movable (at-loop .before .pre .0) (at-loop .loop .i) (told w64 _ (at-side .swept-side-arg .given)) (told w64 _ (at-rate .swept-side-arg2 .given))
+    side-movable (at-loop .before .pre .0) false (at-loop .loop .i) (omega arith) (told w64 _ (at-side .swept-side-arg .given)) (told w64 _ (at-rate .swept-side-arg2 .given))
 
 upper-requires : tie.Need-swept-side-requires-2 Inv-loop μ-loop
 upper-requires at-rate κs =
     let at-side = at-rate .before in
     let at-loop = at-side .before .before .before .before .before in
-    side-movable (at-loop .before .pre .0) (at-loop .loop .i + N) (told w64 _ (at-side .swept-side-arg3 .given)) (told w64 _ (at-rate .swept-side-arg4 .given))
+    side-movable (at-loop .before .pre .0) true (at-loop .loop .i) (omega arith) (told w64 _ (at-side .swept-side-arg3 .given)) (told w64 _ (at-rate .swept-side-arg4 .given))
 
 module _ (at-upper : tie.After-swept-side2 Inv-loop μ-loop) where
   abbrev upper-rate : tie.After-swept-side-arg4 Inv-loop μ-loop

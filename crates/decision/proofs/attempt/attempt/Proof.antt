@@ -10,7 +10,7 @@ use borrow.Author.Needs.{needs}
 use Rattle.sheet_spec.specs.Slots.{vars}
 use Rattle.machine_spec.specs.Box.{trim}
 use Rattle.machine_spec.specs.declared.Law.the-variants.{Baseline}
-use Rattle.boxes_rates.proofs.Bounds.{wider}
+use Rattle.machine_spec.proofs.Ranges.{near-less}
 use Rattle.boxes.proofs.Turn.{not-ended}
 use Rattle.decision_spec.specs.declared.Phase.{Phase}
 use Rattle.decision_spec.specs.Decision.{phase, ticksOf}
@@ -86,7 +86,7 @@ reach-phase-requires c κs =
     let k = following at-phase in
     record {
       sheet = all .sheet;
-      start = wider (omega (arith, k .fewer, all .ticks)) (k .near);
+      start = near-less (omega (arith, k .fewer, all .ticks)) (k .near);
       trimmed = at-loop at-phase .loop .inv .trimmed;
       ticks = omega (arith, k .fewer, all .ticks);
       counts = omega (arith, k .counts, asked .counts);

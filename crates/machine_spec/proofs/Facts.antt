@@ -1,0 +1,29 @@
+-- What an accepted sheet says of its machine, in the form in which the laws use it. Assumes nothing.
+use mathlib.Core.List.{List}
+use Prim.Native.Nat.{ℕ, _≤_, _<_}
+use native.Mathlib.Omega.{arith}
+use lib.IntN.{ℤ, pos, negsuc, natAbs}
+use lib.Signed.{_≤ℤ_}
+use Rattle.integers.specs.Bound.{Bound}
+use Rattle.integers.proofs.Z.{ints, bound-in}
+use Rattle.sheet_spec.specs.Limits.{maxCap}
+use Rattle.sheet_spec.specs.Slots.{N, vars, bands, cap, row}
+use Rattle.sheet_spec.specs.Valid.{Valid}
+
+module _ {v : List ℤ} (wf : Valid v) where
+  -- there is room for the variables
+  pub room : vars v ≤ N
+  room = omega (arith, wf .vars-high)
+
+  pub cap-low : (i : ℕ) → i < vars v → pos 0 ≤ℤ cap v i
+  cap-low i h = omega (ints, wf .caps i h .low)
+
+  pub cap-near : (i : ℕ) → i < vars v → Bound (cap v i) maxCap
+  cap-near i h = bound-in (omega (ints, wf .caps i h .low)) (wf .caps i h .high)
+
+  pub divisor : (k i : ℕ) → k < bands v → i < vars v → 0 < natAbs (row v k i .q)
+  divisor k i h g = positive (row v k i .q) (wf .rows k i h g .q .low)
+    where
+      positive : (q : ℤ) → pos 1 ≤ℤ q → 0 < natAbs q
+      positive (pos n) h = omega ints
+      positive (negsuc n) h = absurd (h .le)
