@@ -5,15 +5,16 @@ use mathlib.Core.List.{List}
 use Prim.Native.Nat.{ℕ, _≤_, _<_}
 use lib.IntN.{ℤ}
 use Rattle.sheet_spec.specs.Slots.{vars}
+use Rattle.sheet_spec.specs.Limits.{maxSide, maxTicks, maxWidth}
+use Rattle.sheet_spec.proofs.FirstRefusal.{found-stops, found-none}
 use Rattle.machine_spec.specs.Box.{trim}
 use Rattle.machine_spec.specs.Machine.{Law, Machine, machine}
 use Rattle.boxes_arithmetic.specs.Limits.{SidesWithin}
 use Rattle.boxes.specs.declared.steps.ReachResult.{ReachResult}
 use Rattle.boxes.specs.declared.steps.ReachResult.the-variants.{Ended, Unsettled, Unsafe, Exhausted}
 use Rattle.boxes.specs.ReachResult.{resultOf, reachedOf}
-use Rattle.boxes_spec.specs.Reach.{reach, clear, lawRefusal, ticksRefusal, reachRefusal, refused, answer, reachOf}
-use Rattle.boxes_spec.proofs.Count.{ticks-width}
-use Rattle.boxes_spec.proofs.Refusals.{or-none, if-refused, if-accepted}
+use Rattle.boxes_spec.specs.Reach.{reach, clear, reachRefusal, refused, answer, reachOf}
+use Rattle.boxes_spec.proofs.Refusals.{reach-passes}
 use Rattle.boxes_refusals.proofs.Turn.{sides-near}
 
 -- the code's refusal of a reach is a
@@ -23,27 +24,25 @@ pub record Refusal (v : List ℤ) (ticks w : ℕ) (l : Law) (B : List ℤ) (a : 
 -- what holds of a reach of T ticks at the width w from S that is not refused
 pub record Accepted (T w : ℕ) (S : List ℤ) : Type 0 where
   pub some : 0 < w
-  pub most : w ≤ 1000
-  pub ticks : T ≤ 1000
-  pub start : SidesWithin 1000000 S
+  pub most : w ≤ maxWidth
+  pub ticks : T ≤ maxTicks
+  pub start : SidesWithin maxSide S
 
 module _ {v : List ℤ} {ticks w : ℕ} {l : Law} {B : List ℤ} {a : ℕ} (r : Refusal v ticks w l B a) where
   pub reach-refused : (a ≡ 0 → ⊥) → refused a ≡ reachOf v ticks w l B
   unfolding reachOf
-  reach-refused n = if-refused _ (r .is) n
+  reach-refused n = found-stops refused _ (r .is) n
 
   -- nothing is refused; the machine and the start box as the code has them
   module _ (e : a ≡ 0) {m : Machine} (q : m ≡ machine v l) {S : List ℤ} (s : S ≡ trim (m .n) B) where
     pub reachable : Accepted ticks w S
-    unfolding reachRefusal
     reachable =
-        let t = or-none (ticksRefusal ticks w) _ (sym (r .is) ∙ e) in
-        let u = ticks-width ticks w (t .0) in
+        let passes = reach-passes v ticks w l B (sym (r .is) ∙ e) in
         record {
-          some = u .1;
-          most = u .2;
-          ticks = u .0;
-          start = subst (SidesWithin 1000000) (sym (s ∙ ap (λ (x : Machine). trim (x .n) B) q)) (sides-near (vars v) B (or-none (lawRefusal v l) _ (t .1) .1));
+          some = passes .some;
+          most = passes .most;
+          ticks = passes .few;
+          start = subst (SidesWithin maxSide) (sym (s ∙ ap (λ (x : Machine). trim (x .n) B) q)) (sides-near (vars v) B (passes .start));
         }
 
     -- a reach came to o
@@ -52,7 +51,7 @@ module _ {v : List ℤ} {ticks w : ℕ} {l : Law} {B : List ℤ} {a : ℕ} (r : 
       unfolding reachOf
       answer-is =
           ap answer (h ∙ ap (λ (X : List ℤ). reach false 0 m (clear (m .n) v 0) w X ticks 0) s ∙ ap (λ (x : Machine). reach false 0 x (clear (x .n) v 0) w (trim (x .n) B) ticks 0) q)
-          ∙ if-accepted _ (r .is) e
+          ∙ found-none refused _ (r .is) e
 
       pub reach-ended : (t d : ℕ) → o ≡ Ended t d → record { refusal = 0; end = E; swept = W; rounds = d } ≡ reachOf v ticks w l B
       unfolding answer resultOf

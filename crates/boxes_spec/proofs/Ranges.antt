@@ -10,11 +10,14 @@ use lib.Signed.{leZ, _≤ℤ_}
 use Rattle.integers.specs.Bound.{Bound}
 use Rattle.integers.proofs.Z.{ints, le-true, bound-sum, bound-sub, bound-less, bound-in}
 use Rattle.sheet_spec.specs.Slots.{N, vars, edge, leastCommand, greatestCommand, recoverySlot, recoveryBox}
+use Rattle.sheet_spec.specs.Limits.{maxSide}
+use Rattle.sheet_spec.specs.Refusals.{Cause}
 use Rattle.sheet_spec.specs.Box.{lo, hi}
 use Rattle.machine_spec.specs.Box.{hull}
 use Rattle.sheet_spec.specs.Valid.{Valid}
 use Rattle.machine_spec.specs.Machine.{Law, baseline, command, Machine, machine, cap, rowOf, least, greatest}
 use Rattle.machine_spec.specs.Rate.{bound, part, neighborhood}
+use Rattle.sheet_spec.proofs.Laws.{unless-zero}
 use Rattle.sheet_spec.proofs.Box.{and-both, all-at, box-lo, box-hi}
 use Rattle.machine_spec.proofs.Inside.{side, Ordered}
 use Rattle.machine_spec.proofs.Neighborhood.{inward, neighborhood-part}
@@ -24,7 +27,6 @@ use Rattle.machine_spec.proofs.Ranges.{Near, near-less, near-part, hull-near, m
 use Rattle.boxes_spec.specs.Step.{lifted, grown, endBox, Step}
 use Rattle.boxes_spec.specs.Reach.{lawRefusal, sidesRefusal}
 use Rattle.boxes_spec.proofs.Settled.{Working, starts, grows, Settled, Place, start, StepsTo, here, next, steps-less}
-use Rattle.boxes_spec.proofs.Count.{cond-zero}
 use Rattle.boxes_spec.proofs.Order.{working-holds, face-ordered, end-ordered}
 
 -- ---- a step of length k from S, whose sides are at most b
@@ -138,7 +140,7 @@ pub lawful : (v : List ℤ) (l : Law) → lawRefusal v l ≡ 0 → Lawful v l
 unfolding lawRefusal
 lawful v baseline e = tt
 lawful v (command u) e =
-    let b = and-both (leZ (leastCommand v) u) (leZ u (greatestCommand v)) (cond-zero _ 13 e) in
+    let b = and-both (leZ (leastCommand v) u) (leZ u (greatestCommand v)) (unless-zero _ Cause.command e) in
     record { low = le-true (leastCommand v) u (b .0); high = le-true u (greatestCommand v) (b .1) }
 
 pub sized-by : {n b : ℕ} {B : List ℤ} → ((i : ℕ) → i < n → negℤ (pos b) ≤ℤ lo B i) → Ordered n B → ((i : ℕ) → i < n → hi B i ≤ℤ pos b) → Sized n b B
@@ -148,15 +150,15 @@ sized-by {n} {b} {B} l o u = record { near = record { at = at }; ordered = o }
     at false i h = bound-in (l i h) (omega (ints, o .at i h, u i h))
     at true i h = bound-in (omega (ints, l i h, o .at i h)) (u i h)
 
-pub start-sized : (n : ℕ) (B : List ℤ) → sidesRefusal n B ≡ 0 → Sized n 1000000 B
+pub start-sized : (n : ℕ) (B : List ℤ) → sidesRefusal n B ≡ 0 → Sized n maxSide B
 unfolding sidesRefusal
-start-sized n B e = sized-by (λ i h. le-true (negℤ (pos 1000000)) (lo B i) (both i h .0)) (record { at = λ i h. le-true (lo B i) (hi B i) (both i h .1) }) (λ i h. le-true (hi B i) (pos 1000000) (last i h .1))
+start-sized n B e = sized-by (λ i h. le-true (negℤ (pos maxSide)) (lo B i) (both i h .0)) (record { at = λ i h. le-true (lo B i) (hi B i) (both i h .1) }) (λ i h. le-true (hi B i) (pos maxSide) (last i h .1))
   where
-    last : (i : ℕ) → i < n → ((leZ (negℤ (pos 1000000)) (lo B i) && leZ (lo B i) (hi B i)) ≡ true) × (leZ (hi B i) (pos 1000000) ≡ true)
-    last i h = and-both _ (leZ (hi B i) (pos 1000000)) (all-at n _ i (cond-zero _ 14 e) h)
+    last : (i : ℕ) → i < n → ((leZ (negℤ (pos maxSide)) (lo B i) && leZ (lo B i) (hi B i)) ≡ true) × (leZ (hi B i) (pos maxSide) ≡ true)
+    last i h = and-both _ (leZ (hi B i) (pos maxSide)) (all-at n _ i (unless-zero _ Cause.start e) h)
 
-    both : (i : ℕ) → i < n → (leZ (negℤ (pos 1000000)) (lo B i) ≡ true) × (leZ (lo B i) (hi B i) ≡ true)
-    both i h = and-both (leZ (negℤ (pos 1000000)) (lo B i)) (leZ (lo B i) (hi B i)) (last i h .0)
+    both : (i : ℕ) → i < n → (leZ (negℤ (pos maxSide)) (lo B i) ≡ true) × (leZ (lo B i) (hi B i) ≡ true)
+    both i h = and-both (leZ (negℤ (pos maxSide)) (lo B i)) (leZ (lo B i) (hi B i)) (last i h .0)
 
 pub recovery-sized : {v : List ℤ} → Valid v → Sized (vars v) 1000000 (recoveryBox v)
 recovery-sized {v} wf =

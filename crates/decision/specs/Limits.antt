@@ -15,6 +15,12 @@ use Rattle.decision.specs.declared.attempt.AttemptPlan.{AttemptPlan}
 abbrev pub startLimit : ℕ
 startLimit = maxSide
 
+-- a decision on the sheet v from the measured box B
+pub record DecisionAsked (v B : List ℤ) : Type 0 where
+  pub sheet : Valid v
+  pub start : SidesWithin startLimit B
+  pub trimmed : trim (vars v) B ≡ B
+
 -- attempts of the plan on the sheet v from the box S, at the width w and below
 pub record AttemptsAsked (plan : AttemptPlan) (v S : List ℤ) (w : ℕ) : Type 0 where
   pub sheet : Valid v

@@ -7,6 +7,8 @@ use lib.IntN.{ℤ, pos}
 use lib.Seq.{sets}
 use Rattle.sheet_spec.specs.Sheet.{values}
 use Rattle.sheet_spec.specs.SheetA.{fileA}
+use Rattle.sheet_spec.specs.Refusals.{Cause, number}
+use Rattle.machine_spec.specs.Machine.{command}
 use Rattle.boxes_spec.specs.Step.{Result, ok, failed, exhausted}
 use Rattle.decision_spec.specs.Question.{allowanceRefusal}
 use Rattle.decision_spec.specs.Decision.{attempt, decisionPhases}
@@ -14,7 +16,7 @@ use Rattle.decision_spec.specs.Starred.{interval}
 use Rattle.decision_spec.proofs.Everything.{everything}
 
 -- 1,000,000 and 1,000,001
-pub allowances : (allowanceRefusal (81 ∷ 83 ∷ 0 ∷ 15 ∷ 66 ∷ 64 ∷ []) ≡ 0) × (allowanceRefusal (81 ∷ 83 ∷ 0 ∷ 15 ∷ 66 ∷ 65 ∷ []) ≡ 13)
+pub allowances : (allowanceRefusal (81 ∷ 83 ∷ 0 ∷ 15 ∷ 66 ∷ 64 ∷ []) ≡ 0) × (allowanceRefusal (81 ∷ 83 ∷ 0 ∷ 15 ∷ 66 ∷ 65 ∷ []) ≡ number Cause.allowance)
 unfolding everything
 allowances = (refl, refl)
 
@@ -29,7 +31,7 @@ succeeds (exhausted c) = false
 
 -- the first question's attempt at width 4, whose last end box is 12..20 (document 01, "Checks at the stops")
 abbrev attempted : List ℤ → Bool
-attempted v = succeeds (attempt true 100 v 4 (decisionPhases v (pos 25)) (interval (pos 0) (pos 0)) 0)
+attempted v = succeeds (attempt true 100 v 4 (decisionPhases v (command (pos 25))) (interval (pos 0) (pos 0)) 0)
 
 pub recovered : (attempted (sheet 12 20) ≡ true) × (attempted (sheet 13 20) ≡ false) × (attempted (sheet 12 19) ≡ false)
 unfolding everything

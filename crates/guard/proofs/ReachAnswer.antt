@@ -10,7 +10,10 @@ use lib.ListN.{length, length-append, List·getD-append}
 use lib.Seq.{sets, sets-eq}
 use Rattle.integers.proofs.Lists.{sets-append}
 use Rattle.sheet_spec.specs.Slots.{_!_, vars}
+use Rattle.sheet_spec.specs.Limits.{maxSide, maxTicks}
+use Rattle.sheet_spec.specs.Refusals.{unlessRefused}
 use Rattle.sheet_spec.specs.Sheet.{refusal, values}
+use Rattle.sheet_spec.proofs.FirstRefusal.{found-stops, found-none}
 use Rattle.sheet_spec.specs.Valid.{Valid}
 use Rattle.machine_spec.specs.Box.{boxOf, trim}
 use Rattle.machine_spec.specs.Machine.{Law, Machine, machine, lawOf}
@@ -19,11 +22,10 @@ use Rattle.boxes_rates.specs.Plant.{Usable}
 use Rattle.boxes_rates.proofs.Rates.{usable}
 use Rattle.boxes_rates.proofs.Bounds.{wider, sides-bound, hull-bound, moved-bound, rates-bound}
 use Rattle.boxes_spec.specs.Step.{Failure, Result, Step, endBox, swept}
-use Rattle.boxes_spec.specs.Reach.{Reached, reach, clear, ticksRefusal, lawRefusal, reachRefusal, noBox, Answer, answer, ifAccepted, reachOf, reachFile}
+use Rattle.boxes_spec.specs.Reach.{Reached, reach, clear, reachRefusal, noBox, Answer, refused, answer, reachOf, reachFile}
 use Rattle.boxes_spec.proofs.Stages.{Takes, value, failure, spent}
 use Rattle.boxes_spec.proofs.Settled.{Settled, Place, start, StepsTo, here, next, Ends, reach-takes}
-use Rattle.boxes_spec.proofs.Count.{ticks-width}
-use Rattle.boxes_spec.proofs.Refusals.{or-none, if-refused, if-accepted}
+use Rattle.boxes_spec.proofs.Refusals.{reach-passes}
 use Rattle.boxes_refusals.proofs.Turn.{sides-near}
 use Rattle.decision_spec.specs.Numbers.{numberBytes, sidesOf}
 use Rattle.decision_spec.specs.ReachCall.{startBox, reachAnswer}
@@ -56,21 +58,26 @@ none-far {b} = let h : SidesWithin b noBox = sides-bound b 0 (λ i. pos 0) (λ i
 
 -- the boxes of an answer lie within ±2,000,000
 pub reach-far : {v : List ℤ} → Valid v → (ticks w : ℕ) (l : Law) (B : List ℤ) → Far 2000000 (reachOf v ticks w l B .end) (reachOf v ticks w l B .swept)
-unfolding reachOf reachRefusal answer
+unfolding reachOf unlessRefused answer
 reach-far {v} wf ticks w l B = by (reachRefusal v ticks w l B) refl
   where
-    far : {g : Result Reached} {Q : Failure → Type 0} → SidesWithin 1000000 (trim (vars v) B) → ticks ≤ 1000
-        → Takes false 0 0 (73 * ticks) (Ends (machine v l) (clear (vars v) v 0) w (start (trim (vars v) B) ticks)) Q g → Far 2000000 (answer g .end) (answer g .swept)
+    S : List ℤ
+    S = trim (vars v) B
+
+    reached : Result Reached
+    reached = reach false 0 (machine v l) (clear (vars v) v 0) w S ticks 0
+
+    far : {g : Result Reached} {Q : Failure → Type 0} → SidesWithin maxSide S → ticks ≤ maxTicks
+        → Takes false 0 0 (73 * ticks) (Ends (machine v l) (clear (vars v) v 0) w (start S ticks)) Q g → Far 2000000 (answer g .end) (answer g .swept)
     far h k (value p n) = let f = walks-far (usable l wf) (p .path) (h, h) in (wider (omega arith) (f .0), wider (omega arith) (f .1))
     far h k (failure q n) = none-far
     far h k (spent i e n) = none-far
 
-    by : (r : ℕ) → reachRefusal v ticks w l B ≡ r → Far 2000000 (ifAccepted r (answer (reach false 0 (machine v l) (clear (vars v) v 0) w (trim (vars v) B) ticks 0)) .end) (ifAccepted r (answer (reach false 0 (machine v l) (clear (vars v) v 0) w (trim (vars v) B) ticks 0)) .swept)
+    by : (r : ℕ) → reachRefusal v ticks w l B ≡ r → Far 2000000 (unlessRefused r refused (answer reached) .end) (unlessRefused r refused (answer reached) .swept)
     by (suc r) e = none-far
     by zero e =
-        let t = or-none (ticksRefusal ticks w) _ e in
-        let k = ticks-width ticks w (t .0) in
-        far (sides-near (vars v) B (or-none (lawRefusal v l) _ (t .1) .1)) (k .0) (reach-takes false 0 (machine v l) (clear (vars v) v 0) w 9 (omega (arith, wf .vars-high)) (k .1) (omega (arith, k .2)) (trim (vars v) B) ticks 0)
+        let passes = reach-passes v ticks w l B e in
+        far (sides-near (vars v) B (passes .start)) (passes .few) (reach-takes false 0 (machine v l) (clear (vars v) v 0) w 9 (omega (arith, wf .vars-high)) (passes .some) (omega (arith, passes .most)) S ticks 0)
 
 -- ---- bytes
 
@@ -100,9 +107,9 @@ boxes-bytes l n E W h = bytes-same _ _ (4 * n) at
 module _ (f : List ℕ) (ticks w law : ℕ) (u : ℤ) (s : List ℕ) {r : ℕ} (p : r ≡ refusal f) where
   pub file-refused : (r ≡ 0 → ⊥) → r ≡ reachAnswer f ticks w law u s .refusal
   unfolding reachAnswer reachFile
-  file-refused n = ap (λ (a : Answer). a .refusal) (if-refused _ p n)
+  file-refused n = ap (λ (a : Answer). a .refusal) (found-stops refused _ p n)
 
   -- v and B are the code's value and start box
   pub file-reached : r ≡ 0 → {v B : List ℤ} → v ≡ values f → B ≡ startBox (vars (values f)) s → reachOf v ticks w (lawOf (eqb law 0) u) B ≡ reachAnswer f ticks w law u s
   unfolding reachAnswer reachFile
-  file-reached e h k = rw (h, k) (if-accepted _ p e)
+  file-reached e h k = rw (h, k) (found-none refused _ p e)

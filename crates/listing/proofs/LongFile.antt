@@ -15,6 +15,7 @@ use Rattle.sheet_spec.specs.Slots.{headSize, vars}
 use Rattle.sheet_spec.specs.Fields.{Field, width, numberOf, decoded, offset, filled, bad}
 use Rattle.sheet_spec.specs.Layout.{head, headFields}
 use Rattle.sheet_spec.specs.File.{Shape, records, start, marked}
+use Rattle.sheet_spec.specs.Refusals.{unlessRefused}
 use Rattle.sheet_spec.specs.Sheet.{headOf, shapeOf, refusal, values, zeros}
 use Rattle.sheet_spec.proofs.Laws.{bad-ranges}
 use Rattle.sheet_spec.proofs.Streams.{lt-or-le}
@@ -23,7 +24,7 @@ use Rattle.sheet_spec.proofs.Ranges.{small}
 use Rattle.sheet_spec.proofs.Length.{cap-offset, file-length}
 use Rattle.sheet_spec.proofs.Answers.{refused-beginning, refused-head, refused-size}
 use Rattle.decision_spec.specs.Question.{questionLength}
-use Rattle.decision_spec.specs.Decision.{Reply, recoveryOf, unlessRefused, checkRecovery, isKeep}
+use Rattle.decision_spec.specs.Decision.{Reply, recoveryOf, checkRecovery, isKeep}
 use Rattle.decision_spec.specs.Listing.{_␣_, newline, sheetWord, checkWord, replyText, sheetLine, questionLines, listing}
 use Rattle.listing.specs.Limits.{longest}
 
@@ -105,7 +106,7 @@ module _ (f : List ℕ) (k : ℕ) (l : longest < k) where
 refused-listing : (f g : List ℕ) (c : ℕ) → refusal f ≡ suc c → listing f g ≡ (sheetWord ␣ replyText checkWord (Reply.refused (suc c))) ++ (newline ∷ []) ++ []
 unfolding listing sheetLine checkRecovery unlessRefused isKeep
 refused-listing f g c e =
-    ap (λ (r : ℕ). let a = unlessRefused r (recoveryOf (values f)) in
+    ap (λ (r : ℕ). let a = unlessRefused r Reply.refused (recoveryOf (values f)) in
     ((sheetWord ␣ replyText checkWord a) ++ (newline ∷ [])) ++ (elim (isKeep a) [ true ↦ questionLines f (questionLength (vars (values f))) (length g) 1 g | false ↦ [] ])) e
 
 pub listing-cut : (f g : List ℕ) (k : ℕ) → longest < k → listing (take k f) g ≡ listing f g

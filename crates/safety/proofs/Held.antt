@@ -17,12 +17,11 @@ use Rattle.machine_spec.specs.Box.{In}
 use Rattle.machine_spec.specs.Machine.{Law, baseline, command, machine, Tick}
 use Rattle.machine_spec.specs.Rate.{neutral}
 use Rattle.machine_spec.proofs.Sound.{proper, cap-bounds}
-use Rattle.sheet_spec.specs.Refusals.{orElse}
-use Rattle.boxes_spec.specs.Reach.{lawRefusal}
 use Rattle.boxes_spec.proofs.Sound.{Ticks}
 use Rattle.boxes_spec.proofs.Ranges.{Sized, start-sized, recovery-sized}
-use Rattle.decision_spec.specs.Question.{questionRefusal, formRefusal, allowanceRefusal, allowanceOf, commandOf, measured}
-use Rattle.decision_spec.specs.Decision.{recoveryOf, decisionOf, isKeep}
+use Rattle.decision_spec.specs.Question.{questionOf, questionRefusal, allowanceOf, commandOf, measured}
+use Rattle.decision_spec.specs.Decision.{recoveryOf, decisionTo, isKeep}
+use Rattle.decision_spec.proofs.Question.{question-passes}
 use Rattle.decision_spec.proofs.Cover.{Covered}
 use Rattle.decision_spec.proofs.Attempt.{recovery-sound, decision-sound}
 
@@ -72,22 +71,12 @@ hold {x} few s b c = record {
     between (pos n) a b h k = omega ints
     between (negsuc n) a b h k = omega ints
 
-or-none : (a b : ℕ) → orElse a b ≡ 0 → (a ≡ 0) × (b ≡ 0)
-or-none zero b e = (refl, e)
-or-none (suc a) b e = absurd (omega arith)
-
-measured-sized : (v : List ℤ) (g : List ℕ) → questionRefusal v g ≡ 0 → Sized (vars v) 1000000 (measured (vars v) g)
-unfolding questionRefusal
-measured-sized v g e =
-    start-sized (vars v) (measured (vars v) g)
-    (or-none (lawRefusal v (command (commandOf g))) _ (or-none (allowanceRefusal g) _ (or-none (formRefusal (vars v) g) _ e .1) .1) .1)
-
 pub keep-held : {v x : List ℤ} (g : List ℕ) → Valid v → questionRefusal v g ≡ 0
-    → T (isKeep (decisionOf v (measured (vars v) g) (commandOf g) (allowanceOf g))) → In (vars v) (measured (vars v) g) x
+    → T (isKeep (decisionTo v (questionOf (vars v) g))) → In (vars v) (measured (vars v) g) x
     → Held v (replicate (δ v) (command (commandOf g)) ++ replicate (α v) baseline) x
 keep-held {v} g wf e t b =
     let few : length (replicate (δ v) (command (commandOf g)) ++ replicate (α v) baseline) ≤ 1000 = simp (length-append, length-replicate) (wf .sum-high) in
-    hold few (measured-sized v g e) b (decision-sound wf (commandOf g) (allowanceOf g) t b)
+    hold few (start-sized (vars v) (measured (vars v) g) (question-passes v g e .start)) b (decision-sound wf (command (commandOf g)) (allowanceOf g) t b)
 
 -- ---- the way back to the recovery box
 

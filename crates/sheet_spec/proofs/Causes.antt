@@ -1,6 +1,6 @@
 -- The refusals of reading and of writing are at most the greatest number. Assumes nothing.
 use mathlib.Core.Bool.{Bool, true, false, _&&_}
-use mathlib.Core.List.{List}
+use mathlib.Core.List.{List, [], _∷_}
 use Prim.Native.Nat.{ℕ, zero, suc, _+_, _≤_}
 use native.Mathlib.Omega.{arith}
 use lib.Dec.{eqb, leb}
@@ -8,7 +8,7 @@ use lib.IntN.{ℤ}
 use lib.ListN.{length}
 use lib.Signed.{leZ}
 use Rattle.sheet_spec.specs.Slots.{_!_, headSize}
-use Rattle.sheet_spec.specs.Refusals.{Cause, number, greatestNumber, refuseUnless, firstRefusal}
+use Rattle.sheet_spec.specs.Refusals.{Cause, number, greatestNumber, refuseUnless, unlessRefused, firstOf, firstRefusal}
 use Rattle.sheet_spec.specs.Fields.{Field, test, bad}
 use Rattle.sheet_spec.specs.Sizes.{capsAt}
 use Rattle.sheet_spec.specs.Layout.{head, headFields}
@@ -25,9 +25,24 @@ first-most h {most} a (suc k) = go (firstRefusal h k) (first-most h a k)
     go zero l = a k
     go (suc c) l = l
 
-unless-most : (b : Bool) (c : Cause) → refuseUnless b c ≤ greatestNumber
+-- ---- a test, and the first of a list of tests
+
+pub unless-most : (b : Bool) (c : Cause) → refuseUnless b c ≤ greatestNumber
 unless-most true c = omega arith
 unless-most false c = number-range c .1
+
+-- every number of the list is at most the greatest
+abbrev pub AllMost : List ℕ → Type 0
+AllMost [] = Unit {0}
+AllMost (r ∷ rs) = (r ≤ greatestNumber) × AllMost rs
+
+pub first-of-most : (rs : List ℕ) → AllMost rs → firstOf rs ≤ greatestNumber
+unfolding firstOf unlessRefused
+first-of-most [] most = omega arith
+first-of-most (zero ∷ rs) most = first-of-most rs (most .1)
+first-of-most (suc r ∷ rs) most = most .0
+
+-- ---- reading and writing
 
 test-most : (v : List ℤ) (x : Field) → test v x ≤ greatestNumber
 unfolding test

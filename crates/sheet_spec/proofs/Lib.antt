@@ -2,6 +2,7 @@ pub mod Box
 pub mod Streams
 pub mod Records
 pub mod Laws
+pub mod FirstRefusal
 pub mod Causes
 pub mod Places
 pub mod Filled

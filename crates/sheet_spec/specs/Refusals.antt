@@ -1,5 +1,6 @@
 -- Why a call is refused, by number (document 01, "Refused calls"), and which of several refusals comes first.
 use mathlib.Core.Bool.{Bool, true, false}
+use mathlib.Core.List.{List, [], _∷_}
 use Prim.Native.Nat.{ℕ, zero, suc}
 
 pub data Cause : Type 0 where
@@ -70,6 +71,11 @@ refuseUnless false c = number c
 unfoldable pub unlessRefused : {A : Type 0} → ℕ → (ℕ → A) → A → A
 unlessRefused zero refuse go = go
 unlessRefused (suc r) refuse go = refuse (suc r)
+
+-- the first refusal of a list of tests, each 0 where it passed; 0 where all did
+unfoldable pub firstOf : List ℕ → ℕ
+firstOf [] = 0
+firstOf (r ∷ rs) = unlessRefused r (λ r. r) (firstOf rs)
 
 -- the first of h 0, .. h (k - 1) that is not 0, or 0
 unfoldable pub firstRefusal : (ℕ → ℕ) → ℕ → ℕ
