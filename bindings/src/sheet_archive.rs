@@ -15,14 +15,32 @@ pub fn numbers() -> u64 {
     unsafe { c::sheet_numbers() }
 }
 
-/// Puts a sheet's numbers at their slots and answers 0, or answers the number of the refusal.
-pub fn read(sheet: &[u8], array: &mut [i32; NUMBERS]) -> u8 {
-    assert_eq!(
-        numbers(),
-        NUMBERS as u64,
-        "the archive is of another version"
-    );
-    // SAFETY: the pointer and the length are one slice's; the call writes to `array` alone, which has
-    // the archive's size.
-    unsafe { c::sheet_read(sheet.as_ptr(), sheet.len(), array.as_mut_ptr()) }
+/// An archive whose array has `NUMBERS` numbers. That is asked once and not at each sheet.
+#[derive(Clone, Copy, Debug)]
+pub struct SheetArchive(());
+
+impl SheetArchive {
+    /// Panics where the archive is of another version.
+    pub fn new() -> SheetArchive {
+        assert_eq!(
+            numbers(),
+            NUMBERS as u64,
+            "the archive is of another version"
+        );
+        SheetArchive(())
+    }
+
+    /// Puts a sheet's numbers at their slots and answers 0, or answers the number of the refusal.
+    #[inline]
+    pub fn read(self, sheet: &[u8], array: &mut [i32; NUMBERS]) -> u8 {
+        // SAFETY: the pointer and the length are one slice's; the call writes to `array` alone, which
+        // has the archive's size.
+        unsafe { c::sheet_read(sheet.as_ptr(), sheet.len(), array.as_mut_ptr()) }
+    }
+}
+
+impl Default for SheetArchive {
+    fn default() -> SheetArchive {
+        SheetArchive::new()
+    }
 }

@@ -64,5 +64,5 @@ module _ {v : List ℤ} {ticks w : ℕ} {l : Law} {B : List ℤ} {a : ℕ} (r : 
           fails : (x : ReachResult) → ((t d : ℕ) → x ≡ Ended t d → ⊥) → refused 0 ≡ answer (reachedOf E W x)
           fails (Ended t d) n = absurd (n t d refl)
           fails (Unsettled d) n = refl
-          fails (Unsafe t d) n = refl
+          fails (Unsafe t j d) n = refl
           fails (Exhausted d) n = refl

@@ -6,11 +6,12 @@ use mathlib.Core.List.{List}
 use Prim.Native.Nat.{ℕ, suc, _-_, _≤_, _<_, min}
 use native.Mathlib.Omega.{arith}
 use native.Mathlib.Nat.{le-refl}
-use borrow.Author.Tests.{le-leb, lt-leb}
-use lib.Dec.{leb}
+use borrow.Author.Tests.{le-leb, lt-leb, le-ltb, lt-ltb}
+use lib.Dec.{leb, ltb}
 use lib.IntN.{ℤ}
 use denote.Enum.Declared.{tagOf}
 use Rattle.integers.proofs.Tests.{pick-yes, pick-no, suc-of}
+use Rattle.sheet_spec.specs.Box.{lowestMet}
 use Rattle.machine_spec.specs.Box.{hull, moved}
 use Rattle.machine_spec.specs.Machine.{Machine}
 use Rattle.boxes_step.specs.declared.StepResult.{StepResult}
@@ -20,10 +21,10 @@ use Rattle.boxes.specs.declared.steps.ReachResult.{ReachResult}
 use Rattle.boxes.specs.declared.steps.ReachResult.the-variants.{Ended, Unsafe}
 use Rattle.boxes.specs.declared.steps.ReachResult.the-variants as result
 use Rattle.boxes_spec.specs.Step.{Result, ok, failed, unsafe, andThen, Step, step, swept}
-use Rattle.boxes_spec.specs.Reach.{Reached, testedStep, steps, reach}
+use Rattle.boxes_spec.specs.Reach.{Reached, clear, testedStep, steps, reach}
 use Rattle.boxes.specs.ReachResult.{resultOf, testedStepOf, reachedOf, isEnded}
 use Rattle.boxes.proofs.steps.ReachResult.{the-type}
-use Rattle.sheet_spec.proofs.Box.{differ}
+use Rattle.sheet_spec.proofs.Box.{differ, any-is}
 
 -- ---- a tested step
 
@@ -47,21 +48,33 @@ module _ {l : Bool} {a : ℕ} {m : Machine} {w : ℕ} {S : List ℤ} {left c : �
   unfolding stepOf resultOf andThen
   tested-exhausted E P d q = tested-is (Exhausted d) q
 
-  -- it settled with the end box E and the swept box P, which is not clear where u is true
-  module _ (t d : ℕ) (q : r ≡ Settled t d) {E P : List ℤ} (e : E ≡ moved (m .n) S t R) (p : P ≡ hull (m .n) S E) {u x : Bool} (v : u ≡ x) (y : clear P ≡ not x) where
+  -- it settled with the end box E and the swept box P
+  module _ (t d : ℕ) (q : r ≡ Settled t d) {E P : List ℤ} (e : E ≡ moved (m .n) S t R) (p : P ≡ hull (m .n) S E) where
     tested-tested : tested (record { ticks = t; end = E }) d ≡ testedStep l a m clear w S left c
     unfolding stepOf andThen
     tested-tested = ap (λ (F : List ℤ). tested (record { ticks = t; end = F }) d) e ∙ tested-is (Settled t d) q
 
-    pub tested-clear : u ≡ false → testedStepOf E P (Ended t d) ≡ testedStep l a m clear w S left c
+    pub tested-clear : clear P ≡ true → testedStepOf E P (Ended t d) ≡ testedStep l a m clear w S left c
     unfolding resultOf swept
-    tested-clear z = sym (pick-yes (clear (hull (m .n) S E)) _ _ (ap clear (sym p) ∙ y ∙ ap not (sym v ∙ z))) ∙ tested-tested
+    tested-clear z = sym (pick-yes (clear (hull (m .n) S E)) _ _ (ap clear (sym p) ∙ z)) ∙ tested-tested
 
-    pub tested-unsafe : u ≡ true → testedStepOf E P (Unsafe left d) ≡ testedStep l a m clear w S left c
+    pub tested-unsafe : (number : ℕ) → clear P ≡ false → testedStepOf E P (Unsafe left number d) ≡ testedStep l a m clear w S left c
     unfolding resultOf swept
-    tested-unsafe z =
+    tested-unsafe number z =
         ap (λ (B : List ℤ). failed (unsafe left B) d) p
-        ∙ sym (pick-no (clear (hull (m .n) S E)) _ _ (ap clear (sym p) ∙ y ∙ ap not (sym v ∙ z))) ∙ tested-tested
+        ∙ sym (pick-no (clear (hull (m .n) S E)) _ _ (ap clear (sym p) ∙ z)) ∙ tested-tested
+
+-- the test of a swept box by the lowest number of a no-go box that it meets
+module _ (n : ℕ) (v : List ℤ) (count : ℕ) (P : List ℤ) {number : ℕ} (is : number ≡ lowestMet n v count P) where
+  clear-is : clear n v count P ≡ not (ltb number count)
+  unfolding clear lowestMet
+  clear-is = ap not (any-is count _ ∙ ap (λ (j : ℕ). ltb j count) (sym is))
+
+  pub is-clear : count ≤ number → clear n v count P ≡ true
+  is-clear h = clear-is ∙ ap not (le-ltb number count h)
+
+  pub is-not-clear : number < count → clear n v count P ≡ false
+  is-not-clear h = clear-is ∙ ap not (lt-ltb number count h)
 
 -- ---- the reach
 
@@ -96,7 +109,7 @@ module _ {l : Bool} {a : ℕ} {m : Machine} {clear : List ℤ → Bool} {w : ℕ
         stops : (o : ReachResult) → ((t i : ℕ) → o ≡ Ended t i → ⊥) → andThen (testedStepOf E P o) rest ≡ reachedOf F P o
         stops (Ended t i) n = absurd (n t i refl)
         stops (result.Unsettled i) n = refl
-        stops (Unsafe t i) n = refl
+        stops (Unsafe t j i) n = refl
         stops (result.Exhausted i) n = refl
 
     -- it ended, and X is what is swept then
@@ -119,5 +132,5 @@ pub ended-not : (r : ReachResult) → ((t d : ℕ) → r ≡ Ended t d → ⊥) 
 unfolding isEnded
 ended-not (Ended t d) n e = n t d refl
 ended-not (result.Unsettled d) n e = differ e refl
-ended-not (Unsafe t d) n e = differ e refl
+ended-not (Unsafe t j d) n e = differ e refl
 ended-not (result.Exhausted d) n e = differ e refl

@@ -11,13 +11,13 @@ use Rattle.boxes_spec.specs.Reach.{Reached}
 use Rattle.boxes.specs.declared.steps.ReachPlan.{ReachPlan}
 use Rattle.boxes.specs.declared.steps.ReachResult.{ReachResult}
 use Rattle.boxes.specs.declared.steps.ReachResult.the-variants.{Ended, Unsettled, Unsafe, Exhausted}
-use Rattle.boxes.specs.ReachPlan.{testedStepOn, reachOn}
+use Rattle.boxes.specs.ReachPlan.{lowestOn, testedStepOn, reachOn}
 
 -- what comes of steps: `value` is what they give over the ticks that they cover, and P is the swept box of the step that failed
 unfoldable pub resultOf : {A : Type 0} → (ℕ → A) → List ℤ → ReachResult → Result A
 resultOf value P (Ended t c) = ok (value t) c
 resultOf value P (Unsettled c) = failed unsettled c
-resultOf value P (Unsafe left c) = failed (unsafe left P) c
+resultOf value P (Unsafe left number c) = failed (unsafe left P) c
 resultOf value P (Exhausted c) = exhausted c
 
 -- a tested step with the end box E and the swept box P
@@ -31,15 +31,22 @@ reachedOf E W = resultOf (λ t. record { end = E; swept = W }) W
 unfoldable pub isEnded : ReachResult → Bool
 isEnded (Ended t c) = true
 isEnded (Unsettled c) = false
-isEnded (Unsafe left c) = false
+isEnded (Unsafe left number c) = false
 isEnded (Exhausted c) = false
 
 -- the ticks that it covers, if it ended
 unfoldable pub ticksOf : ReachResult → ℕ
 ticksOf (Ended t c) = t
 ticksOf (Unsettled c) = 0
-ticksOf (Unsafe left c) = 0
+ticksOf (Unsafe left number c) = 0
 ticksOf (Exhausted c) = 0
+
+-- if a no-go box was met, its number is j
+unfoldable pub Names : ℕ → ReachResult → Type 0
+Names j (Ended t c) = Unit {0}
+Names j (Unsettled c) = Unit {0}
+Names j (Unsafe left number c) = number ≡ j
+Names j (Exhausted c) = Unit {0}
 
 -- a step from A ended in B: the working box F is that too, and P is the swept box
 pub record Arrived (n : ℕ) (A B F P : List ℤ) : Type 0 where
@@ -49,11 +56,13 @@ pub record Arrived (n : ℕ) (A B F P : List ℤ) : Type 0 where
 -- a tested step from A answers r, and leaves the end box B, the working box F and the swept box P
 pub record TestedDone (p : ReachPlan) (v : List ℤ) (left c : ℕ) (A : List ℤ) (r : ReachResult) (B F P : List ℤ) : Type 0 where
   pub same : testedStepOf B P r ≡ testedStepOn p v A left c
+  pub names : Names (lowestOn p v P) r
   pub arrived : isEnded r ≡ true → Arrived (p .plant .n) A B F P
   pub trimmed : trim (p .plant .n) B ≡ B
 
 -- a reach of T ticks from A answers r, and leaves the end box B and the swept box W
 pub record ReachDone (p : ReachPlan) (v : List ℤ) (T c : ℕ) (A : List ℤ) (r : ReachResult) (B W : List ℤ) : Type 0 where
   pub same : reachedOf B W r ≡ reachOn p v A T c
+  pub names : Names (lowestOn p v W) r
   pub covered : isEnded r ≡ true → ticksOf r ≡ T
   pub trimmed : trim (p .plant .n) B ≡ B

@@ -9,7 +9,7 @@ ghost use Rattle.boxes_rates.specs.Plant.{machineOf};
 ghost use Rattle.boxes.specs.Limits.{ReachAsked, TestedAsked};
 ghost use Rattle.boxes.specs.ReachResult.{ReachDone, TestedDone};
 use boxes_rates::Plant;
-use boxes_shape::compare::meets_unsafe;
+use boxes_shape::compare::lowest_met;
 use boxes_shape::motion::arrive;
 use boxes_shape::motion::join;
 use boxes_step::Budget;
@@ -49,13 +49,25 @@ pub struct ReachPlan {
 // What a tested step or a reach came to, with the count of rounds after it. The boxes are lent beside it.
 pub enum ReachResult {
     // the ticks that it covers
-    Ended { ticks: usize, count: u32 },
+    Ended {
+        ticks: usize,
+        count: u32,
+    },
     // no length settled; it does not happen
-    Unsettled { count: u32 },
-    // a step's swept box shares a state with a no-go box: the ticks left when that step began
-    Unsafe { left: usize, count: u32 },
+    Unsettled {
+        count: u32,
+    },
+    // a step's swept box shares a state with a no-go box: the ticks left when that step began, and the lowest number of
+    // such a box
+    Unsafe {
+        left: usize,
+        number: usize,
+        count: u32,
+    },
     // a round was due and none was left
-    Exhausted { count: u32 },
+    Exhausted {
+        count: u32,
+    },
 }
 
 fn smaller(a: usize, b: usize) -> usize
@@ -97,9 +109,11 @@ fn tested_step(
             count: after,
         } => {
             arrive(plant.n, covered, &rates, work, at, swept);
-            if meets_unsafe(plant.n, swept, sheet, plan.boxes) {
+            let number = lowest_met(plant.n, swept, sheet, plan.boxes);
+            if number < plan.boxes {
                 return ReachResult::Unsafe {
                     left: left,
+                    number: number,
                     count: after,
                 };
             }

@@ -1,11 +1,11 @@
 // Boxes of states: 2N numbers, variable i's lower side at i, its upper side at i + N, and 0 at places that no variable has. Here
-// they are taken from a sheet or a caller, and compared: whether one lies in another or meets a no-go box. The definitions
-// are in machine_spec/specs/Box.
+// they are taken from a sheet or a caller, and compared: whether one lies in another, and which no-go box it meets. The
+// definitions are in sheet_spec/specs/Box and machine_spec/specs/Box.
 ghost use mathlib.Core.Path.{_≡_};
 ghost use Prim.Native.Nat.{_+_, _≤_};
 ghost use Rattle.sheet_spec.specs.Limits.{maxBoxes};
 ghost use Rattle.sheet_spec.specs.Slots as slots;
-ghost use Rattle.sheet_spec.specs.Box.{any, meets};
+ghost use Rattle.sheet_spec.specs.Box.{lowestMet, meets};
 ghost use Rattle.machine_spec.specs.Box.{trim, within};
 use boxes_arithmetic::both_le;
 use sheet_spec::slots::BOX_SIZE;
@@ -86,18 +86,18 @@ pub fn meets(n: usize, boxed: &[i64; BOX_SIZE], sheet: &[i32; SLOTS], slot: usiz
     true
 }
 
-// The box shares a state with one of the first `count` no-go boxes.
-pub fn meets_unsafe(n: usize, boxed: &[i64; BOX_SIZE], sheet: &[i32; SLOTS], count: usize) -> bool
+// The lowest number, from 0, of the first `count` no-go boxes that share a state with the box, or `count` if none does.
+pub fn lowest_met(n: usize, boxed: &[i64; BOX_SIZE], sheet: &[i32; SLOTS], count: usize) -> usize
     requires { ⌜ (n ≤ slots.N) × (count ≤ maxBoxes) ⌝ }
-    ensures { λ r. ⌜ r ≡ any count (λ j. meets n (now (boxed .entry)) (slots.unsafeBox (now (sheet .entry)) j)) ⌝ }
+    ensures { λ r. ⌜ r ≡ lowestMet n (now (sheet .entry)) count (now (boxed .entry)) ⌝ }
 {
     let mut tested: usize = 0;
     while tested < count {
         let slot = FIRST_UNSAFE + tested * BOX_SIZE;
         if meets(n, boxed, sheet, slot) {
-            return true;
+            return tested;
         }
         tested += 1;
     }
-    false
+    count
 }

@@ -8,17 +8,17 @@ use Rattle.sheet_spec.specs.Slots.{δ, α, ρ, recoveryBox}
 use Rattle.machine_spec.specs.Machine.{command}
 use Rattle.boxes_spec.specs.Step.{andThen}
 use Rattle.boxes_spec.specs.Reach.{reach, steps}
-use Rattle.decision_spec.specs.Decision.{follow, attempt, attempts, decisionPhases, decisionOf, recoveryPhases, recoveryOf}
+use Rattle.decision_spec.specs.Decision.{follow, attempt, attempts, lastReply, decisionPhases, decisionOf, recoveryPhases, recoveryOf}
 use Rattle.decision.specs.AttemptPlan.{attemptOf}
 
 -- the law that is asked for, a command, for δ ticks, then the baseline for α
 pub plan-decides : (v B : List ℤ) {ordered u : ℤ} (allowed : ℕ) {first plain width : ℕ} → ordered ≡ u → first ≡ δ v → plain ≡ α v → width ≡ max first plain
-    → attempts (attemptOf (record { budget = record { limited = true; allowance = allowed }; command = ordered; first = first; then = plain }) v B) width width 0 ≡ decisionOf v B (command u) allowed
+    → lastReply (attempts (attemptOf (record { budget = record { limited = true; allowance = allowed }; command = ordered; first = first; then = plain }) v B) width width 0) ≡ decisionOf v B (command u) allowed
 unfolding decisionOf decisionPhases
 plan-decides v B allowed order-is first-is plain-is width-is = rw (width-is, order-is, first-is, plain-is) refl
 
 -- the baseline for ρ ticks: a phase of no ticks changes nothing and costs no round
 pub plan-checks : (v : List ℤ) {start : List ℤ} {ticks : ℕ} (u : ℤ) → start ≡ recoveryBox v → ticks ≡ ρ v
-    → attempts (attemptOf (record { budget = record { limited = false; allowance = 0 }; command = u; first = 0; then = ticks }) v start) ticks ticks 0 ≡ recoveryOf v
+    → lastReply (attempts (attemptOf (record { budget = record { limited = false; allowance = 0 }; command = u; first = 0; then = ticks }) v start) ticks ticks 0) ≡ recoveryOf v
 unfolding recoveryOf recoveryPhases attempt follow andThen reach steps
 plan-checks v u start-is ticks-is = rw (start-is, ticks-is) refl

@@ -10,7 +10,7 @@ use lib.Dec.{leb}
 use lib.IntN.{ℤ}
 use Rattle.sheet_spec.specs.Slots.{N, vars, boxes, recoveryBox}
 use Rattle.sheet_spec.specs.Valid.{Valid}
-use Rattle.sheet_spec.specs.Box.{all}
+use Rattle.sheet_spec.specs.Box.{all, lowestMet}
 use Rattle.machine_spec.specs.Box.{trim, within}
 use Rattle.boxes_rates.specs.declared.Plant.{Plant}
 use Rattle.machine_spec.specs.Machine.{Law, Machine, machine}
@@ -24,19 +24,22 @@ use Rattle.boxes.specs.declared.steps.ReachResult.the-variants as result
 use Rattle.boxes_spec.specs.Step.{Result, ok, failed, exhausted, unrecovered, andThen}
 use Rattle.sheet_spec.specs.Limits.{maxTicks, maxWidth}
 use Rattle.boxes_spec.specs.Reach.{Reached, reach, clear}
-use Rattle.boxes.specs.ReachResult.{resultOf, reachedOf}
+use Rattle.boxes.specs.ReachResult.{resultOf, reachedOf, Names}
 use Rattle.boxes_spec.proofs.Stages.{value, failure, spent}
 use Rattle.boxes.proofs.Bounds.{reach-near}
 use Rattle.integers.proofs.Tests.{pick-yes, pick-no}
 use Rattle.decision_answers.specs.declared.Decision.the-variants.{Keep, Finest, Spent}
 use Rattle.decision.specs.declared.attempt.AttemptPlan.{AttemptPlan}
+use Rattle.decision.specs.declared.attempt.Failure.{Failure}
+use Rattle.decision.specs.declared.attempt.Failure.the-variants.{Unrecovered}
 use Rattle.decision.specs.declared.attempt.AttemptResult.{AttemptResult}
 use Rattle.decision.specs.declared.attempt.AttemptResult.the-variants.{Succeeded, Failed, Exhausted}
-use Rattle.decision_spec.specs.Decision.{Phase, phase, follow, attempt, keep, finest, Reply, answered, outcome, attempts}
+use Rattle.decision_spec.specs.Decision.{Phase, phase, follow, attempt, keep, finest, Reply, answered}
 use Rattle.decision_spec.specs.Decision as decision
 use Rattle.decision_answers.specs.Decision.{replyOf}
-use Rattle.decision.specs.AttemptResult.{summary}
+use Rattle.decision.specs.AttemptResult.{failureOf, summary}
 use Rattle.decision.specs.AttemptPlan.{attemptOf}
+use Rattle.decision_spec.proofs.Attempts.{outcome, replyFrom, reply-turn}
 use Rattle.decision_spec.proofs.Allowance.{ticksOf, Spends, attempt-takes}
 
 -- ---- a reach under the sheet's machine
@@ -59,6 +62,10 @@ module _ {v : List ℤ} (plant : Plant) (law : Law) (under : machineOf plant v �
 
   pub vars-trimmed : {S : List ℤ} → trim (plant .n) S ≡ S → trim (vars v) S ≡ S
   vars-trimmed {S} trimmed = subst (λ (n : ℕ). trim n S ≡ S) plant-vars trimmed
+
+  -- the lowest number of a no-go box is the sheet's
+  pub plant-names : {count : ℕ} (W : List ℤ) (r : ReachResult) → count ≡ boxes v → Names (lowestMet (plant .n) v count W) r → Names (lowestMet (vars v) v (boxes v) W) r
+  plant-names W r counted names = subst (λ (n : ℕ). Names (lowestMet n v (boxes v) W) r) plant-vars (subst (λ (m : ℕ). Names (lowestMet (plant .n) v m W) r) counted names)
 
   pub plant-reach : (limited : Bool) (allowance count w : ℕ) (S : List ℤ) (ticks c : ℕ) → count ≡ boxes v
       → reach limited allowance (machineOf plant v) (clear (plant .n) v count) w S ticks c ≡ reached limited allowance v w (phase law ticks) S c
@@ -101,36 +108,36 @@ module _ (limited : Bool) (allowance : ℕ) (v : List ℤ) (w : ℕ) where
     phase-on t d ended = sym phase-turn ∙ ap (λ (o : ReachResult). rest (reachedOf E W o)) ended
 
     -- it did not end
-    pub phase-stops : ((t d : ℕ) → r ≡ Ended t d → ⊥) → summary (reachedOf E W r) ≡ summary (attempt limited allowance v w (p ∷ ps) S c)
+    pub phase-stops : ((t d : ℕ) → r ≡ Ended t d → ⊥) → summary v (reachedOf E W r) ≡ summary v (attempt limited allowance v w (p ∷ ps) S c)
     unfolding andThen resultOf summary
-    phase-stops not-ended = stops r not-ended ∙ ap (summary {A = List ℤ}) phase-turn
+    phase-stops not-ended = stops r not-ended ∙ ap (summary {A = List ℤ} v) phase-turn
       where
-        stops : (o : ReachResult) → ((t d : ℕ) → o ≡ Ended t d → ⊥) → summary (reachedOf E W o) ≡ summary (rest (reachedOf E W o))
+        stops : (o : ReachResult) → ((t d : ℕ) → o ≡ Ended t d → ⊥) → summary v (reachedOf E W o) ≡ summary v (rest (reachedOf E W o))
         stops (Ended t d) not-ended = absurd (not-ended t d refl)
         stops (Unsettled d) not-ended = refl
-        stops (Unsafe t d) not-ended = refl
+        stops (Unsafe t j d) not-ended = refl
         stops (result.Exhausted d) not-ended = refl
 
   -- no phase is left
-  pub attempt-succeeds : (E : List ℤ) (c : ℕ) → within (vars v) E (recoveryBox v) ≡ true → Succeeded c ≡ summary (attempt limited allowance v w [] E c)
+  pub attempt-succeeds : (E : List ℤ) (c : ℕ) → within (vars v) E (recoveryBox v) ≡ true → Succeeded c ≡ summary v (attempt limited allowance v w [] E c)
   unfolding attempt follow andThen summary
-  attempt-succeeds E c inside = ap (summary {A = List ℤ}) (sym (pick-yes (within (vars v) E (recoveryBox v)) (ok E c) (failed unrecovered c) inside))
+  attempt-succeeds E c inside = ap (summary {A = List ℤ} v) (sym (pick-yes (within (vars v) E (recoveryBox v)) (ok E c) (failed unrecovered c) inside))
 
-  pub attempt-fails : (E : List ℤ) (c : ℕ) → within (vars v) E (recoveryBox v) ≡ false → Failed c ≡ summary (attempt limited allowance v w [] E c)
-  unfolding attempt follow andThen summary
-  attempt-fails E c outside = ap (summary {A = List ℤ}) (sym (pick-no (within (vars v) E (recoveryBox v)) (ok E c) (failed unrecovered c) outside))
+  pub attempt-fails : (E : List ℤ) (c : ℕ) → within (vars v) E (recoveryBox v) ≡ false → Failed Unrecovered c ≡ summary v (attempt limited allowance v w [] E c)
+  unfolding attempt follow andThen summary failureOf
+  attempt-fails E c outside = ap (summary {A = List ℤ} v) (sym (pick-no (within (vars v) E (recoveryBox v)) (ok E c) (failed unrecovered c) outside))
 
 -- ---- attempts at ever smaller widths
 
 -- the count after an attempt that failed
 pub failed-count : (plan : AttemptPlan) {v : List ℤ} (S : List ℤ) (w c : ℕ) → Valid v → 0 < w → w ≤ maxWidth → plan .first + plan .then ≤ maxTicks
-    → {d : ℕ} → summary (attemptOf plan v S w c) ≡ Failed d → d ≤ c + 73000
+    → {why : Failure} {d : ℕ} → summary v (attemptOf plan v S w c) ≡ Failed why d → d ≤ c + 73000
 unfolding ticksOf summary
 failed-count plan {v} S w c sheet some most ticks = few (attempt-takes _ _ sheet w 9 some (omega arith) _ S c)
   where
-    few : {result : Result (List ℤ)} → Spends (plan .budget .limited) (plan .budget .allowance) c (73 * (plan .first + (plan .then + 0))) result → {d : ℕ} → summary result ≡ Failed d → d ≤ c + 73000
+    few : {result : Result (List ℤ)} → Spends (plan .budget .limited) (plan .budget .allowance) c (73 * (plan .first + (plan .then + 0))) result → {why : Failure} {d : ℕ} → summary v result ≡ Failed why d → d ≤ c + 73000
     few (value p taken) fails = let no : _≡_ {A = ℕ} 0 1 = cc in absurd (omega arith)
-    few (failure {c′ = counted} q taken) {d} fails = let same : counted ≡ d = cc in omega (arith, taken .few)
+    few (failure {c′ = counted} q taken) {d = d} fails = let same : counted ≡ d = cc in omega (arith, taken .few)
     few (spent a b taken) fails = let no : _≡_ {A = ℕ} 0 1 = cc in absurd (omega arith)
 
 -- the loop has come from the width w to the width k, after c rounds
@@ -138,7 +145,7 @@ pub record Attempting (at : ℕ → ℕ → Result (List ℤ)) (w k c : ℕ) : T
   pub some : 0 < k
   pub fuel : ℕ
   pub enough : k ≤ fuel
-  pub same : attempts at w w 0 ≡ attempts at fuel k c
+  pub same : replyFrom at w w 0 ≡ replyFrom at fuel k c
 
 pub attempting-starts : (at : ℕ → ℕ → Result (List ℤ)) (w : ℕ) → 0 < w → Attempting at w w 0
 attempting-starts at w some = record { some = some; fuel = w; enough = le-refl w; same = refl }
@@ -146,39 +153,38 @@ attempting-starts at w some = record { some = some; fuel = w; enough = le-refl w
 -- what an attempt comes to at the width w, by its summary
 unfoldable outcomeOf : AttemptResult → ℕ → (ℕ → Reply) → Reply
 outcomeOf (Succeeded c) w next = answered keep w c
-outcomeOf (Failed c) w next = elim (leb w 1) [ true ↦ answered finest w c | false ↦ next c ]
+outcomeOf (Failed why c) w next = elim (leb w 1) [ true ↦ answered finest w c | false ↦ next c ]
 outcomeOf (Exhausted c) w next = answered decision.spent w c
 
-outcome-is : (result : Result (List ℤ)) (w : ℕ) (next : ℕ → Reply) → outcome result w next ≡ outcomeOf (summary result) w next
+outcome-is : (v : List ℤ) (result : Result (List ℤ)) (w : ℕ) (next : ℕ → Reply) → outcome result w next ≡ outcomeOf (summary v result) w next
 unfolding outcome summary outcomeOf
-outcome-is (ok E c) w next = refl
-outcome-is (failed why c) w next = refl
-outcome-is (exhausted c) w next = refl
+outcome-is v (ok E c) w next = refl
+outcome-is v (failed why c) w next = refl
+outcome-is v (exhausted c) w next = refl
 
--- the attempt at the width k came to r
-module _ {at : ℕ → ℕ → Result (List ℤ)} {w k c : ℕ} (attempting : Attempting at w k c) (r : AttemptResult) (attempted : r ≡ summary (at k c)) where
+-- the attempt at the width k on the sheet v came to r
+module _ {at : ℕ → ℕ → Result (List ℤ)} {w k c : ℕ} (attempting : Attempting at w k c) (v : List ℤ) (r : AttemptResult) (attempted : r ≡ summary v (at k c)) where
   abbrev next : ℕ → Reply
-  next d = attempts at (attempting .fuel - 1) (k / 2) d
+  next = replyFrom at (attempting .fuel - 1) (k / 2)
 
-  attempting-turn : (o : AttemptResult) → r ≡ o → attempts at w w 0 ≡ outcomeOf o k next
-  unfolding attempts
+  attempting-turn : (o : AttemptResult) → r ≡ o → replyFrom at w w 0 ≡ outcomeOf o k next
   attempting-turn o is =
       let more : attempting .fuel ≡ suc (attempting .fuel - 1) = omega (arith, attempting .some, attempting .enough) in
-      attempting .same ∙ ap (λ (fuel : ℕ). attempts at fuel k c) more
-      ∙ outcome-is (at k c) k next ∙ ap (λ (o : AttemptResult). outcomeOf o k next) (sym attempted ∙ is)
+      attempting .same ∙ ap (λ (fuel : ℕ). replyFrom at fuel k c) more ∙ reply-turn at (attempting .fuel - 1) k c
+      ∙ outcome-is v (at k c) k next ∙ ap (λ (o : AttemptResult). outcomeOf o k next) (sym attempted ∙ is)
 
-  pub attempting-keeps : (d : ℕ) → r ≡ Succeeded d → replyOf (Keep k d) ≡ attempts at w w 0
+  pub attempting-keeps : (d : ℕ) → r ≡ Succeeded d → replyOf (Keep k d) ≡ replyFrom at w w 0
   unfolding replyOf outcomeOf
   attempting-keeps d succeeds = sym (attempting-turn (Succeeded d) succeeds)
 
-  pub attempting-spent : (d : ℕ) → r ≡ Exhausted d → replyOf (Spent k d) ≡ attempts at w w 0
+  pub attempting-spent : (d : ℕ) → r ≡ Exhausted d → replyOf (Spent k d) ≡ replyFrom at w w 0
   unfolding replyOf outcomeOf
   attempting-spent d exhausts = sym (attempting-turn (Exhausted d) exhausts)
 
-  module _ (d : ℕ) (fails : r ≡ Failed d) where
-    pub attempting-finest : k ≤ 1 → replyOf (Finest k d) ≡ attempts at w w 0
+  module _ (why : Failure) (d : ℕ) (fails : r ≡ Failed why d) where
+    pub attempting-finest : k ≤ 1 → replyOf (Finest k d) ≡ replyFrom at w w 0
     unfolding replyOf outcomeOf
-    attempting-finest least = sym (attempting-turn (Failed d) fails ∙ pick-yes (leb k 1) _ _ (le-leb k 1 least))
+    attempting-finest least = sym (attempting-turn (Failed why d) fails ∙ pick-yes (leb k 1) _ _ (le-leb k 1 least))
 
     pub attempting-on : 1 < k → Attempting at w (k / 2) d
     unfolding outcomeOf
@@ -187,5 +193,5 @@ module _ {at : ℕ → ℕ → Result (List ℤ)} {w k c : ℕ} (attempting : At
           some = omega arith;
           fuel = attempting .fuel - 1;
           enough = omega (arith, attempting .enough);
-          same = attempting-turn (Failed d) fails ∙ pick-no (leb k 1) _ _ (lt-leb k 1 wider);
+          same = attempting-turn (Failed why d) fails ∙ pick-no (leb k 1) _ _ (lt-leb k 1 wider);
         }

@@ -4,8 +4,10 @@
 ghost use mathlib.Core.Path.{_≡_};
 ghost use mathlib.Core.List.{List};
 ghost use lib.IntN.{ℤ};
-ghost use Rattle.boxes.specs.ReachResult.{reachedOf};
-ghost use Rattle.decision_spec.specs.Decision.{attempts};
+ghost use Rattle.sheet_spec.specs.Slots.{boxes, vars};
+ghost use Rattle.sheet_spec.specs.Box.{lowestMet};
+ghost use Rattle.boxes.specs.ReachResult.{Names, reachedOf};
+ghost use Rattle.decision_spec.specs.Decision.{attempts, lastReply};
 ghost use Rattle.decision_answers.specs.Decision.{replyOf};
 ghost use Rattle.decision.specs.AttemptPlan.{attemptOf};
 ghost use Rattle.decision.specs.AttemptResult.{summary};
@@ -31,22 +33,46 @@ pub struct AttemptPlan {
     pub then: usize,
 }
 
+// Why an attempt failed.
+pub enum Failure {
+    // no length settled; it does not happen
+    Unsettled,
+    // a step's swept box shares a state with a no-go box: the ticks of its phase left when that step began, and the lowest
+    // number of such a box
+    Unsafe { left: usize, number: usize },
+    // the last end box is not within the recovery box
+    Unrecovered,
+}
+
 // What an attempt came to, with the count of rounds after it.
 pub enum AttemptResult {
     Succeeded { count: u32 },
-    Failed { count: u32 },
+    Failed { why: Failure, count: u32 },
     // a round was due and none was left
     Exhausted { count: u32 },
 }
 
-// A reach as an attempt's outcome.
+// A reach on the sheet v with the swept box W as an attempt's outcome.
 fn summary_of(reached: ReachResult) -> AttemptResult
-    ensures { λ r. ⌜ ((E W : List ℤ) → r ≡ summary (reachedOf E W reached)) ⌝ }
+    ensures { λ r. ⌜ ((v E W : List ℤ) → Names (lowestMet (vars v) v (boxes v) W) reached → r ≡ summary v (reachedOf E W reached)) ⌝ }
 {
     match reached {
         ReachResult::Ended { ticks: _, count } => AttemptResult::Succeeded { count: count },
-        ReachResult::Unsettled { count } => AttemptResult::Failed { count: count },
-        ReachResult::Unsafe { left: _, count } => AttemptResult::Failed { count: count },
+        ReachResult::Unsettled { count } => AttemptResult::Failed {
+            why: Failure::Unsettled,
+            count: count,
+        },
+        ReachResult::Unsafe {
+            left,
+            number,
+            count,
+        } => AttemptResult::Failed {
+            why: Failure::Unsafe {
+                left: left,
+                number: number,
+            },
+            count: count,
+        },
         ReachResult::Exhausted { count } => AttemptResult::Exhausted { count: count },
     }
 }
@@ -60,7 +86,7 @@ fn attempt(
     count: u32,
 ) -> AttemptResult
     requires { ⌜ AttemptAsked plan (now sheet) (now start) width count ⌝ }
-    ensures { λ r. ⌜ r ≡ summary (attemptOf plan (now (sheet .entry)) (now (start .entry)) width count) ⌝ }
+    ensures { λ r. ⌜ r ≡ summary (now (sheet .entry)) (attemptOf plan (now (sheet .entry)) (now (start .entry)) width count) ⌝ }
 {
     let budget = plan.budget;
     let p = plant(sheet, false, plan.command);
@@ -92,7 +118,10 @@ fn attempt(
     if within(n, &end, &recovery) {
         AttemptResult::Succeeded { count: d }
     } else {
-        AttemptResult::Failed { count: d }
+        AttemptResult::Failed {
+            why: Failure::Unrecovered,
+            count: d,
+        }
     }
 }
 
@@ -104,7 +133,7 @@ pub fn attempts(
     width: usize,
 ) -> Decision
     requires { ⌜ AttemptsAsked plan (now sheet) (now start) width ⌝ }
-    ensures { λ r. ⌜ replyOf r ≡ attempts (attemptOf plan (now (sheet .entry)) (now (start .entry))) width width 0 ⌝ }
+    ensures { λ r. ⌜ replyOf r ≡ lastReply (attempts (attemptOf plan (now (sheet .entry)) (now (start .entry))) width width 0) ⌝ }
 {
     let mut w = width;
     let mut counted: u32 = 0;
@@ -119,7 +148,7 @@ pub fn attempts(
                 width: w as u32,
                 rounds: count,
             },
-            AttemptResult::Failed { count } => {
+            AttemptResult::Failed { why: _, count } => {
                 if w <= 1 {
                     return Decision::Finest {
                         width: w as u32,

@@ -1,6 +1,6 @@
 -- The rounds of a decision and of a recovery check: never past the allowance, and at most 370,000, so that an allowance of 730,000 is never spent. Their
 -- widths, and the parts of the packed answer. Assumes nothing.
-use mathlib.Core.Path.{_≡_, refl, sym, subst}
+use mathlib.Core.Path.{_≡_, refl, sym, _∙_, subst}
 use mathlib.Core.Bool.{Bool, true, false}
 use mathlib.Core.List.{List, [], _∷_}
 use Prim.Native.Nat.{ℕ, zero, suc, _+_, _*_, _/_, _%_, _^_, _≤_, _<_, max}
@@ -26,7 +26,8 @@ use Rattle.boxes_spec.proofs.Refusals.{law-most, sides-most}
 use Rattle.boxes_spec.proofs.Stages.{Counted, Takes, value, failure, spent, counted-none, counted-less, counted-on, takes-map, takes-then, takes-if}
 use Rattle.boxes_spec.proofs.Settled.{reach-takes}
 use Rattle.decision_spec.specs.Question.{questionLength, measured, questionHead, wellFormed, formRefusal, allowanceRefusal, headRefusal, questionRefusal, allowanceOf}
-use Rattle.decision_spec.specs.Decision.{Phase, follow, attempt, keep, finest, spent, Reply, refused, answered, outcome, attempts, decisionPhases, decisionOf, recoveryPhases, recoveryOf, checkRecovery, decide, codeOf, widthOf, roundsOf, packed}
+use Rattle.decision_spec.specs.Decision.{Phase, follow, attempt, keep, finest, spent, Reply, refused, answered, decisionPhases, decisionOf, recoveryPhases, recoveryOf, checkRecovery, decide, codeOf, widthOf, roundsOf, packed}
+use Rattle.decision_spec.proofs.Attempts.{outcome, replyFrom, reply-turn}
 
 -- ---- an attempt
 
@@ -92,13 +93,14 @@ module _ {l : Bool} {a c most w : ℕ} where
 
 module _ (attemptAt : ℕ → ℕ → Result (List ℤ)) (l : Bool) (a ticks : ℕ)
     (takes : (w e c : ℕ) → 0 < w → w < 2 ^ suc e → Spends l a c ((8 * e + 1) * ticks) (attemptAt w c)) where
-  pub attempts-concluded : (fuel w c e : ℕ) → 0 < w → w ≤ fuel → w < 2 ^ suc e → Concluded l a c (mostATick e * ticks) w (attempts attemptAt fuel w c)
-  unfolding attempts mostATick
+  pub attempts-concluded : (fuel w c e : ℕ) → 0 < w → w ≤ fuel → w < 2 ^ suc e → Concluded l a c (mostATick e * ticks) w (replyFrom attemptAt fuel w c)
+  unfolding mostATick
   attempts-concluded zero w c e z f h = absurd (omega arith)
-  attempts-concluded (suc fuel) w c zero z f h = outcome-concluded _ _ z (omega arith) (takes w 0 c z h) (λ c′ i n. absurd (omega arith))
+  attempts-concluded (suc fuel) w c zero z f h =
+      rw (reply-turn attemptAt fuel w c) (outcome-concluded _ _ z (omega arith) (takes w 0 c z h) (λ c′ i n. absurd (omega arith)))
   attempts-concluded (suc fuel) w c (suc e) z f h =
-      outcome-concluded _ _ z (omega arith) (takes w (suc e) c z h)
-      (λ c′ i n. concluded-on (omega arith) (omega arith) n (attempts-concluded fuel (w / 2) c′ e (omega arith) (omega arith) (omega arith)))
+      rw (reply-turn attemptAt fuel w c) (outcome-concluded _ _ z (omega arith) (takes w (suc e) c z h)
+      (λ c′ i n. concluded-on (omega arith) (omega arith) n (attempts-concluded fuel (w / 2) c′ e (omega arith) (omega arith) (omega arith))))
 
 outcome-same : (g : Result (List ℤ)) (w : ℕ) (next other : ℕ → Reply) → (1 < w → (c : ℕ) → next c ≡ other c) → outcome g w next ≡ outcome g w other
 unfolding outcome
@@ -111,10 +113,11 @@ outcome-same (failed why c) w next other k = by (leb w 1) refl
 outcome-same (exhausted c) w next other k = refl
 
 -- the fuel is not used up: more of it changes nothing
-pub attempts-fuel : (attemptAt : ℕ → ℕ → Result (List ℤ)) (fuel w c : ℕ) → 0 < w → w ≤ fuel → attempts attemptAt (suc fuel) w c ≡ attempts attemptAt fuel w c
-unfolding attempts
+pub attempts-fuel : (attemptAt : ℕ → ℕ → Result (List ℤ)) (fuel w c : ℕ) → 0 < w → w ≤ fuel → replyFrom attemptAt (suc fuel) w c ≡ replyFrom attemptAt fuel w c
 attempts-fuel attemptAt zero w c z f = absurd (omega arith)
-attempts-fuel attemptAt (suc fuel) w c z f = outcome-same (attemptAt w c) w _ _ (λ i c′. attempts-fuel attemptAt fuel (w / 2) c′ (omega arith) (omega arith))
+attempts-fuel attemptAt (suc fuel) w c z f =
+    reply-turn attemptAt (suc fuel) w c
+    ∙ outcome-same (attemptAt w c) w _ _ (λ i c′. attempts-fuel attemptAt fuel (w / 2) c′ (omega arith) (omega arith)) ∙ sym (reply-turn attemptAt fuel w c)
 
 -- ---- on values: at most 1,000 ticks and ten widths
 
@@ -123,7 +126,7 @@ abbrev pub Answer : Bool → ℕ → Reply → Type 0
 Answer l a r = Concluded l a 0 370000 1000 r
 
 module _ {v : List ℤ} (wf : Valid v) where
-  phases-answer : (l : Bool) (a : ℕ) (ps : List Phase) (S : List ℤ) (w : ℕ) → 0 < w → w ≤ 1000 → ticksOf ps ≤ 1000 → Answer l a (attempts (λ w c. attempt l a v w ps S c) w w 0)
+  phases-answer : (l : Bool) (a : ℕ) (ps : List Phase) (S : List ℤ) (w : ℕ) → 0 < w → w ≤ 1000 → ticksOf ps ≤ 1000 → Answer l a (replyFrom (λ w c. attempt l a v w ps S c) w w 0)
   unfolding mostATick
   phases-answer l a ps S w z h t =
       concluded-on (omega arith) h (counted-none 0)

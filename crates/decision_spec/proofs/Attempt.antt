@@ -20,7 +20,8 @@ use Rattle.boxes_spec.specs.Step.{Result, ok, failed, exhausted, andThen}
 use Rattle.boxes_spec.specs.Reach.{clear}
 use Rattle.boxes_spec.proofs.Sound.{reach-sound, cleared-avoids}
 use Rattle.decision_spec.specs.Question.{questionRefusal, questionOf}
-use Rattle.decision_spec.specs.Decision.{Phase, follow, attempt, finest, Reply, refused, answered, outcome, attempts, decisionPhases, decisionOf, recoveryPhases, recoveryOf, decisionTo, checkRecovery, decide, isKeep}
+use Rattle.decision_spec.specs.Decision.{Phase, follow, attempt, finest, Reply, refused, answered, decisionPhases, decisionOf, recoveryPhases, recoveryOf, decisionTo, checkRecovery, decide, isKeep}
+use Rattle.decision_spec.proofs.Attempts.{outcome, replyFrom, reply-none, reply-turn}
 use Rattle.decision_spec.proofs.Cover.{Covered, covered-by}
 
 -- ---- stages that give a value
@@ -94,12 +95,13 @@ pub record Succeeded (attemptAt : ℕ → ℕ → Result (List ℤ)) : Type 0 wh
   pub after : ℕ
   pub gives : attemptAt width before ≡ ok end after
 
-pub attempts-keep : (attemptAt : ℕ → ℕ → Result (List ℤ)) (fuel w c : ℕ) → T (isKeep (attempts attemptAt fuel w c)) → Succeeded attemptAt
-unfolding attempts isKeep
-attempts-keep attemptAt zero w c t = absurd t
-attempts-keep attemptAt (suc fuel) w c t =
-    outcome-keep (attemptAt w c) w (λ c′. attempts attemptAt fuel (w / 2) c′)
-    (λ E c′ e. record { width = w; before = c; end = E; after = c′; gives = e }) (λ c′. attempts-keep attemptAt fuel (w / 2) c′) t
+module _ (attemptAt : ℕ → ℕ → Result (List ℤ)) where
+  pub attempts-keep : (fuel w c : ℕ) → T (isKeep (replyFrom attemptAt fuel w c)) → Succeeded attemptAt
+  unfolding isKeep
+  attempts-keep zero w c t = absurd (subst (λ (r : Reply). T (isKeep r)) (reply-none attemptAt w c) t)
+  attempts-keep (suc fuel) w c t =
+      outcome-keep (attemptAt w c) w (replyFrom attemptAt fuel (w / 2)) (λ E c′ e. record { width = w; before = c; end = E; after = c′; gives = e })
+      (attempts-keep fuel (w / 2)) (subst (λ (r : Reply). T (isKeep r)) (reply-turn attemptAt fuel w c) t)
 
 module _ {v : List ℤ} (wf : Valid v) where
   pub recovery-sound : {x : List ℤ} → T (isKeep (recoveryOf v)) → In (vars v) (recoveryBox v) x → Covered v (replicate (ρ v) baseline) x

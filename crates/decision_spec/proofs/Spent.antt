@@ -26,7 +26,8 @@ use Rattle.boxes_spec.specs.Reach.{clear}
 use Rattle.boxes_spec.proofs.Count.{count}
 use Rattle.boxes_spec.proofs.Cut.{Cut, value, failure, spent, CutFrom, cut-value, cut-failure, cut-if, cut-then, reach-cut}
 use Rattle.decision_spec.specs.Question.{commandAt, sidesAt, formRefusal, allowanceRefusal, headRefusal, questionRefusal, allowanceOf, commandOf, pairs, measured}
-use Rattle.decision_spec.specs.Decision.{Phase, follow, attempt, keep, finest, spent, Reply, refused, answered, outcome, attempts, decisionPhases, decisionWithin, decisionOf, decide, roundsOf}
+use Rattle.decision_spec.specs.Decision.{Phase, follow, attempt, keep, finest, spent, Reply, refused, answered, decisionPhases, decisionWithin, decisionOf, decide, roundsOf}
+use Rattle.decision_spec.proofs.Attempts.{outcome, replyFrom, reply-none, reply-turn}
 use Rattle.decision_spec.specs.Spent.{isSpent, CutAt, SpentOnValues, SameButAllowance, SpentOnBytes}
 
 -- ---- an attempt
@@ -75,12 +76,13 @@ module _ {A : ℕ} (w : ℕ) (next next′ : ℕ → Reply) (later : (c : ℕ) �
   outcome-cut (spent {whole = g} h) = spent-reply w (outcome g w next′) (lt-of-lt-of-le h (outcome-grows g))
 
 module _ {A : ℕ} (a a′ : ℕ → ℕ → Result (List ℤ)) (each-cut : (w c : ℕ) → CutFrom A c (a w c) (a′ w c)) where
-  attempts-cut : (fuel w c : ℕ) → CutAfter A c (attempts a fuel w c) (attempts a′ fuel w c)
-  unfolding attempts isSpent roundsOf
-  attempts-cut zero w c = record { grows = le-refl c; cuts = same-reply (answered finest w c) refl }
+  attempts-cut : (fuel w c : ℕ) → CutAfter A c (replyFrom a fuel w c) (replyFrom a′ fuel w c)
+  unfolding isSpent roundsOf
+  attempts-cut zero w c = rw (reply-none a w c, reply-none a′ w c) (record { grows = le-refl c; cuts = same-reply (answered finest w c) refl })
   attempts-cut (suc fuel) w c =
-      let later : (c′ : ℕ) → CutAfter A c′ (attempts a fuel (w / 2) c′) (attempts a′ fuel (w / 2) c′) = attempts-cut fuel (w / 2) in
-      record { grows = le-trans (each-cut w c .grows) (outcome-grows w _ _ later (a′ w c)); cuts = λ h. outcome-cut w _ _ later (each-cut w c .cuts h) }
+      let later : (c′ : ℕ) → CutAfter A c′ (replyFrom a fuel (w / 2) c′) (replyFrom a′ fuel (w / 2) c′) = attempts-cut fuel (w / 2) in
+      rw (reply-turn a fuel w c, reply-turn a′ fuel w c)
+      (record { grows = le-trans (each-cut w c .grows) (outcome-grows w _ _ later (a′ w c)); cuts = λ h. outcome-cut w _ _ later (each-cut w c .cuts h) })
 
 -- ---- the decision on values
 

@@ -9,7 +9,7 @@ use Rattle.sheet_spec.specs.Refusals.{unlessRefused}
 use Rattle.sheet_spec.specs.Sheet.{refusal, values}
 use Rattle.machine_spec.specs.Box.{within}
 use Rattle.machine_spec.specs.Machine.{Law, baseline, machine}
-use Rattle.boxes_spec.specs.Step.{Result, ok, failed, exhausted, unrecovered, andThen}
+use Rattle.boxes_spec.specs.Step.{Failure, unsettled, unrecovered, Result, ok, failed, exhausted, andThen}
 use Rattle.boxes_spec.specs.Reach.{reach, clear}
 use Rattle.decision_spec.specs.Question.{Question, questionOf, questionRefusal}
 
@@ -36,6 +36,43 @@ module _ (limited : Bool) (allowance : ℕ) (v : List ℤ) (w : ℕ) where
   attempt ps S c =
       andThen (follow ps S c) (λ E c′. elim (within (vars v) E (recoveryBox v)) [ true ↦ ok E c′ | false ↦ failed unrecovered c′ ])
 
+-- ---- the attempts made
+
+-- an attempt: its width, and what it came to
+pub record Attempt : Type 0 where
+  pub width : ℕ
+  pub result : Result (List ℤ)
+
+abbrev pub tried : ℕ → Result (List ℤ) → Attempt
+tried w result = record { width = w; result = result }
+
+-- the attempt at width w and, if it failed at a width over 1, those that follow it
+unfoldable pub withNext : ℕ → Result (List ℤ) → (ℕ → List Attempt) → List Attempt
+withNext w (ok E c) next = tried w (ok E c) ∷ []
+withNext w (failed why c) next = tried w (failed why c) ∷ elim (leb w 1) [ true ↦ [] | false ↦ next c ]
+withNext w (exhausted c) next = tried w (exhausted c) ∷ []
+
+-- the attempts at width w, then at half of it rounded down, and so on, after c rounds: widest first, up to one that does not
+-- fail, or to width 1. The fuel is not used up if it is at least w
+unfoldable pub attempts : (ℕ → ℕ → Result (List ℤ)) → ℕ → ℕ → ℕ → List Attempt
+attempts attemptAt zero w c = tried w (failed unsettled c) ∷ []
+attempts attemptAt (suc fuel) w c = withNext w (attemptAt w c) (λ c′. attempts attemptAt fuel (w / 2) c′)
+
+-- a width at which the attempt failed, and why
+pub record FailedWidth : Type 0 where
+  pub width : ℕ
+  pub why : Failure
+
+unfoldable pub withFailure : ℕ → Result (List ℤ) → List FailedWidth → List FailedWidth
+withFailure w (ok E c) others = others
+withFailure w (failed why c) others = record { width = w; why = why } ∷ others
+withFailure w (exhausted c) others = others
+
+-- the failures of a list of attempts, widest first
+unfoldable pub failures : List Attempt → List FailedWidth
+failures [] = []
+failures (a ∷ others) = withFailure (a .width) (a .result) (failures others)
+
 -- ---- answers
 
 -- for the recovery check `keep` is pass and `finest` is fail
@@ -55,17 +92,17 @@ isKeep (answered finest w c) = false
 isKeep (answered spent w c) = false
 isKeep (refused r) = false
 
--- what an attempt at width w comes to, where `next` answers at the next width
-unfoldable pub outcome : Result (List ℤ) → ℕ → (ℕ → Reply) → Reply
-outcome (ok E c) w next = answered keep w c
-outcome (failed why c) w next = elim (leb w 1) [ true ↦ answered finest w c | false ↦ next c ]
-outcome (exhausted c) w next = answered spent w c
+-- the answer where the attempt at width w is the last one
+unfoldable pub conclusion : ℕ → Result (List ℤ) → Reply
+conclusion w (ok E c) = answered keep w c
+conclusion w (failed why c) = answered finest w c
+conclusion w (exhausted c) = answered spent w c
 
--- attempts at width w, then at half of it rounded down, and so on to 1, after c rounds. The fuel is not used up if it is
--- at least w
-unfoldable pub attempts : (ℕ → ℕ → Result (List ℤ)) → ℕ → ℕ → ℕ → Reply
-attempts attemptAt zero w c = answered finest w c
-attempts attemptAt (suc fuel) w c = outcome (attemptAt w c) w (λ c′. attempts attemptAt fuel (w / 2) c′)
+-- the answer that a list of attempts comes to: that of its last one. No list of attempts is empty
+unfoldable pub lastReply : List Attempt → Reply
+lastReply [] = answered finest 0 0
+lastReply (a ∷ []) = conclusion (a .width) (a .result)
+lastReply (a ∷ b ∷ others) = lastReply (b ∷ others)
 
 -- ---- the decision on values
 
@@ -73,10 +110,13 @@ attempts attemptAt (suc fuel) w c = outcome (attemptAt w c) w (λ c′. attempts
 unfoldable pub decisionPhases : List ℤ → Law → List Phase
 decisionPhases v l = phase l (δ v) ∷ phase baseline (α v) ∷ []
 
--- from the measured box B, with an allowance (if `limited`)
-abbrev pub decisionWithin : Bool → ℕ → List ℤ → List ℤ → Law → Reply
-decisionWithin limited allowance v B l =
+-- the attempts from the measured box B, with an allowance (if `limited`)
+abbrev pub decisionAttempts : Bool → ℕ → List ℤ → List ℤ → Law → List Attempt
+decisionAttempts limited allowance v B l =
     attempts (λ w c. attempt limited allowance v w (decisionPhases v l) B c) (max (δ v) (α v)) (max (δ v) (α v)) 0
+
+abbrev pub decisionWithin : Bool → ℕ → List ℤ → List ℤ → Law → Reply
+decisionWithin limited allowance v B l = lastReply (decisionAttempts limited allowance v B l)
 
 unfoldable pub decisionOf : List ℤ → List ℤ → Law → ℕ → Reply
 decisionOf v B l allowance = decisionWithin true allowance v B l
@@ -85,8 +125,11 @@ decisionOf v B l allowance = decisionWithin true allowance v B l
 unfoldable pub recoveryPhases : List ℤ → List Phase
 recoveryPhases v = phase baseline (ρ v) ∷ []
 
+abbrev pub recoveryAttempts : List ℤ → List Attempt
+recoveryAttempts v = attempts (λ w c. attempt false 0 v w (recoveryPhases v) (recoveryBox v) c) (ρ v) (ρ v) 0
+
 unfoldable pub recoveryOf : List ℤ → Reply
-recoveryOf v = attempts (λ w c. attempt false 0 v w (recoveryPhases v) (recoveryBox v) c) (ρ v) (ρ v) 0
+recoveryOf v = lastReply (recoveryAttempts v)
 
 -- ---- the operations on bytes
 

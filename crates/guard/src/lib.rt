@@ -1,20 +1,16 @@
 // The C interface (include/guard.h) and nothing else: wrappers around the crates below, each answer one 64-bit number.
 // decision_spec/specs/Calls (of a reach: decision_spec/specs/ReachCall) says what a call answers and what it leaves in a lent
-// buffer or array; no call has a `requires`. The first three are the drive's; `numbers` has the form in which a reach gives boxes.
+// buffer or array; no call has a `requires`. The first three are the drive's.
 ghost use mathlib.Core.Path.{_≡_};
 ghost use Rattle.sheet_spec.specs.Slots.{slots};
 ghost use Rattle.decision_spec.specs.ReachCall.{reachCall, reachOut};
 ghost use Rattle.decision_spec.specs.Calls.{decideCall, readCall, readOut, recoveryCall, sheetCall, writeCall, writeOut};
-
-pub mod numbers;
-pub mod reach;
-
-use crate::reach::reach_call;
 use decision::check_recovery;
 use decision::decide;
 use decision_answers::as_decision;
 use decision_answers::pack_decision;
 use decision_answers::pack_refusal;
+use guard_reach::reach_call;
 use sheet::read_zeroed;
 use sheet::write;
 use sheet_spec::slots::SLOTS;

@@ -1,20 +1,22 @@
 -- Laws about tests of each number below a count, and about the boxes of a sheet. Assumes nothing.
-use mathlib.Core.Path.{_≡_, refl, sym, _∙_, subst}
+use mathlib.Core.Path.{_≡_, refl, sym, ap, _∙_, subst}
 use mathlib.Core.Logic.{⊎-elim}
 use mathlib.Core.Bool.{Bool, true, false, _&&_, _||_}
 use mathlib.Core.List.{List}
-use Prim.Native.Nat.{ℕ, zero, suc, _+_, _<_}
+use Prim.Native.Nat.{ℕ, zero, suc, _+_, _≤_, _<_}
 use native.Mathlib.Nat.{eq-or-lt-of-le}
 use native.Mathlib.Numerals.{add-one}
 use native.Mathlib.Omega.{arith}
-use lib.Dec.{T}
+use lib.Dec.{T, ltb}
 use lib.IntN.{ℤ, pos}
 use lib.Signed.{leZ, _≤ℤ_, _<ℤ_}
 use lib.ListN.{drop}
 use lib.Seq.{getD-take, getD-drop}
+use borrow.Author.Tests.{ltb-true, ltb-false}
 use Rattle.integers.proofs.Z.{ints, le-true}
 use Rattle.sheet_spec.specs.Slots.{_!_, N, boxSize, boxAt}
-use Rattle.sheet_spec.specs.Box.{lo, hi, all, any, meets}
+use Rattle.sheet_spec.specs.Box.{lo, hi, all, any, lowest, meets}
+use Rattle.sheet_spec.proofs.Streams.{lt-or-le}
 
 -- ---- tests
 
@@ -85,6 +87,58 @@ any-at (suc n) f i h e = ⊎-elim (λ q. last (any n f) (rw q at e)) (λ l. rw (
 
 pub any-none : (n : ℕ) (f : ℕ → Bool) (i : ℕ) → any n f ≡ false → i < n → f i ≡ false
 any-none n f i e h = is-false (f i) (λ g. differ (any-at n f i h g) e)
+
+pub any-of-none : (n : ℕ) (f : ℕ → Bool) → ((i : ℕ) → i < n → f i ≡ false) → any n f ≡ false
+unfolding any
+any-of-none zero f h = refl
+any-of-none (suc n) f h = rw (any-of-none n f (λ i l. h i (omega arith)), h n (omega arith)) refl
+
+-- ---- the lowest i below n that passes
+
+-- none below i passes; i does, or it is n
+pub record Lowest (n : ℕ) (f : ℕ → Bool) (i : ℕ) : Type 0 where
+  pub most : i ≤ n
+  pub first : (j : ℕ) → j < i → f j ≡ false
+  pub passes : i < n → f i ≡ true
+
+lowest-next : (n : ℕ) (f : ℕ → Bool) (i : ℕ) (t : Bool) → f 0 ≡ t → Lowest n (λ j. f (suc j)) i → Lowest (suc n) f (elim t [ true ↦ 0 | false ↦ suc i ])
+lowest-next n f i true e later = record { most = omega arith; first = λ j l. absurd (omega arith); passes = λ _. e }
+lowest-next n f i false e later = record { most = omega (arith, later .most); first = below; passes = λ l. later .passes (omega arith) }
+  where
+    below : (j : ℕ) → j < suc i → f j ≡ false
+    below zero l = e
+    below (suc j) l = later .first j (omega arith)
+
+pub lowest-found : (n : ℕ) (f : ℕ → Bool) → Lowest n f (lowest n f)
+unfolding lowest
+lowest-found zero f = record { most = omega arith; first = λ j l. absurd (omega arith); passes = λ l. absurd (omega arith) }
+lowest-found (suc n) f = lowest-next n f (lowest n (λ j. f (suc j))) (f 0) refl (lowest-found n (λ j. f (suc j)))
+
+module _ {n : ℕ} {f : ℕ → Bool} where
+  not-past : {i k : ℕ} → Lowest n f i → Lowest n f k → k ≤ i
+  not-past {i} {k} p q = ⊎-elim (λ l. absurd (differ (p .passes (omega (arith, q .most))) (q .first i l))) (λ l. l) (lt-or-le i k)
+
+  pub lowest-is : {i : ℕ} → Lowest n f i → lowest n f ≡ i
+  lowest-is p = let q = lowest-found n f in omega (arith, not-past p q, not-past q p)
+
+module _ (n : ℕ) (f : ℕ → Bool) where
+  pub lowest-at : (i : ℕ) → i < n → any i f ≡ false → f i ≡ true → lowest n f ≡ i
+  lowest-at i h none passes = lowest-is (record { most = omega arith; first = λ j. any-none i f j none; passes = λ _. passes })
+
+  pub lowest-none : any n f ≡ false → lowest n f ≡ n
+  lowest-none none = lowest-is (record { most = omega arith; first = λ j. any-none n f j none; passes = λ l. absurd (omega arith) })
+
+-- it is below n exactly if some i below n passes
+pub any-is : (n : ℕ) (f : ℕ → Bool) → any n f ≡ ltb (lowest n f) n
+any-is n f = by (ltb (lowest n f) n) refl
+  where
+    by : (t : Bool) → ltb (lowest n f) n ≡ t → any n f ≡ t
+    by true e =
+        let below = ltb-true (lowest n f) n e in
+        any-at n f (lowest n f) below (lowest-found n f .passes below)
+    by false e =
+        let past = ltb-false (lowest n f) n e in
+        any-of-none n f (λ i l. lowest-found n f .first i (omega arith))
 
 -- ---- boxes
 

@@ -5,7 +5,7 @@ use mathlib.Core.List.{List}
 use Prim.Native.Nat.{ℕ, zero, suc, _+_}
 use lib.IntN.{ℤ}
 use lib.Signed.{leZ}
-use Rattle.sheet_spec.specs.Slots.{_!_, N}
+use Rattle.sheet_spec.specs.Slots.{_!_, N, unsafeBox}
 
 abbrev pub lo : List ℤ → ℕ → ℤ
 lo B i = B ! i
@@ -23,8 +23,17 @@ unfoldable pub any : ℕ → (ℕ → Bool) → Bool
 any zero f = false
 any (suc n) f = any n f || f n
 
+-- the lowest i that passes, or n if none does
+unfoldable pub lowest : ℕ → (ℕ → Bool) → ℕ
+lowest zero f = 0
+lowest (suc n) f = elim (f 0) [ true ↦ 0 | false ↦ suc (lowest n (λ i. f (suc i))) ]
+
 -- ---- boxes
 
 -- A and B share a state
 unfoldable pub meets : ℕ → List ℤ → List ℤ → Bool
 meets n A B = all n (λ i. leZ (lo A i) (hi B i) && leZ (lo B i) (hi A i))
+
+-- the lowest number, from 0, of the first `count` no-go boxes of the sheet v that share a state with B, or `count` if none does
+unfoldable pub lowestMet : ℕ → List ℤ → ℕ → List ℤ → ℕ
+lowestMet n v count B = lowest count (λ j. meets n B (unsafeBox v j))

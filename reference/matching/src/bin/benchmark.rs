@@ -5,7 +5,7 @@
 //! answer alike and that the guard takes at most 1.25 times the instructions. The last line is
 //! `N passed, M failed`.
 
-use matching::archive::{self, sheet_archive};
+use matching::archive::{self, sheet_archive::SheetArchive};
 use matching::expected;
 use matching::generate::{everywhere, question_bytes, sheet_bytes, worst_case};
 use second_guard::boxes::{StateBox, VARIABLES};
@@ -47,12 +47,16 @@ fn thread_nanoseconds() -> f64 {
     time.seconds as f64 * 1e9 + time.nanoseconds as f64
 }
 
-fn time(repeat: u32, mut call: impl FnMut() -> u64) -> f64 {
-    let start = thread_nanoseconds();
-    for _ in 0..repeat {
+fn repeat(times: u32, mut call: impl FnMut() -> u64) {
+    for _ in 0..times {
         black_box(call());
     }
-    (thread_nanoseconds() - start) / f64::from(repeat)
+}
+
+fn time(times: u32, call: impl FnMut() -> u64) -> f64 {
+    let start = thread_nanoseconds();
+    repeat(times, call);
+    (thread_nanoseconds() - start) / f64::from(times)
 }
 
 fn median(mut times: Vec<f64>) -> f64 {
@@ -64,15 +68,15 @@ fn median(mut times: Vec<f64>) -> f64 {
 fn compare(mut guard: impl FnMut() -> u64, mut second: impl FnMut() -> u64) -> Times {
     assert_eq!(guard(), second(), "the two answer alike");
     let once = time(3, &mut second).max(1.0);
-    let repeat = (SAMPLE.as_nanos() as f64 / once).clamp(1.0, 1e6) as u32;
+    let times = (SAMPLE.as_nanos() as f64 / once).clamp(1.0, 1e6) as u32;
     let (mut guards, mut seconds) = (Vec::new(), Vec::new());
     for turn in 0..SAMPLES {
         if turn % 2 == 0 {
-            guards.push(time(repeat, &mut guard));
-            seconds.push(time(repeat, &mut second));
+            guards.push(time(times, &mut guard));
+            seconds.push(time(times, &mut second));
         } else {
-            seconds.push(time(repeat, &mut second));
-            guards.push(time(repeat, &mut guard));
+            seconds.push(time(times, &mut second));
+            guards.push(time(times, &mut guard));
         }
     }
     let ratios = guards.iter().zip(&seconds).map(|(g, s)| g / s).collect();
@@ -100,16 +104,24 @@ fn line(name: &str, times: &Times, per: f64) {
     );
 }
 
+fn decide_by_guard(sheet: &[u8], question: &[u8]) -> u64 {
+    archive::decide(black_box(sheet), black_box(question)).0
+}
+
+fn decide_by_second(sheet: &[u8], question: &[u8]) -> u64 {
+    expected::decide(black_box(sheet), black_box(question)).0
+}
+
 fn decide(sheet: &[u8], question: &[u8]) -> Times {
     compare(
-        || archive::decide(black_box(sheet), black_box(question)).0,
-        || expected::decide(black_box(sheet), black_box(question)).0,
+        || decide_by_guard(sheet, question),
+        || decide_by_second(sheet, question),
     )
 }
 
 /// Reading with the archive of the crate `sheet` alone.
-fn read_by_guard(sheet: &[u8], numbers: &mut [i32; NUMBERS]) -> u64 {
-    let refusal = sheet_archive::read(black_box(sheet), numbers);
+fn read_by_guard(archive: SheetArchive, sheet: &[u8], numbers: &mut [i32; NUMBERS]) -> u64 {
+    let refusal = archive.read(black_box(sheet), numbers);
     black_box(numbers);
     refusal.into()
 }
@@ -122,9 +134,10 @@ fn read_by_second(sheet: &[u8]) -> u64 {
 }
 
 fn read(sheet: &[u8]) -> Times {
+    let archive = SheetArchive::new();
     let mut numbers = [0; NUMBERS];
     compare(
-        || read_by_guard(sheet, &mut numbers),
+        || read_by_guard(archive, sheet, &mut numbers),
         || read_by_second(sheet),
     )
 }
@@ -251,25 +264,23 @@ impl Work {
         }
     }
 
-    fn run(self, who: &str, times: usize) {
+    fn run(self, who: &str, times: u32) {
         match self {
             Work::Decide(n, bands) => {
                 let (sheet, question) = many_rounds(n, bands);
-                for _ in 0..times {
-                    black_box(match who {
-                        "guard" => archive::decide(black_box(&sheet), black_box(&question)),
-                        _ => expected::decide(black_box(&sheet), black_box(&question)),
-                    });
+                let (sheet, question) = (&sheet[..], &question[..]);
+                match who {
+                    "guard" => repeat(times, || decide_by_guard(sheet, question)),
+                    _ => repeat(times, || decide_by_second(sheet, question)),
                 }
             }
             Work::Read(size) => {
-                let sheet = sheet_of_size(size);
+                let sheet = &sheet_of_size(size)[..];
+                let archive = SheetArchive::new();
                 let mut numbers = [0; NUMBERS];
-                for _ in 0..times {
-                    black_box(match who {
-                        "guard" => read_by_guard(&sheet, &mut numbers),
-                        _ => read_by_second(&sheet),
-                    });
+                match who {
+                    "guard" => repeat(times, || read_by_guard(archive, sheet, &mut numbers)),
+                    _ => repeat(times, || read_by_second(sheet)),
                 }
             }
         }
@@ -282,7 +293,7 @@ fn run_counted(words: &[String]) {
 }
 
 /// The instructions of this program where one of the two does the work so many times.
-fn instructions(who: &str, work: Work, times: usize) -> f64 {
+fn instructions(who: &str, work: Work, times: u32) -> f64 {
     let output = Command::new("valgrind")
         .args(["--tool=callgrind", "--callgrind-out-file=/dev/null"])
         .arg(std::env::current_exe().expect("this program"))
@@ -298,10 +309,11 @@ fn instructions(who: &str, work: Work, times: usize) -> f64 {
     count.parse().expect("a number")
 }
 
-/// The instructions of the work once: of some times, less those of a few.
+/// The instructions of the work once: of some times, less those of a few. Both are one digit, so that
+/// the program takes as long to read either.
 fn instructions_once(who: &str, work: Work) -> f64 {
-    let (few, some) = (2, 12);
-    (instructions(who, work, some) - instructions(who, work, few)) / (some - few) as f64
+    let (few, some) = (2, 9);
+    (instructions(who, work, some) - instructions(who, work, few)) / f64::from(some - few)
 }
 
 /// A line for some work, of which the instructions are told `per` times less. Whether the ratio is

@@ -6,7 +6,8 @@ use matching::archive::format::{
     reach_length, slot_band, slot_unsafe, LONGEST_SHEET, NUMBERS, SLOT_BAND, SLOT_CAPS,
     SLOT_RECOVERY,
 };
-use matching::archive::{self, sheet_archive, Answer, ReachCall};
+use matching::archive::sheet_archive::{self, SheetArchive};
+use matching::archive::{self, Answer, ReachCall};
 use matching::expected;
 use matching::generate::{
     long_times, model, near, pick_command, question_bytes, shape, sheet_bytes, slow_growth, times,
@@ -200,7 +201,7 @@ impl Matching {
         let (wanted, found) = (expected::sheet(sheet), archive::sheet(sheet));
         let (mut wanted_numbers, mut numbers) = ([0x77; NUMBERS], [0x77; NUMBERS]);
         let same = expected::numbers(sheet, &mut wanted_numbers)
-            == sheet_archive::read(sheet, &mut numbers)
+            == SheetArchive::new().read(sheet, &mut numbers)
             && wanted_numbers == numbers;
         self.note(kinds, wanted, wanted == found && same, || {
             format!(

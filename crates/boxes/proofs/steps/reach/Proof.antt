@@ -13,7 +13,7 @@ use Rattle.boxes_rates.proofs.Bounds.{wider}
 use Rattle.boxes.specs.declared.steps.ReachPlan.{ReachPlan}
 use Rattle.boxes.specs.Limits.{reachLimit}
 use Rattle.boxes.specs.ReachPlan.{machineOn, clearOn}
-use Rattle.boxes.specs.ReachResult.{isEnded, ticksOf, Arrived}
+use Rattle.boxes.specs.ReachResult.{isEnded, ticksOf, Names, Arrived}
 use Rattle.boxes.proofs.Bounds.{StepBounds, tested-bounds}
 use Rattle.boxes.proofs.Turn.{Reaching, reaching-starts, reaching-ends, reaching-stops, reaching-on, not-ended, ended-not}
 use Rattle.boxes.proofs.steps.reach.Statement.{statement}
@@ -120,6 +120,7 @@ returns at-return =
     let stopped = not-ended (at-return .match .keys2) in
     record {
       same = reaching-stops (at-loop at-step .loop .inv .reaching) (at-step .tested-step .result) _ _ (omega arith) (done .same) _ stopped;
+      names = done .names;
       covered = λ yes. absurd (ended-not (at-step .tested-step .result) stopped yes);
       trimmed = done .trimmed;
     }
@@ -150,10 +151,10 @@ loop-again c =
 
 -- no ticks are left
 returns-2 : tie.Need-returns-2 Inv-loop μ-loop
-unfolding ticksOf
+unfolding ticksOf Names
 returns-2 at-return =
     let inv = at-return .before .loop .inv in
-    record { same = reaching-ends (inv .reaching) (omega arith); covered = λ yes. refl; trimmed = inv .trimmed }
+    record { same = reaching-ends (inv .reaching) (omega arith); names = tt; covered = λ yes. refl; trimmed = inv .trimmed }
 
 pub reach-spec : {M : Type 1} → statement M
 reach-spec =

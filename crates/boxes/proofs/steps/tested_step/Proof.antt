@@ -6,19 +6,16 @@ use Prim.Native.Nat.{ℕ}
 use native.Mathlib.Omega.{arith}
 use lib.IntN.{ℤ}
 use borrow.Author.Needs.{needs}
-use Rattle.sheet_spec.specs.Slots.{unsafeBox}
-use Rattle.sheet_spec.specs.Box.{any, meets}
 use Rattle.machine_spec.specs.Box.{trim}
 use Rattle.sheet_spec.proofs.Box.{differ}
 use Rattle.machine_spec.proofs.InPlace.{trim-moved, trim-as}
 use Rattle.boxes_rates.proofs.Bounds.{wider}
 use Rattle.boxes_spec.specs.Step.{step}
-use Rattle.boxes_spec.specs.Reach.{clear}
 use Rattle.boxes.specs.declared.steps.ReachPlan.{ReachPlan}
 use Rattle.boxes.specs.ReachPlan.{machineOn, clearOn}
-use Rattle.boxes.specs.ReachResult.{isEnded}
+use Rattle.boxes.specs.ReachResult.{isEnded, Names}
 use Rattle.boxes.proofs.Bounds.{step-ticks, zero-bound}
-use Rattle.boxes.proofs.Turn.{Stepping, tested-unsettled, tested-exhausted, tested-clear, tested-unsafe}
+use Rattle.boxes.proofs.Turn.{Stepping, tested-unsettled, tested-exhausted, tested-clear, tested-unsafe, is-clear, is-not-clear}
 use Rattle.boxes.proofs.steps.tested_step.Statement.{statement}
 use Rattle.boxes.proofs.steps.tested_step.Tie as tie
 
@@ -76,10 +73,6 @@ module _ (at-arrival : tie.After-arrive) where
   abbrev P : List ℤ
   P = at-arrival .arrive .last .1 .1 .1 .1 .1 .0
 
-  -- the swept box shares a state with a no-go box
-  abbrev met : Bool
-  met = any (plan stepped .boxes) (λ j. meets (n stepped) P (unsafeBox (v stepped) j))
-
   trimmed : trim (n stepped) E ≡ E
   trimmed = trim-as (n stepped) (at-arrival .arrive .ensures .end) (trim-moved (n stepped) (at-start stepped .pre .plan .usable .vars) (S stepped) t (R stepped))
 
@@ -112,45 +105,48 @@ arrive-requires c κs =
 
 -- the swept box is not clear
 returns : tie.Need-returns
-unfolding clear isEnded
+unfolding isEnded Names
 returns at-return =
-    let at-test = at-return .before in
+    let at-test = at-return .before .before in
     let a = at-test .before .before in
     let arrived = a .arrive .ensures in
+    let number-is = at-test .lowest-met .ensures in
     record {
-      same = tested-unsafe (stepping (stepped a)) (free (stepped a)) (t a) (d a) (settled a .r .given .1) (arrived .end) (arrived .path) {x = met a} (at-test .meets-unsafe .ensures) refl (at-return .if1 .taken);
+      same = tested-unsafe (stepping (stepped a)) (free (stepped a)) (t a) (d a) (settled a .r .given .1) (arrived .end) (arrived .path) _ (is-not-clear _ _ _ (P a) number-is (at-return .if1 .taken));
+      names = number-is;
       arrived = λ no. absurd (differ no refl);
       trimmed = trimmed a;
     }
 
 -- it is clear
 returns-2 : tie.Need-returns-2
-unfolding clear
+unfolding Names
 returns-2 at-return =
-    let at-test = at-return .before in
+    let at-test = at-return .before .before in
     let a = at-test .before .before in
     let arrived = a .arrive .ensures in
     record {
-      same = tested-clear (stepping (stepped a)) (free (stepped a)) (t a) (d a) (settled a .r .given .1) (arrived .end) (arrived .path) {x = met a} (at-test .meets-unsafe .ensures) refl (at-return .if1 .left);
+      same = tested-clear (stepping (stepped a)) (free (stepped a)) (t a) (d a) (settled a .r .given .1) (arrived .end) (arrived .path) (is-clear _ _ _ (P a) (at-test .lowest-met .ensures) (at-return .if1 .left));
+      names = tt;
       arrived = λ yes. record { work = arrived .work; swept = arrived .path };
       trimmed = trimmed a;
     }
 
 -- no length settled
 returns-3 : tie.Need-returns-3
-unfolding isEnded
+unfolding isEnded Names
 returns-3 at-return =
     let k = at-return .before in
     let s = k .before .before in
-    record { same = tested-unsettled (stepping s) (free s) _ _ (k .r2 .given .0 .0) (k .r2 .given .1); arrived = λ no. absurd (differ no refl); trimmed = at-start s .pre .trimmed }
+    record { same = tested-unsettled (stepping s) (free s) _ _ (k .r2 .given .0 .0) (k .r2 .given .1); names = tt; arrived = λ no. absurd (differ no refl); trimmed = at-start s .pre .trimmed }
 
 -- no round was left
 returns-4 : tie.Need-returns-4
-unfolding isEnded
+unfolding isEnded Names
 returns-4 at-return =
     let k = at-return .before in
     let s = k .before .before in
-    record { same = tested-exhausted (stepping s) (free s) _ _ (k .r3 .given .0 .0) (k .r3 .given .1); arrived = λ no. absurd (differ no refl); trimmed = at-start s .pre .trimmed }
+    record { same = tested-exhausted (stepping s) (free s) _ _ (k .r3 .given .0 .0) (k .r3 .given .1); names = tt; arrived = λ no. absurd (differ no refl); trimmed = at-start s .pre .trimmed }
 
 pub tested-step-spec : {M : Type 1} → statement M
 tested-step-spec =

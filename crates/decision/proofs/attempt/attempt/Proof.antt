@@ -1,5 +1,5 @@
--- `attempt` does what the definition's attempt does, but for the box and why it fails: one phase after another, then the test
--- against the recovery box. Assumes nothing.
+-- `attempt` does what the definition's attempt does, but for the box: one phase after another, then the test against the recovery
+-- box. Assumes nothing.
 use mathlib.Core.Path.{_≡_, sym, ap, _∙_}
 use mathlib.Core.List.{List, [], _∷_}
 use Prim.Native.Nat.{ℕ, _+_, _*_, _≤_}
@@ -23,7 +23,7 @@ use Rattle.decision_spec.specs.Decision.{Phase, phase, attempt}
 use Rattle.decision.specs.declared.attempt.AttemptPlan.{AttemptPlan}
 use Rattle.decision.specs.AttemptResult.{summary}
 use Rattle.decision.specs.Limits.{startLimit}
-use Rattle.decision.proofs.Turn.{reached, plant-usable, plant-vars, plant-trimmed, vars-trimmed, plant-reach, phase-near, phase-on, phase-stops, attempt-succeeds, attempt-fails, within-trim}
+use Rattle.decision.proofs.Turn.{reached, plant-usable, plant-vars, plant-trimmed, vars-trimmed, plant-names, plant-reach, phase-near, phase-on, phase-stops, attempt-succeeds, attempt-fails, within-trim}
 use Rattle.decision.proofs.attempt.attempt.Statement.{statement}
 use Rattle.decision.proofs.attempt.attempt.Tie as tie
 
@@ -174,7 +174,8 @@ returns : tie.Need-returns
 returns at-return =
     let r = at-return .before .before in
     let p = at-plant r in
-    at-return .summary-of .ensures (E r) (W r) ∙ phase-stops _ _ _ _ (commanded p) (plain p ∷ []) _ _ _ (E r) (W r) (first-reach r) (not-ended (at-return .before .match .keys2))
+    at-return .summary-of .ensures (v p) (E r) (W r) (plant-names (p .plant .result) _ (under p) (W r) _ (at-count r .count .ensures) (r .reach .ensures .names))
+    ∙ phase-stops _ _ _ _ (commanded p) (plain p ∷ []) _ _ _ (E r) (W r) (first-reach r) (not-ended (at-return .before .match .keys2))
 
 reach-requires-2 : tie.Need-reach-requires-2
 reach-requires-2 c κs =
@@ -201,8 +202,10 @@ reach-requires-2 c κs =
 returns-2 : tie.Need-returns-2
 returns-2 at-return =
     let q = at-return .before .before in
-    at-return .summary-of2 .ensures (F q) (X q) ∙ phase-stops _ _ _ _ (plain (before q)) [] _ _ _ (F q) (X q) (last-reach q) (not-ended (at-return .before .match2 .keys2))
-    ∙ ap summary (sym (first-on (first-ended q)))
+    let named = plant-names (at-plain q .plant2 .result) _ (at-plain q .plant2 .ensures) (X q) _ (at-count (at-reach (first-ended q)) .count .ensures) (q .reach2 .ensures .names) in
+    at-return .summary-of2 .ensures (v (before q)) (F q) (X q) named
+    ∙ phase-stops _ _ _ _ (plain (before q)) [] _ _ _ (F q) (X q) (last-reach q) (not-ended (at-return .before .match2 .keys2))
+    ∙ ap (summary {A = List ℤ} _) (sym (first-on (first-ended q)))
 
 box-at-requires : tie.Need-box-at-requires
 box-at-requires c κs = let p = before (at-last (c .before)) in (omega (arith, plant-vars (p .plant .result) _ (under p), at-start p .pre .attempts .sheet .vars-high), omega arith)
@@ -215,14 +218,14 @@ returns-3 : tie.Need-returns-3
 returns-3 at-return =
     let at-test = at-return .before in
     let e = ended at-test in
-    attempt-succeeds _ _ _ _ (F (at-last e)) (i e) (sym (recovered at-test) ∙ at-return .if1 .taken) ∙ ap summary (sym (both-on e))
+    attempt-succeeds _ _ _ _ (F (at-last e)) (i e) (sym (recovered at-test) ∙ at-return .if1 .taken) ∙ ap (summary {A = List ℤ} _) (sym (both-on e))
 
 -- not in it
 returns-4 : tie.Need-returns-4
 returns-4 at-return =
     let at-test = at-return .before in
     let e = ended at-test in
-    attempt-fails _ _ _ _ (F (at-last e)) (i e) (sym (recovered at-test) ∙ at-return .if1 .left) ∙ ap summary (sym (both-on e))
+    attempt-fails _ _ _ _ (F (at-last e)) (i e) (sym (recovered at-test) ∙ at-return .if1 .left) ∙ ap (summary {A = List ℤ} _) (sym (both-on e))
 
 pub attempt-spec : {M : Type 1} → statement M
 attempt-spec =

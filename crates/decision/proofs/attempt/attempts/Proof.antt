@@ -47,19 +47,19 @@ attempt-requires at-loop κs =
 returns : tie.Need-returns Inv-loop μ-loop
 returns at-return =
     let at-attempt = at-return .before .before .before in
-    attempting-keeps (at-attempt .before .loop .inv .attempting) _ (at-attempt .attempt .ensures) _ (at-return .before .a .given .1)
+    attempting-keeps (at-attempt .before .loop .inv .attempting) _ _ (at-attempt .attempt .ensures) _ (at-return .before .a .given .1)
 
 -- spent
 returns-2 : tie.Need-returns-2 Inv-loop μ-loop
 returns-2 at-return =
     let at-attempt = at-return .before .before .before in
-    attempting-spent (at-attempt .before .loop .inv .attempting) _ (at-attempt .attempt .ensures) _ (at-return .before .a2 .given .1)
+    attempting-spent (at-attempt .before .loop .inv .attempting) _ _ (at-attempt .attempt .ensures) _ (at-return .before .a2 .given .1)
 
 -- failed at width 1
 returns-3 : tie.Need-returns-3 Inv-loop μ-loop
 returns-3 at-return =
     let at-attempt = at-return .before .before .before .before in
-    attempting-finest (at-attempt .before .loop .inv .attempting) _ (at-attempt .attempt .ensures) _ (at-return .before .before .a3 .given .1) (at-return .if1 .taken)
+    attempting-finest (at-attempt .before .loop .inv .attempting) _ _ (at-attempt .attempt .ensures) _ _ (at-return .before .before .a3 .given .1) (at-return .if1 .taken)
 
 loop-again : tie.Need-loop-again Inv-loop μ-loop
 loop-again c =
@@ -75,7 +75,7 @@ loop-again c =
     record {
       narrower = omega (arith, inv .narrower);
       counts = omega (arith, inv .counts, counted);
-      attempting = attempting-on (inv .attempting) _ (at-attempt .attempt .ensures) _ failed (c .if1 .left);
+      attempting = attempting-on (inv .attempting) _ _ (at-attempt .attempt .ensures) _ _ failed (c .if1 .left);
     }
 
 pub attempts-spec : {M : Type 1} → statement M

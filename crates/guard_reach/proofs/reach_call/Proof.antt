@@ -18,9 +18,9 @@ use Rattle.boxes_spec.specs.Reach.{Answer, reachOf}
 use Rattle.boxes.specs.ReachAnswer.{answerOf}
 use Rattle.decision_spec.specs.Call.{refusedCall}
 use Rattle.decision_spec.specs.ReachCall.{startBox, reachedRefusal, reachedCall, reachedOut, reachAnswer, reachCall, reachOut}
-use Rattle.guard.proofs.ReachAnswer.{reach-far, file-refused, file-reached}
-use Rattle.guard.proofs.reach.reach_call.Statement.{statement}
-use Rattle.guard.proofs.reach.reach_call.Tie as tie
+use Rattle.guard_reach.proofs.ReachAnswer.{reach-far, file-refused, file-reached}
+use Rattle.guard_reach.proofs.reach_call.Statement.{statement}
+use Rattle.guard_reach.proofs.reach_call.Tie as tie
 
 -- after the reader
 module _ (c : tie.After-read-zeroed) where

@@ -5,9 +5,9 @@ use native.Mathlib.Omega.{arith}
 use lib.Seq.{sets}
 use Rattle.sheet_spec.specs.Slots.{N}
 use Rattle.decision_spec.specs.Numbers.{sidesOf}
-use Rattle.guard.proofs.Turn.{sides-more, side-fits, side-is}
-use Rattle.guard.proofs.numbers.put_sides.Statement.{statement}
-use Rattle.guard.proofs.numbers.put_sides.Tie as tie
+use Rattle.guard_reach.proofs.Turn.{sides-more, side-fits, side-is}
+use Rattle.guard_reach.proofs.numbers.put_sides.Statement.{statement}
+use Rattle.guard_reach.proofs.numbers.put_sides.Tie as tie
 
 abbrev Inv-loop : tie.InvT-loop
 Inv-loop v₀ at n b i₀ v i = (i ≤ n) × (v ≡ sets v₀ at (sidesOf i b))

@@ -29,7 +29,7 @@ use Rattle.boxes_spec.proofs.Refusals.{reach-passes}
 use Rattle.boxes_refusals.proofs.Turn.{sides-near}
 use Rattle.decision_spec.specs.Numbers.{numberBytes, sidesOf}
 use Rattle.decision_spec.specs.ReachCall.{startBox, reachAnswer}
-use Rattle.guard.proofs.Turn.{sides-length}
+use Rattle.guard_reach.proofs.Turn.{sides-length}
 
 -- ---- sides
 

@@ -17,9 +17,9 @@ use Rattle.decision_spec.specs.Call.{refusedCall}
 use Rattle.decision_spec.specs.Numbers.{numberBytes, sidesOf}
 use Rattle.decision_spec.specs.ReachCall.{reachedRefusal, reachedCall, reachedOut}
 use Rattle.decision_spec.proofs.Calls.{room-short, room-enough}
-use Rattle.guard.proofs.ReachAnswer.{boxes-bytes}
-use Rattle.guard.proofs.reach.give_reached.Statement.{statement}
-use Rattle.guard.proofs.reach.give_reached.Tie as tie
+use Rattle.guard_reach.proofs.ReachAnswer.{boxes-bytes}
+use Rattle.guard_reach.proofs.give_reached.Statement.{statement}
+use Rattle.guard_reach.proofs.give_reached.Tie as tie
 
 -- what is asked
 module _ (at-start : tie.Start) where

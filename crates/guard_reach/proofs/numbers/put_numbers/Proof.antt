@@ -5,9 +5,9 @@ use native.Mathlib.Omega.{arith}
 use lib.ListN.{length}
 use lib.Seq.{sets, length-sets}
 use Rattle.decision_spec.specs.Numbers.{numberBytes}
-use Rattle.guard.proofs.Turn.{bytes-more}
-use Rattle.guard.proofs.numbers.put_numbers.Statement.{statement}
-use Rattle.guard.proofs.numbers.put_numbers.Tie as tie
+use Rattle.guard_reach.proofs.Turn.{bytes-more}
+use Rattle.guard_reach.proofs.numbers.put_numbers.Statement.{statement}
+use Rattle.guard_reach.proofs.numbers.put_numbers.Tie as tie
 
 abbrev Inv-loop : tie.InvT-loop
 Inv-loop out₀ v count k₀ out k = (k ≤ count) × (out ≡ sets out₀ 0 (numberBytes v k))

@@ -3,8 +3,8 @@ use mathlib.Core.Path.{refl}
 use borrow.Author.Needs.{needs}
 use borrow.Author.Tests.{eq-eqb, ne-eqb}
 use Rattle.decision_spec.specs.ReachCall.{startBox}
-use Rattle.guard.proofs.reach.start_box.Statement.{statement}
-use Rattle.guard.proofs.reach.start_box.Tie as tie
+use Rattle.guard_reach.proofs.start_box.Statement.{statement}
+use Rattle.guard_reach.proofs.start_box.Tie as tie
 
 returns : tie.Need-returns
 unfolding startBox

@@ -7,6 +7,9 @@ ghost use Rattle.sheet_spec.specs.Slots as slots;
 ghost use Rattle.boxes_arithmetic.specs.Limits.{SidesWithin};
 ghost use Rattle.boxes.specs.ReachAnswer.{answerOf};
 ghost use Rattle.decision_spec.specs.ReachCall.{reachCall, reachOut, reachedCall, reachedOut, startBox};
+
+pub mod numbers;
+
 use crate::numbers::put_numbers;
 use crate::numbers::put_sides;
 use boxes::ReachAnswer;
