@@ -4,11 +4,12 @@ use mathlib.Core.Bool.{false}
 use mathlib.Core.List.{List}
 use Prim.Native.Nat.{ℕ, _≤_, _<_}
 use lib.IntN.{ℤ}
+use Rattle.sheet_spec.specs.Limits.{maxTicks, maxWidth, maxSide}
 use Rattle.sheet_spec.specs.Slots.{vars}
-use Rattle.sheet_spec.specs.Limits.{maxSide, maxTicks, maxWidth}
 use Rattle.sheet_spec.proofs.FirstRefusal.{found-stops, found-none}
 use Rattle.machine_spec.specs.Box.{trim}
-use Rattle.machine_spec.specs.Machine.{Law, Machine, machine}
+use Rattle.machine_spec.specs.declared.Law.{Law}
+use Rattle.machine_spec.specs.Machine.{machine}
 use Rattle.boxes_arithmetic.specs.Limits.{SidesWithin}
 use Rattle.boxes.specs.declared.steps.ReachResult.{ReachResult}
 use Rattle.boxes.specs.declared.steps.ReachResult.the-variants.{Ended, Unsettled, Unsafe, Exhausted}
@@ -33,8 +34,11 @@ module _ {v : List ℤ} {ticks w : ℕ} {l : Law} {B : List ℤ} {a : ℕ} (r : 
   unfolding reachOf
   reach-refused n = found-stops refused _ (r .is) n
 
-  -- nothing is refused; the machine and the start box as the code has them
-  module _ (e : a ≡ 0) {m : Machine} (q : m ≡ machine v l) {S : List ℤ} (s : S ≡ trim (m .n) B) where
+  -- nothing is refused; the law, the number of variables and the start box as the code has them
+  module _ (e : a ≡ 0) {k : Law} (q : k ≡ l) {n : ℕ} (p : n ≡ vars v) {S : List ℤ} (s : S ≡ trim n B) where
+    start-is : S ≡ trim (vars v) B
+    start-is = s ∙ ap (λ (i : ℕ). trim i B) p
+
     pub reachable : Accepted ticks w S
     reachable =
         let passes = reach-passes v ticks w l B (sym (r .is) ∙ e) in
@@ -42,15 +46,15 @@ module _ {v : List ℤ} {ticks w : ℕ} {l : Law} {B : List ℤ} {a : ℕ} (r : 
           some = passes .some;
           most = passes .most;
           ticks = passes .few;
-          start = subst (SidesWithin maxSide) (sym (s ∙ ap (λ (x : Machine). trim (x .n) B) q)) (sides-near (vars v) B (passes .start));
+          start = subst (SidesWithin maxSide) (sym start-is) (sides-near (vars v) B (passes .start));
         }
 
     -- a reach came to o
-    module _ (o : ReachResult) (E W : List ℤ) (h : reachedOf E W o ≡ reach false 0 m (clear (m .n) v 0) w S ticks 0) where
+    module _ (o : ReachResult) (E W : List ℤ) (h : reachedOf E W o ≡ reach false 0 (machine v k) (clear (vars v) v 0) w S ticks 0) where
       answer-is : answer (reachedOf E W o) ≡ reachOf v ticks w l B
       unfolding reachOf
       answer-is =
-          ap answer (h ∙ ap (λ (X : List ℤ). reach false 0 m (clear (m .n) v 0) w X ticks 0) s ∙ ap (λ (x : Machine). reach false 0 x (clear (x .n) v 0) w (trim (x .n) B) ticks 0) q)
+          ap answer (h ∙ ap (λ (X : List ℤ). reach false 0 (machine v k) (clear (vars v) v 0) w X ticks 0) start-is ∙ ap (λ (x : Law). reach false 0 (machine v x) (clear (vars v) v 0) w (trim (vars v) B) ticks 0) q)
           ∙ found-none refused _ (r .is) e
 
       pub reach-ended : (t d : ℕ) → o ≡ Ended t d → record { refusal = 0; end = E; swept = W; rounds = d } ≡ reachOf v ticks w l B

@@ -1,5 +1,5 @@
 -- A turn of the definitions for a turn of the code's loops: a tested step, and the tested steps of a reach. Assumes nothing.
-use mathlib.Core.Path.{_≡_, refl, sym, ap, _∙_}
+use mathlib.Core.Path.{_≡_, refl, sym, ap, _∙_, subst}
 use mathlib.Core.Bool.{Bool, true, false, not}
 use mathlib.Core.Logic.{_⊎_, ⊎-elim}
 use mathlib.Core.List.{List}
@@ -12,8 +12,8 @@ use lib.IntN.{ℤ}
 use denote.Enum.Declared.{tagOf}
 use Rattle.integers.proofs.Tests.{pick-yes, pick-no, suc-of}
 use Rattle.sheet_spec.specs.Box.{lowestMet}
-use Rattle.machine_spec.specs.Box.{hull, moved}
-use Rattle.machine_spec.specs.Machine.{Machine}
+use Rattle.machine_spec.specs.Box.{trim, hull, moved}
+use Rattle.machine_spec.specs.Machine.{Machine, varsOf}
 use Rattle.boxes_step.specs.declared.StepResult.{StepResult}
 use Rattle.boxes_step.specs.declared.StepResult.the-variants.{Settled, Unsettled, Exhausted}
 use Rattle.boxes_step.specs.StepResult.{stepOf}
@@ -26,19 +26,23 @@ use Rattle.boxes.specs.ReachResult.{resultOf, testedStepOf, reachedOf, i
 use Rattle.boxes.proofs.steps.ReachResult.{the-type}
 use Rattle.sheet_spec.proofs.Box.{differ, any-is}
 
+-- a trimmed box, by an equal number of variables
+pub trimmed-by : {n k : ℕ} {B : List ℤ} → n ≡ k → trim n B ≡ B → trim k B ≡ B
+trimmed-by {B} e h = subst (λ (i : ℕ). trim i B ≡ B) e h
+
 -- ---- a tested step
 
 -- a step from S with `left` ticks left after c rounds came to r, with the rates R
 pub record Stepping (l : Bool) (a : ℕ) (m : Machine) (w : ℕ) (S : List ℤ) (left c : ℕ) (r : StepResult) (R : List ℤ) : Type 0 where
-  pub same : stepOf (m .n) S R r ≡ step l a m S (min w left) c
+  pub same : stepOf (varsOf m) S R r ≡ step l a m S (min w left) c
 
 module _ {l : Bool} {a : ℕ} {m : Machine} {w : ℕ} {S : List ℤ} {left c : ℕ} {r : StepResult} {R : List ℤ} (h : Stepping l a m w S left c r R) (clear : List ℤ → Bool) where
   abbrev tested : Step → ℕ → Result Step
   tested t d = elim (clear (swept m S t)) [ true ↦ ok t d | false ↦ failed (unsafe left (swept m S t)) d ]
 
-  tested-is : (o : StepResult) → r ≡ o → andThen (stepOf (m .n) S R o) tested ≡ testedStep l a m clear w S left c
+  tested-is : (o : StepResult) → r ≡ o → andThen (stepOf (varsOf m) S R o) tested ≡ testedStep l a m clear w S left c
   unfolding testedStep
-  tested-is o q = ap (λ (x : StepResult). andThen (stepOf (m .n) S R x) tested) (sym q) ∙ ap (λ (g : Result Step). andThen g tested) (h .same)
+  tested-is o q = ap (λ (x : StepResult). andThen (stepOf (varsOf m) S R x) tested) (sym q) ∙ ap (λ (g : Result Step). andThen g tested) (h .same)
 
   pub tested-unsettled : (E P : List ℤ) (d : ℕ) → r ≡ Unsettled d → testedStepOf E P (result.Unsettled d) ≡ testedStep l a m clear w S left c
   unfolding stepOf resultOf andThen
@@ -49,20 +53,20 @@ module _ {l : Bool} {a : ℕ} {m : Machine} {w : ℕ} {S : List ℤ} {left c : �
   tested-exhausted E P d q = tested-is (Exhausted d) q
 
   -- it settled with the end box E and the swept box P
-  module _ (t d : ℕ) (q : r ≡ Settled t d) {E P : List ℤ} (e : E ≡ moved (m .n) S t R) (p : P ≡ hull (m .n) S E) where
+  module _ (t d : ℕ) (q : r ≡ Settled t d) {E P : List ℤ} (e : E ≡ moved (varsOf m) S t R) (p : P ≡ hull (varsOf m) S E) where
     tested-tested : tested (record { ticks = t; end = E }) d ≡ testedStep l a m clear w S left c
     unfolding stepOf andThen
     tested-tested = ap (λ (F : List ℤ). tested (record { ticks = t; end = F }) d) e ∙ tested-is (Settled t d) q
 
     pub tested-clear : clear P ≡ true → testedStepOf E P (Ended t d) ≡ testedStep l a m clear w S left c
     unfolding resultOf swept
-    tested-clear z = sym (pick-yes (clear (hull (m .n) S E)) _ _ (ap clear (sym p) ∙ z)) ∙ tested-tested
+    tested-clear z = sym (pick-yes (clear (hull (varsOf m) S E)) _ _ (ap clear (sym p) ∙ z)) ∙ tested-tested
 
     pub tested-unsafe : (number : ℕ) → clear P ≡ false → testedStepOf E P (Unsafe left number d) ≡ testedStep l a m clear w S left c
     unfolding resultOf swept
     tested-unsafe number z =
         ap (λ (B : List ℤ). failed (unsafe left B) d) p
-        ∙ sym (pick-no (clear (hull (m .n) S E)) _ _ (ap clear (sym p) ∙ z)) ∙ tested-tested
+        ∙ sym (pick-no (clear (hull (varsOf m) S E)) _ _ (ap clear (sym p) ∙ z)) ∙ tested-tested
 
 -- the test of a swept box by the lowest number of a no-go box that it meets
 module _ (n : ℕ) (v : List ℤ) (count : ℕ) (P : List ℤ) {number : ℕ} (is : number ≡ lowestMet n v count P) where
@@ -96,7 +100,7 @@ module _ {l : Bool} {a : ℕ} {m : Machine} {clear : List ℤ → Bool} {w : ℕ
   -- a tested step from S came to r, with the end box E and the swept box P
   module _ (r : ReachResult) (E P : List ℤ) (some : 0 < left) (e : testedStepOf E P r ≡ testedStep l a m clear w S left d) where
     abbrev rest : Step → ℕ → Result Reached
-    rest t i = steps l a m clear w (h .fuel) (t .end) (hull (m .n) W (swept m S t)) (left - t .ticks) i
+    rest t i = steps l a m clear w (h .fuel) (t .end) (hull (varsOf m) W (swept m S t)) (left - t .ticks) i
 
     reach-turn : reach l a m clear w A T c ≡ andThen (testedStepOf E P r) rest
     unfolding steps
@@ -113,13 +117,13 @@ module _ {l : Bool} {a : ℕ} {m : Machine} {clear : List ℤ → Bool} {w : ℕ
         stops (result.Exhausted i) n = refl
 
     -- it ended, and X is what is swept then
-    pub reaching-on : (t i : ℕ) → r ≡ Ended t i → 0 < t → t ≤ left → P ≡ hull (m .n) S E → (X : List ℤ) → X ≡ hull (m .n) W P → Reaching l a m clear w A T c E X (left - t) i
+    pub reaching-on : (t i : ℕ) → r ≡ Ended t i → 0 < t → t ≤ left → P ≡ hull (varsOf m) S E → (X : List ℤ) → X ≡ hull (varsOf m) W P → Reaching l a m clear w A T c E X (left - t) i
     unfolding resultOf andThen swept
     reaching-on t i q u v p X x = record {
       fuel = h .fuel - 1;
       enough = omega (arith, h .enough);
       same = reach-turn ∙ ap (λ (o : ReachResult). andThen (testedStepOf E P o) rest) q
-          ∙ ap (λ (B : List ℤ). steps l a m clear w (h .fuel) E B (left - t) i) (sym (x ∙ ap (hull (m .n) W) p))
+          ∙ ap (λ (B : List ℤ). steps l a m clear w (h .fuel) E B (left - t) i) (sym (x ∙ ap (hull (varsOf m) W) p))
           ∙ ap (λ (j : ℕ). steps l a m clear w j E X (left - t) i) (suc-of (h .fuel) (omega (arith, h .enough)));
     }
 

@@ -3,13 +3,13 @@ use mathlib.Core.Path.{_≡_}
 use mathlib.Core.List.{List}
 use Prim.Native.Nat.{ℕ, _+_, _*_, _≤_, _<_}
 use lib.IntN.{ℤ}
-use Rattle.sheet_spec.specs.Limits.{maxBoxes}
+use Rattle.sheet_spec.specs.Limits.{maxBoxes, maxTicks, maxWidth}
+use Rattle.sheet_spec.specs.Slots.{vars}
 use Rattle.machine_spec.specs.Box.{trim}
 use Rattle.boxes_arithmetic.specs.Limits.{SidesWithin}
-use Rattle.boxes_rates.specs.Plant.{Usable}
+use Rattle.boxes_rates.specs.Plant.{Describes}
 use Rattle.boxes_step.specs.Limits.{stepLimit, countLimit}
 use Rattle.boxes.specs.declared.steps.ReachPlan.{ReachPlan}
-use Rattle.boxes.specs.ReachPlan.{machineOn}
 
 -- how far the sides of a reach's start box go
 abbrev pub reachLimit : ℕ
@@ -17,10 +17,10 @@ reachLimit = 3000000
 
 -- the plan can be followed on the sheet v
 pub record Followable (p : ReachPlan) (v : List ℤ) : Type 0 where
-  pub usable : Usable (machineOn p v)
+  pub plant : Describes (p .plant) v
   pub boxes : p .boxes ≤ maxBoxes
   pub some : 0 < p .width
-  pub most : p .width ≤ 1000
+  pub most : p .width ≤ maxWidth
 
 -- a tested step from A with `left` ticks left, after c rounds; the working box E and the swept box P are lent
 pub record TestedAsked (p : ReachPlan) (v : List ℤ) (left c : ℕ) (A E P : List ℤ) : Type 0 where
@@ -28,14 +28,14 @@ pub record TestedAsked (p : ReachPlan) (v : List ℤ) (left c : ℕ) (A E P : Li
   pub due : 0 < left
   pub counts : c + 8 * p .width ≤ countLimit
   pub start : SidesWithin stepLimit A
-  pub trimmed : trim (p .plant .n) A ≡ A
+  pub trimmed : trim (vars v) A ≡ A
   pub work : E ≡ A
-  pub swept : trim (p .plant .n) P ≡ P
+  pub swept : trim (vars v) P ≡ P
 
 -- a reach of T ticks from A, after c rounds
 pub record ReachAsked (p : ReachPlan) (v : List ℤ) (T c : ℕ) (A : List ℤ) : Type 0 where
   pub plan : Followable p v
-  pub ticks : T ≤ 1000
+  pub ticks : T ≤ maxTicks
   pub counts : c + 73 * T + 8 * p .width ≤ countLimit
   pub start : SidesWithin reachLimit A
-  pub trimmed : trim (p .plant .n) A ≡ A
+  pub trimmed : trim (vars v) A ≡ A

@@ -3,22 +3,22 @@ use mathlib.Core.Bool.{Bool}
 use mathlib.Core.List.{List}
 use Prim.Native.Nat.{ℕ}
 use lib.IntN.{ℤ}
+use Rattle.sheet_spec.specs.Slots.{vars}
 use Rattle.sheet_spec.specs.Box.{lowestMet}
-use Rattle.machine_spec.specs.Machine.{Machine}
-use Rattle.boxes_rates.specs.Plant.{machineOf}
+use Rattle.machine_spec.specs.Machine.{Machine, machine}
 use Rattle.boxes_spec.specs.Step.{Result, Step}
 use Rattle.boxes_spec.specs.Reach.{Reached, clear, testedStep, reach}
 use Rattle.boxes.specs.declared.steps.ReachPlan.{ReachPlan}
 
 -- the plan's machine on the sheet v, its test of a swept box, and the lowest number of a no-go box that a swept box meets
 abbrev pub machineOn : ReachPlan → List ℤ → Machine
-machineOn p v = machineOf (p .plant) v
+machineOn p v = machine v (p .plant .law)
 
 abbrev pub clearOn : ReachPlan → List ℤ → List ℤ → Bool
-clearOn p v = clear (p .plant .n) v (p .boxes)
+clearOn p v = clear (vars v) v (p .boxes)
 
 abbrev pub lowestOn : ReachPlan → List ℤ → List ℤ → ℕ
-lowestOn p v = lowestMet (p .plant .n) v (p .boxes)
+lowestOn p v = lowestMet (vars v) v (p .boxes)
 
 -- a tested step from S with `left` ticks left, after c rounds
 abbrev pub testedStepOn : ReachPlan → List ℤ → List ℤ → ℕ → ℕ → Result Step

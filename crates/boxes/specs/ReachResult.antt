@@ -5,6 +5,7 @@ use mathlib.Core.Bool.{Bool, true, false}
 use mathlib.Core.List.{List}
 use Prim.Native.Nat.{ℕ}
 use lib.IntN.{ℤ}
+use Rattle.sheet_spec.specs.Slots.{vars}
 use Rattle.machine_spec.specs.Box.{trim, hull}
 use Rattle.boxes_spec.specs.Step.{Result, ok, failed, exhausted, unsettled, unsafe, Step}
 use Rattle.boxes_spec.specs.Reach.{Reached}
@@ -57,12 +58,12 @@ pub record Arrived (n : ℕ) (A B F P : List ℤ) : Type 0 where
 pub record TestedDone (p : ReachPlan) (v : List ℤ) (left c : ℕ) (A : List ℤ) (r : ReachResult) (B F P : List ℤ) : Type 0 where
   pub same : testedStepOf B P r ≡ testedStepOn p v A left c
   pub names : Names (lowestOn p v P) r
-  pub arrived : isEnded r ≡ true → Arrived (p .plant .n) A B F P
-  pub trimmed : trim (p .plant .n) B ≡ B
+  pub arrived : isEnded r ≡ true → Arrived (vars v) A B F P
+  pub trimmed : trim (vars v) B ≡ B
 
 -- a reach of T ticks from A answers r, and leaves the end box B and the swept box W
 pub record ReachDone (p : ReachPlan) (v : List ℤ) (T c : ℕ) (A : List ℤ) (r : ReachResult) (B W : List ℤ) : Type 0 where
   pub same : reachedOf B W r ≡ reachOn p v A T c
   pub names : Names (lowestOn p v W) r
   pub covered : isEnded r ≡ true → ticksOf r ≡ T
-  pub trimmed : trim (p .plant .n) B ≡ B
+  pub trimmed : trim (vars v) B ≡ B

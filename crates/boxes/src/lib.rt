@@ -3,7 +3,6 @@
 // What may be asked is tested in `boxes_refusals`.
 ghost use mathlib.Core.Path.{_≡_};
 ghost use Rattle.sheet_spec.specs.Valid.{Valid};
-ghost use Rattle.machine_spec.specs.Machine.{lawOf};
 ghost use Rattle.boxes_spec.specs.Reach as spec;
 ghost use Rattle.boxes.specs.ReachAnswer.{answerOf};
 
@@ -15,6 +14,7 @@ use crate::steps::plant;
 use boxes_refusals::reach_refusal;
 use boxes_shape::compare::trim;
 use boxes_step::Budget;
+use machine_spec::Law;
 use sheet::read_zeroed;
 use sheet_spec::slots::BOX_SIZE;
 use sheet_spec::slots::SLOTS;
@@ -43,15 +43,14 @@ pub fn reach_of(
     sheet: &[i32; SLOTS],
     ticks: u32,
     width: u32,
-    baseline: bool,
-    command: i32,
+    law: Law,
     start: &[i64; BOX_SIZE],
 ) -> ReachAnswer
     requires { ⌜ Valid (now sheet) ⌝ }
-    ensures { λ r. ⌜ answerOf r ≡ spec.reachOf (now (sheet .entry)) ticks width (lawOf baseline command) (now (start .entry)) ⌝ }
+    ensures { λ r. ⌜ answerOf r ≡ spec.reachOf (now (sheet .entry)) ticks width law (now (start .entry)) ⌝ }
 {
-    let p = plant(sheet, baseline, command);
-    let refusal = reach_refusal(p.n, sheet, ticks, width, baseline, command, start);
+    let p = plant(sheet, law);
+    let refusal = reach_refusal(p.n, sheet, ticks, width, law, start);
     if refusal != 0 {
         return refused(refusal);
     }
@@ -80,20 +79,13 @@ pub fn reach_of(
 }
 
 // A reach of a sheet's file.
-pub fn reach(
-    f: &[u8],
-    ticks: u32,
-    width: u32,
-    baseline: bool,
-    command: i32,
-    start: &[i64; BOX_SIZE],
-) -> ReachAnswer
-    ensures { λ r. ⌜ answerOf r ≡ spec.reachFile (now (f .entry)) ticks width (lawOf baseline command) (now (start .entry)) ⌝ }
+pub fn reach(f: &[u8], ticks: u32, width: u32, law: Law, start: &[i64; BOX_SIZE]) -> ReachAnswer
+    ensures { λ r. ⌜ answerOf r ≡ spec.reachFile (now (f .entry)) ticks width law (now (start .entry)) ⌝ }
 {
     let mut value: [i32; SLOTS] = [0; SLOTS];
     let refusal = read_zeroed(f, &mut value);
     if refusal != 0 {
         return refused(refusal);
     }
-    reach_of(&value, ticks, width, baseline, command, start)
+    reach_of(&value, ticks, width, law, start)
 }

@@ -4,8 +4,7 @@
 ghost use Prim.Native.Nat.{min};
 ghost use mathlib.Core.Path.{_≡_};
 ghost use Rattle.sheet_spec.specs.Valid.{Valid};
-ghost use Rattle.machine_spec.specs.Machine.{lawOf, machine};
-ghost use Rattle.boxes_rates.specs.Plant.{machineOf};
+ghost use Rattle.boxes_rates.specs.Plant.{Describes};
 ghost use Rattle.boxes.specs.Limits.{ReachAsked, TestedAsked};
 ghost use Rattle.boxes.specs.ReachResult.{ReachDone, TestedDone};
 use boxes_rates::Plant;
@@ -15,16 +14,17 @@ use boxes_shape::motion::join;
 use boxes_step::Budget;
 use boxes_step::StepResult;
 use boxes_step::step;
+use machine_spec::Law;
 use sheet_spec::slots::BAND_VAR;
 use sheet_spec::slots::BANDS;
 use sheet_spec::slots::BOX_SIZE;
 use sheet_spec::slots::SLOTS;
 use sheet_spec::slots::VARS;
 
-// The machine of an accepted sheet's value under a law: the baseline, or else one command.
-pub fn plant(sheet: &[i32; SLOTS], baseline: bool, command: i32) -> Plant
+// The machine of an accepted sheet's value under a law.
+pub fn plant(sheet: &[i32; SLOTS], law: Law) -> Plant
     requires { ⌜ Valid (now sheet) ⌝ }
-    ensures { λ r. ⌜ machineOf r (now (sheet .entry)) ≡ machine (now (sheet .entry)) (lawOf baseline command) ⌝ }
+    ensures { λ r. ⌜ (r .law ≡ law) × Describes r (now (sheet .entry)) ⌝ }
 {
     let n = sheet[VARS] as usize;
     let bands = sheet[BANDS] as usize;
@@ -33,8 +33,7 @@ pub fn plant(sheet: &[i32; SLOTS], baseline: bool, command: i32) -> Plant
         n: n,
         bands: bands,
         var: var,
-        baseline: baseline,
-        command: command,
+        law: law,
     }
 }
 

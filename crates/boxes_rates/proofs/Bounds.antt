@@ -8,13 +8,15 @@ use lib.Signed.{_≤ℤ_}
 use lib.ListN.{set, replicate}
 use Rattle.integers.specs.Bound.{Bound}
 use Rattle.integers.proofs.Z.{ints, min-is, max-is, sum, sub, neg, bound-sum, bound-mul, bound-lit, bound-less, bound-in}
-use Rattle.sheet_spec.specs.Slots.{_!_, N, boxSize}
+use Rattle.sheet_spec.specs.Slots.{_!_, N, boxSize, vars, cap}
 use Rattle.sheet_spec.specs.Box.{lo, hi}
+use Rattle.sheet_spec.specs.Limits.{maxCap}
+use Rattle.sheet_spec.specs.Valid.{Valid}
 use Rattle.machine_spec.specs.Box.{boxOf, trim, hull, moved}
-use Rattle.machine_spec.specs.Machine.{Machine, cap}
+use Rattle.machine_spec.specs.declared.Law.{Law}
+use Rattle.machine_spec.specs.Machine.{machine}
 use Rattle.machine_spec.specs.Rate.{outer, rate, neighborhood, faceRate, rates}
 use Rattle.boxes_arithmetic.specs.Limits.{SidesWithin}
-use Rattle.boxes_rates.specs.Plant.{Usable}
 use Rattle.machine_spec.proofs.Face.{outer-one}
 use Rattle.machine_spec.proofs.Sound.{rate-within}
 
@@ -74,18 +76,18 @@ neighborhood-bound {b} true S w E i h s e =
     let y = s .at (i + N) .at-most in
     set-bound E i e (bound-in (omega (ints, neg (pos b))) (omega ints))
 
--- ---- a rate is at most the cap, and the cap at most 1,000
+-- ---- a rate is at most the cap
 
-module _ {m : Machine} (g : Usable m) {i : ℕ} (h : i < m .n) where
-  pub cap-bound : Bound (cap m i) 1000
-  cap-bound = let c = g .caps i h in bound-in (omega (ints, c .low)) (c .high)
+pub cap-bound : {v : List ℤ} {i : ℕ} → Valid v → i < vars v → Bound (cap v i) maxCap
+cap-bound {i} wf h = let c = wf .caps i h in bound-in (omega (ints, c .low)) (c .high)
 
-  pub rate-bound : (up : Bool) (B : List ℤ) → Bound (rate up m B i) 1000
-  rate-bound up B =
-      let c = g .caps i h in
-      let w = rate-within up m B i (omega (ints, c .low)) in
-      bound-in (omega (ints, w .low, c .high, neg (cap m i))) (omega (ints, w .high, c .high))
+module _ {v : List ℤ} (l : Law) (wf : Valid v) where
+  rate-bound : {i : ℕ} → i < vars v → (up : Bool) (B : List ℤ) → Bound (rate up (machine v l) B i) maxCap
+  rate-bound {i} h up B =
+      let c = wf .caps i h in
+      let w = rate-within up (machine v l) B i (omega (ints, c .low)) in
+      bound-in (omega (ints, w .low, c .high, neg (cap v i))) (omega (ints, w .high, c .high))
 
-pub rates-bound : {m : Machine} → Usable m → (S : List ℤ) (k : ℕ) (E : List ℤ) → SidesWithin 1000 (rates m S k E)
-unfolding rates faceRate
-rates-bound {m} g S k E = sides-bound 1000 (m .n) _ _ (λ i l. rate-bound g l false _) (λ i l. rate-bound g l true _)
+  pub rates-bound : (S : List ℤ) (k : ℕ) (E : List ℤ) → SidesWithin maxCap (rates (machine v l) S k E)
+  unfolding rates faceRate
+  rates-bound S k E = sides-bound maxCap (vars v) _ _ (λ i h. rate-bound h false _) (λ i h. rate-bound h true _)

@@ -1,5 +1,5 @@
 -- Laws about bands, laws and rates. Assumes nothing.
-use mathlib.Core.Path.{_≡_, refl}
+use mathlib.Core.Path.{_≡_, refl, ap, _∙_}
 use mathlib.Core.Bool.{Bool, true, false}
 use mathlib.Core.List.{List}
 use Prim.Native.Nat.{ℕ, _+_, _≤_, _<_}
@@ -8,11 +8,14 @@ use native.Mathlib.Omega.{arith}
 use lib.IntN.{ℤ}
 use lib.Signed.{ltZ, _≤ℤ_, _<ℤ_}
 use borrow.Author.Tests.{le-leb, lt-leb}
-use Rattle.sheet_spec.specs.Slots.{edge, safetyLeast, safetyGreatest}
-use Rattle.sheet_spec.specs.Valid.{Valid}
-use Rattle.machine_spec.specs.Machine.{Law, machine, leastOf, greatestOf, bandMeets, lawOf}
+use Rattle.sheet_spec.specs.Slots.{bands, bandVar, edge, safetyLeast, safetyGreatest}
+use Rattle.sheet_spec.specs.Box.{lo, hi}
+use Rattle.machine_spec.specs.declared.Law.{Law}
+use Rattle.machine_spec.specs.declared.Law.the-variants.{Baseline, Command}
+use Rattle.machine_spec.specs.Machine.{leastOf, greatestOf, bandMeets}
 use Rattle.machine_spec.specs.Rate.{outer, outermost}
-use Rattle.boxes_rates.specs.Plant.{Usable}
+use Rattle.boxes_rates.specs.declared.Plant.{Plant}
+use Rattle.boxes_rates.specs.Plant.{Describes}
 use Rattle.sheet_spec.proofs.Box.{le-is, le-not}
 
 pub outermost-more : (up : Bool) (z : ℤ) (n : ℕ) (f : ℕ → ℤ) → outermost up z (n + 1) f ≡ outer up (outermost up z n f) (f n)
@@ -20,22 +23,22 @@ unfolding outermost
 outermost-more up z n f = rw add-one refl
 
 -- the law's commands in band k
-module _ {b : Bool} (u : ℤ) (v : List ℤ) (k : ℕ) where
-  pub least-plain : b ≡ true → leastOf (lawOf b u) v k ≡ safetyLeast v k
-  unfolding leastOf lawOf
+module _ {l : Law} (v : List ℤ) (k : ℕ) where
+  pub least-plain : l ≡ Baseline → leastOf l v k ≡ safetyLeast v k
+  unfolding leastOf
   least-plain e = rw e refl
 
-  pub greatest-plain : b ≡ true → greatestOf (lawOf b u) v k ≡ safetyGreatest v k
-  unfolding greatestOf lawOf
+  pub greatest-plain : l ≡ Baseline → greatestOf l v k ≡ safetyGreatest v k
+  unfolding greatestOf
   greatest-plain e = rw e refl
 
   -- one command is the least and the greatest
-  pub least-one : b ≡ false → leastOf (lawOf b u) v k ≡ u
-  unfolding leastOf lawOf
+  pub least-one : {u : ℤ} → l ≡ Command u → leastOf l v k ≡ u
+  unfolding leastOf
   least-one e = rw e refl
 
-  pub greatest-one : b ≡ false → greatestOf (lawOf b u) v k ≡ u
-  unfolding greatestOf lawOf
+  pub greatest-one : {u : ℤ} → l ≡ Command u → greatestOf l v k ≡ u
+  unfolding greatestOf
   greatest-one e = rw e refl
 
 -- band k and the numbers from l to h
@@ -52,12 +55,8 @@ module _ (v : List ℤ) (bands k : ℕ) (l h : ℤ) where
   unfolding bandMeets
   meets-next g e = rw (le-is (edge v k) h g, lt-leb bands (k + 1) e) refl
 
--- an accepted sheet's machine is usable
-pub usable : {v : List ℤ} (l : Law) → Valid v → Usable (machine v l)
-usable l h = record {
-  vars = omega (arith, h .vars-high);
-  bands = omega (arith, h .bands-high);
-  var = h .var;
-  caps = h .caps;
-  divisors = λ k i b n. h .rows k i b n .q .low;
-}
+-- a plant's bands and band variable are the sheet's
+pub meets-described : {p : Plant} {v : List ℤ} → Describes p v → (k : ℕ) (B : List ℤ)
+    → bandMeets v (p .bands) k (lo B (p .var)) (hi B (p .var)) ≡ bandMeets v (bands v) k (lo B (bandVar v)) (hi B (bandVar v))
+meets-described {p} {v} d k B =
+    ap (λ (n : ℕ). bandMeets v n k (lo B (p .var)) (hi B (p .var))) (d .bands) ∙ ap (λ (i : ℕ). bandMeets v (bands v) k (lo B i) (hi B i)) (d .var)

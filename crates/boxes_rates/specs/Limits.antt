@@ -6,12 +6,14 @@ use Prim.Native.Nat.{ℕ, _+_, _*_, _≤_, _<_}
 use lib.IntN.{ℤ, pos, negℤ, _*ℤ_}
 use lib.Signed.{_≤ℤ_}
 use Rattle.integers.specs.Bound.{Bound}
-use Rattle.sheet_spec.specs.Slots.{N, rowSize, slots, Row, rowAt}
+use Rattle.sheet_spec.specs.Limits.{maxTicks, maxCap}
+use Rattle.sheet_spec.specs.Slots.{N, rowSize, slots, vars, bands, cap, Row, rowAt}
 use Rattle.sheet_spec.specs.Valid.{Between}
-use Rattle.machine_spec.specs.Machine.{Machine, cap, least, greatest}
+use Rattle.machine_spec.specs.Machine.{Machine, least, greatest}
 use Rattle.machine_spec.specs.Rate.{bound, outer}
 use Rattle.boxes_arithmetic.specs.Limits.{Capped, SidesWithin, limit, word}
-use Rattle.boxes_rates.specs.Plant.{Usable}
+use Rattle.boxes_rates.specs.declared.Plant.{Plant}
+use Rattle.boxes_rates.specs.Plant.{Describes}
 
 -- no number N of a row over a box that the code takes is greater
 abbrev pub rowLimit : ℕ
@@ -20,6 +22,10 @@ rowLimit = 9000000000000000000
 -- nor the part of a row's N that a command has
 abbrev pub termLimit : ℕ
 termLimit = word * word
+
+-- nor is a neighborhood's reach from its face
+abbrev pub reachLimit : ℕ
+reachLimit = (maxTicks + 1) * maxCap
 
 -- ---- a row of the sheet
 
@@ -49,28 +55,28 @@ pub record ChangeAsked (cap : ℤ) (v : List ℤ) (row : ℕ) (x z : ℤ) : Type
 -- ---- a rate over a box
 
 -- the rate of variable i over the box B can be worked out
-pub record RateAsked (m : Machine) (B : List ℤ) (i : ℕ) : Type 0 where
-  pub usable : Usable m
+pub record RateAsked (p : Plant) (v B : List ℤ) (i : ℕ) : Type 0 where
+  pub plant : Describes p v
   pub sides : SidesWithin limit B
-  pub var : i < m .n
+  pub var : i < vars v
 
 -- so can a band's share in it, beside the outermost so far, z
-pub record BandAsked (m : Machine) (B : List ℤ) (i band : ℕ) (z : ℤ) : Type 0 where
-  pub rate : RateAsked m B i
-  pub among : band < m .bands
-  pub within : Between (negℤ (cap m i)) (cap m i) z
+pub record BandAsked (p : Plant) (v B : List ℤ) (i band : ℕ) (z : ℤ) : Type 0 where
+  pub rate : RateAsked p v B i
+  pub among : band < bands v
+  pub within : Between (negℤ (cap v i)) (cap v i) z
 
 -- ---- the rates of a round
 
--- a box can be cut off at `reach` from a face of S, at most 1,001 caps
+-- a box can be cut off at `reach` from a face of S: one cap more than a step has ticks
 pub record NarrowAsked (S : List ℤ) (reach : ℤ) (i : ℕ) : Type 0 where
   pub room : i < N
-  pub near : Bound reach 1001000
+  pub near : Bound reach reachLimit
   pub start : SidesWithin limit S
 
 -- the rates of a step of k ticks from the box S can be worked out with the working box E
-pub record RatesAsked (m : Machine) (S : List ℤ) (k : ℕ) (E : List ℤ) : Type 0 where
-  pub usable : Usable m
-  pub ticks : k ≤ 1000
+pub record RatesAsked (p : Plant) (v S : List ℤ) (k : ℕ) (E : List ℤ) : Type 0 where
+  pub plant : Describes p v
+  pub ticks : k ≤ maxTicks
   pub start : SidesWithin limit S
   pub work : SidesWithin limit E

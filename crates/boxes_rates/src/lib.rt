@@ -4,11 +4,12 @@
 pub mod rate;
 pub mod row;
 
-// A sheet's machine under a law: the baseline, or else the one command.
+use machine_spec::Law;
+
+// What is used of a sheet's numbers in every round, beside the law.
 pub struct Plant {
     pub n: usize,
     pub bands: usize,
     pub var: usize,
-    pub baseline: bool,
-    pub command: i32,
+    pub law: Law,
 }

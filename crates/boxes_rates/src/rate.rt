@@ -6,10 +6,10 @@ ghost use Rattle.integers.specs.Bound.{Bound};
 ghost use Rattle.sheet_spec.specs.Limits.{maxBands};
 ghost use Rattle.sheet_spec.specs.Slots as slots;
 ghost use Rattle.sheet_spec.specs.Box.{hi, lo};
-ghost use Rattle.machine_spec.specs.Machine.{bandMeets};
+ghost use Rattle.machine_spec.specs.Machine.{bandMeets, machine};
 ghost use Rattle.machine_spec.specs.Rate.{bandRate, faceRate, neighborhood, neutral, outer, rate, rates};
 ghost use Rattle.boxes_rates.specs.Limits.{BandAsked, CommandTerm, NarrowAsked, RateAsked, RatesAsked};
-ghost use Rattle.boxes_rates.specs.Plant.{cutAt, machineOf};
+ghost use Rattle.boxes_rates.specs.Plant.{cutAt};
 use crate::Plant;
 use crate::row::bound;
 use crate::row::further;
@@ -17,6 +17,7 @@ use crate::row::product;
 use boxes_arithmetic::max;
 use boxes_arithmetic::min;
 use boxes_arithmetic::outer;
+use machine_spec::Law;
 use sheet_spec::slots::BAND_SIZE;
 use sheet_spec::slots::BOX_SIZE;
 use sheet_spec::slots::FIRST_BAND;
@@ -55,23 +56,25 @@ fn neutral(up: bool, cap: i64) -> i64
 }
 
 // The outer one of b·u over the law's commands u in the band, where b is that of the row at a slot.
-fn command_term(up: bool, plant: Plant, sheet: &[i32; SLOTS], row: usize, band: usize) -> i64
+fn command_term(up: bool, law: Law, sheet: &[i32; SLOTS], row: usize, band: usize) -> i64
     requires { ⌜ (row + slots.rowSize ≤ slots.slots) × (band < maxBands) ⌝ }
-    ensures { λ r. ⌜ CommandTerm up (machineOf plant (now (sheet .entry))) (slots.rowAt (now (sheet .entry)) row) band r ⌝ }
+    ensures { λ r. ⌜ CommandTerm up (machine (now (sheet .entry)) law) (slots.rowAt (now (sheet .entry)) row) band r ⌝ }
 {
     let slot = row + ROW_B;
     let coefficient = sheet[slot];
-    if plant.baseline {
-        let edge = FIRST_BAND + band * BAND_SIZE;
-        let least = edge + SAFETY_LEAST;
-        let greatest = edge + SAFETY_GREATEST;
-        return outer(
-            up,
-            product(coefficient, sheet[least]),
-            product(coefficient, sheet[greatest]),
-        );
+    match law {
+        Law::Baseline => {
+            let edge = FIRST_BAND + band * BAND_SIZE;
+            let least = edge + SAFETY_LEAST;
+            let greatest = edge + SAFETY_GREATEST;
+            outer(
+                up,
+                product(coefficient, sheet[least]),
+                product(coefficient, sheet[greatest]),
+            )
+        }
+        Law::Command(u) => product(coefficient, u),
     }
-    product(coefficient, plant.command)
 }
 
 // The outer one of the outermost so far and of the band's share in the rate of variable i over the box, if they meet.
@@ -84,11 +87,12 @@ fn row_rate(
     band: usize,
     outermost: i64,
 ) -> i64
-    requires { ⌜ BandAsked (machineOf plant (now sheet)) (now over) i band outermost × (bandMeets (now sheet) (plant .bands) band (lo (now over) (plant .var)) (hi (now over) (plant .var)) ≡ true) ⌝ }
-    ensures { λ r. ⌜ r ≡ outer up outermost (bandRate up (machineOf plant (now (sheet .entry))) (now (over .entry)) i band) ⌝ }
+    requires { ⌜ BandAsked plant (now sheet) (now over) i band outermost × (bandMeets (now sheet) (slots.bands (now sheet)) band (lo (now over) (slots.bandVar (now sheet))) (hi (now over) (slots.bandVar (now sheet))) ≡ true) ⌝ }
+    ensures { λ r. ⌜ r ≡ outer up outermost (bandRate up (machine (now (sheet .entry)) (plant .law)) (now (over .entry)) i band) ⌝ }
 {
     let row = FIRST_BAND + band * BAND_SIZE + FIRST_ROW + i * ROW_SIZE;
-    let term = command_term(up, plant, sheet, row, band);
+    let law = plant.law;
+    let term = command_term(up, law, sheet, row, band);
     let number = bound(up, plant.n, sheet, row, over, term);
     let slot = FIRST_CAP + i;
     further(up, sheet[slot] as i64, sheet, row, number, outermost)
@@ -104,8 +108,8 @@ fn band_rate(
     band: usize,
     outermost: i64,
 ) -> i64
-    requires { ⌜ BandAsked (machineOf plant (now sheet)) (now over) i band outermost ⌝ }
-    ensures { λ r. ⌜ r ≡ outer up outermost (bandRate up (machineOf plant (now (sheet .entry))) (now (over .entry)) i band) ⌝ }
+    requires { ⌜ BandAsked plant (now sheet) (now over) i band outermost ⌝ }
+    ensures { λ r. ⌜ r ≡ outer up outermost (bandRate up (machine (now (sheet .entry)) (plant .law)) (now (over .entry)) i band) ⌝ }
 {
     let lower = plant.var;
     let upper = lower + N;
@@ -118,8 +122,8 @@ fn band_rate(
 
 // The least or the greatest allowed change of variable i over the box.
 fn rate(up: bool, plant: Plant, sheet: &[i32; SLOTS], over: &[i64; BOX_SIZE], i: usize) -> i64
-    requires { ⌜ RateAsked (machineOf plant (now sheet)) (now over) i ⌝ }
-    ensures { λ r. ⌜ r ≡ rate up (machineOf plant (now (sheet .entry))) (now (over .entry)) i ⌝ }
+    requires { ⌜ RateAsked plant (now sheet) (now over) i ⌝ }
+    ensures { λ r. ⌜ r ≡ rate up (machine (now (sheet .entry)) (plant .law)) (now (over .entry)) i ⌝ }
 {
     let slot = FIRST_CAP + i;
     let mut outermost = neutral(up, sheet[slot] as i64);
@@ -163,8 +167,8 @@ fn face_rate(
     work: &mut [i64; BOX_SIZE],
     i: usize,
 ) -> i64
-    requires { ⌜ RatesAsked (machineOf plant (now sheet)) (now start) ticks (now work) × (i < plant .n) ⌝ }
-    ensures { λ r. ⌜ r ≡ faceRate up (machineOf plant (now (sheet .entry))) (now (start .entry)) ticks (now (work .entry)) i ⌝ }
+    requires { ⌜ RatesAsked plant (now sheet) (now start) ticks (now work) × (i < slots.vars (now sheet)) ⌝ }
+    ensures { λ r. ⌜ r ≡ faceRate up (machine (now (sheet .entry)) (plant .law)) (now (start .entry)) ticks (now (work .entry)) i ⌝ }
     ensures { λ r. ⌜ now (work .exit) ≡ now (work .entry) ⌝ }
 {
     let slot = FIRST_CAP + i;
@@ -187,8 +191,8 @@ pub fn rates(
     work: &mut [i64; BOX_SIZE],
     face_rates: &mut [i64; BOX_SIZE],
 )
-    requires { ⌜ RatesAsked (machineOf plant (now sheet)) (now start) ticks (now work) ⌝ }
-    ensures { λ _. ⌜ now («face_rates» .exit) ≡ rates (machineOf plant (now (sheet .entry))) (now (start .entry)) ticks (now (work .entry)) ⌝ }
+    requires { ⌜ RatesAsked plant (now sheet) (now start) ticks (now work) ⌝ }
+    ensures { λ _. ⌜ now («face_rates» .exit) ≡ rates (machine (now (sheet .entry)) (plant .law)) (now (start .entry)) ticks (now (work .entry)) ⌝ }
     ensures { λ _. ⌜ now (work .exit) ≡ now (work .entry) ⌝ }
 {
     *face_rates = [0; BOX_SIZE];

@@ -4,8 +4,8 @@
 ghost use mathlib.Core.Path.{_≡_};
 ghost use Prim.Native.Nat.{_≤_};
 ghost use Rattle.sheet_spec.specs.Slots as slots;
-ghost use Rattle.machine_spec.specs.Machine.{lawOf};
 ghost use Rattle.boxes_spec.specs.Reach.{inRange, lawRefusal, reachRefusal, sidesRefusal, ticksRefusal};
+use machine_spec::Law;
 use sheet_spec::limits::MAX_SIDE;
 use sheet_spec::limits::MAX_TICKS;
 use sheet_spec::limits::MAX_WIDTH;
@@ -33,12 +33,12 @@ fn ticks_refusal(ticks: u32, width: u32) -> u8
     0
 }
 
-pub fn law_refusal(sheet: &[i32; SLOTS], baseline: bool, command: i32) -> u8
-    ensures { λ r. ⌜ r ≡ lawRefusal (now (sheet .entry)) (lawOf baseline command) ⌝ }
+pub fn law_refusal(sheet: &[i32; SLOTS], law: Law) -> u8
+    ensures { λ r. ⌜ r ≡ lawRefusal (now (sheet .entry)) law ⌝ }
 {
-    if baseline {
+    let Law::Command(command) = law else {
         return 0;
-    }
+    };
     if command < sheet[LEAST] {
         return COMMAND;
     }
@@ -81,18 +81,17 @@ pub fn reach_refusal(
     sheet: &[i32; SLOTS],
     ticks: u32,
     width: u32,
-    baseline: bool,
-    command: i32,
+    law: Law,
     start: &[i64; BOX_SIZE],
 ) -> u8
     requires { ⌜ (n ≡ slots.vars (now sheet)) × (n ≤ slots.N) ⌝ }
-    ensures { λ r. ⌜ r ≡ reachRefusal (now (sheet .entry)) ticks width (lawOf baseline command) (now (start .entry)) ⌝ }
+    ensures { λ r. ⌜ r ≡ reachRefusal (now (sheet .entry)) ticks width law (now (start .entry)) ⌝ }
 {
     let of_ticks = ticks_refusal(ticks, width);
     if of_ticks != 0 {
         return of_ticks;
     }
-    let of_law = law_refusal(sheet, baseline, command);
+    let of_law = law_refusal(sheet, law);
     if of_law != 0 {
         return of_law;
     }

@@ -1,11 +1,17 @@
 -- What the code that moves boxes asks of its caller, and what it leaves.
 use mathlib.Core.Path.{_≡_}
+use mathlib.Core.Bool.{Bool, _&&_}
 use mathlib.Core.List.{List}
-use Prim.Native.Nat.{ℕ, _≤_}
-use lib.IntN.{ℤ}
+use Prim.Native.Nat.{ℕ, _+_, _≤_}
+use lib.IntN.{ℤ, pos, _+ℤ_, _*ℤ_}
+use lib.ListN.{set}
+use lib.Signed.{leZ}
 use Rattle.integers.specs.Bound.{Bound}
-use Rattle.sheet_spec.specs.Slots.{N}
+use Rattle.integers.specs.Order.{minZ, maxZ}
+use Rattle.sheet_spec.specs.Slots.{_!_, N}
+use Rattle.sheet_spec.specs.Box.{lo, hi}
 use Rattle.machine_spec.specs.Box.{trim, hull, moved}
+use Rattle.machine_spec.specs.Rate.{outer}
 use Rattle.boxes_arithmetic.specs.Limits.{SidesWithin, limit}
 
 -- the side x can be moved by k of the rate r
@@ -32,3 +38,20 @@ pub record ArriveDone (n : ℕ) (A : List ℤ) (k : ℕ) (R B F P : List ℤ) : 
   pub end : B ≡ moved n A k R
   pub work : F ≡ B
   pub path : P ≡ hull n A B
+
+-- ---- of one variable or side
+
+-- the sides `low` and `high` of variable i are tested against those of E, and joined to them in F
+pub record TookIn (i : ℕ) (low high : ℤ) (E : List ℤ) (inside : Bool) (F : List ℤ) : Type 0 where
+  pub test : inside ≡ (leZ (lo E i) low && leZ high (hi E i))
+  pub joined : F ≡ set (set E i (minZ (lo E i) low)) (i + N) (maxZ (hi E i) high)
+
+-- A's side at a place, moved by k of its rate
+abbrev pub movedSide : List ℤ → ℕ → List ℤ → ℕ → ℤ
+movedSide A k R place = A ! place +ℤ pos k *ℤ R ! place
+
+-- A, the working box E and the path P become B, F and Q: at one place, as `ArriveDone` says of all
+pub record ArriveSideDone (up : Bool) (place : ℕ) (A : List ℤ) (k : ℕ) (R E P B F Q : List ℤ) : Type 0 where
+  pub end : B ≡ set A place (movedSide A k R place)
+  pub work : F ≡ set E place (movedSide A k R place)
+  pub path : Q ≡ set P place (outer up (A ! place) (movedSide A k R place))

@@ -2,14 +2,17 @@
 // box that is returned is copied, and the next turn would wait for the copy. The definitions are in machine_spec/specs/Box; `compare`
 // says what a box is.
 ghost use mathlib.Core.Path.{_≡_};
-ghost use Prim.Native.Nat.{_≤_};
+ghost use Prim.Native.Nat.{_≤_, _<_};
 ghost use lib.IntN.{pos, _+ℤ_, _*ℤ_};
 ghost use Rattle.sheet_spec.specs.Slots as slots;
+ghost use Rattle.sheet_spec.specs.Slots.{_!_};
 ghost use Rattle.machine_spec.specs.Box.{hull, moved, trim, within};
-ghost use Rattle.boxes_shape.specs.Limits.{ArriveDone, Movable, SideMovable, Trimmed};
+ghost use Rattle.machine_spec.specs.Rate.{outer};
+ghost use Rattle.boxes_shape.specs.Limits.{ArriveDone, ArriveSideDone, Movable, SideMovable, TookIn, Trimmed};
 use boxes_arithmetic::both_le;
 use boxes_arithmetic::max;
 use boxes_arithmetic::min;
+use boxes_arithmetic::outer;
 use sheet_spec::slots::BOX_SIZE;
 use sheet_spec::slots::N;
 
@@ -19,6 +22,26 @@ fn along(side: i64, ticks: usize, rate: i64) -> i64
     ensures { λ r. ⌜ r ≡ side +ℤ pos ticks *ℤ rate ⌝ }
 {
     side + (ticks as i64) * rate
+}
+
+// The side of the hull of a side and of the side moved: the lower one, or the upper.
+fn swept_side(up: bool, side: i64, ticks: usize, rate: i64) -> i64
+    requires { ⌜ SideMovable side ticks rate ⌝ }
+    ensures { λ r. ⌜ r ≡ outer up side (side +ℤ pos ticks *ℤ rate) ⌝ }
+{
+    outer(up, side, along(side, ticks, rate))
+}
+
+// Whether the sides of a variable lie in those of `work`, which become the hull of both.
+fn take_in(i: usize, low: i64, high: i64, work: &mut [i64; BOX_SIZE]) -> bool
+    requires { ⌜ i < slots.N ⌝ }
+    ensures { λ r. ⌜ TookIn i low high (now (work .entry)) r (now (work .exit)) ⌝ }
+{
+    let upper = i + N;
+    let inside = both_le(work[i], low, high, work[upper]);
+    work[i] = min(work[i], low);
+    work[upper] = max(work[upper], high);
+    inside
 }
 
 // Whether the hull of `start` and of `start` moved by its rates for `ticks` ticks lies in `work`, which becomes the hull of both.
@@ -37,14 +60,33 @@ pub fn grow(
     let mut i: usize = 0;
     while i < n {
         let upper = i + N;
-        let low = min(start[i], along(start[i], ticks, rates[i]));
-        let high = max(start[upper], along(start[upper], ticks, rates[upper]));
-        inside = inside && both_le(work[i], low, high, work[upper]);
-        work[i] = min(work[i], low);
-        work[upper] = max(work[upper], high);
+        let low = swept_side(false, start[i], ticks, rates[i]);
+        let high = swept_side(true, start[upper], ticks, rates[upper]);
+        let right = take_in(i, low, high, work);
+        inside = inside && right;
         i += 1;
     }
     inside
+}
+
+// A side of `at` moves on by its rate, the side of `work` becomes the same, and that of `path` the hull's.
+fn arrive_side(
+    up: bool,
+    place: usize,
+    ticks: usize,
+    rates: &[i64; BOX_SIZE],
+    work: &mut [i64; BOX_SIZE],
+    at: &mut [i64; BOX_SIZE],
+    path: &mut [i64; BOX_SIZE],
+)
+    requires { ⌜ (place < slots.boxSize) × SideMovable (now at ! place) ticks (now rates ! place) ⌝ }
+    ensures { λ _. ⌜ ArriveSideDone up place (now (at .entry)) ticks (now (rates .entry)) (now (work .entry)) (now (path .entry)) (now (at .exit)) (now (work .exit)) (now (path .exit)) ⌝ }
+{
+    let side = at[place];
+    let end = along(side, ticks, rates[place]);
+    path[place] = outer(up, side, end);
+    at[place] = end;
+    work[place] = end;
 }
 
 // `at` moves on by its rates for `ticks` ticks, `work` becomes the same box, and `path` the hull of both ends.
@@ -61,15 +103,8 @@ pub fn arrive(
 {
     let mut i: usize = 0;
     while i < n {
-        let upper = i + N;
-        let low = along(at[i], ticks, rates[i]);
-        let high = along(at[upper], ticks, rates[upper]);
-        path[i] = min(at[i], low);
-        path[upper] = max(at[upper], high);
-        at[i] = low;
-        at[upper] = high;
-        work[i] = low;
-        work[upper] = high;
+        arrive_side(false, i, ticks, rates, work, at, path);
+        arrive_side(true, i + N, ticks, rates, work, at, path);
         i += 1;
     }
 }
@@ -81,9 +116,7 @@ pub fn join(n: usize, other: &[i64; BOX_SIZE], out: &mut [i64; BOX_SIZE])
 {
     let mut i: usize = 0;
     while i < n {
-        let upper = i + N;
-        out[i] = min(out[i], other[i]);
-        out[upper] = max(out[upper], other[upper]);
+        take_in(i, other[i], other[i + N], out);
         i += 1;
     }
 }

@@ -9,7 +9,8 @@ use Rattle.sheet_spec.specs.Slots.{N, vars}
 use Rattle.sheet_spec.specs.Valid.{Valid}
 use Rattle.sheet_spec.specs.Box.{any}
 use Rattle.machine_spec.specs.Box.{trim}
-use Rattle.machine_spec.specs.Machine.{Law, Machine, machine}
+use Rattle.machine_spec.specs.declared.Law.{Law}
+use Rattle.machine_spec.specs.Machine.{Machine, machine, varsOf}
 use Rattle.sheet_spec.proofs.Box.{differ}
 use Rattle.sheet_spec.proofs.Laws.{goes-on}
 use Rattle.machine_spec.proofs.Inside.{trim-holds}
@@ -33,7 +34,7 @@ takes-count (value p n) = n
 takes-count (failure q n) = n
 takes-count (spent i e n) = n
 
-module _ (l : Bool) (a : ℕ) (m : Machine) (room : m .n ≤ N) where
+module _ (l : Bool) (a : ℕ) (m : Machine) (room : varsOf m ≤ N) where
   -- a step of at most 1,000 ticks takes at most 73 rounds
   pub step-count : (S : List ℤ) (k c : ℕ) → 0 < k → k ≤ 1000 → Counted l a c 73 (count (step l a m S k c))
   step-count S k c z h = takes-count (step-takes l a m S room k c 9 z (omega arith))

@@ -10,7 +10,7 @@ use lib.Dec.{leb, eqb}
 use lib.IntN.{ℤ}
 use borrow.Author.Tests.{eqb-true, eqb-false}
 use Rattle.machine_spec.specs.Box.{hull}
-use Rattle.machine_spec.specs.Machine.{Machine}
+use Rattle.machine_spec.specs.Machine.{Machine, varsOf}
 use Rattle.boxes_spec.specs.Step.{settles, grown, Failure, Result, ok, failed, exhausted, andThen, retry, isExhausted, rounds, halving, step, swept}
 use Rattle.boxes_spec.specs.Reach.{testedStep, steps, reach}
 use Rattle.boxes_spec.proofs.Count.{count}
@@ -107,7 +107,7 @@ module _ (A : ℕ) (m : Machine) (clear : List ℤ → Bool) (w : ℕ) where
   walk-cut zero S W left c = cut-failure
   walk-cut (suc fuel) S W left c =
       cut-if (leb left 0) cut-value
-      (cut-then _ _ (λ t c′. walk-cut fuel (t .end) (hull (m .n) W (swept m S t)) (left - t .ticks) c′) (leg-cut S left c))
+      (cut-then _ _ (λ t c′. walk-cut fuel (t .end) (hull (varsOf m) W (swept m S t)) (left - t .ticks) c′) (leg-cut S left c))
 
   pub reach-cut : (S : List ℤ) (ticks c : ℕ) → CutFrom A c (reach true A m clear w S ticks c) (reach false 0 m clear w S ticks c)
   unfolding reach

@@ -8,7 +8,9 @@ use lib.ListN.{replicate}
 use Rattle.sheet_spec.specs.Slots.{N}
 use Rattle.sheet_spec.specs.Sheet.{values}
 use Rattle.sheet_spec.specs.SheetA.{fileA}
-use Rattle.machine_spec.specs.Machine.{Law, baseline, command, machine}
+use Rattle.machine_spec.specs.declared.Law.{Law}
+use Rattle.machine_spec.specs.declared.Law.the-variants.{Baseline, Command}
+use Rattle.machine_spec.specs.Machine.{machine}
 use Rattle.boxes_spec.specs.Step.{Result, Step, ok, failed, unsafe}
 use Rattle.boxes_spec.specs.Reach.{Reached, testedStep, reach, clear, Answer, refused, reachFile}
 use Rattle.boxes_spec.proofs.Everything.{everything}
@@ -24,21 +26,21 @@ four l S c = reach false 0 (machine (values fileA) l) (clear 1 (values fileA) 1)
 one : Law → List ℤ → Result Step
 one l S = testedStep false 0 (machine (values fileA) l) (clear 1 (values fileA) 1) 1 S 4 0
 
-after-δ : four (command (pos 25)) (box (pos 0) (pos 0)) 0 ≡ ok (record { end = box (pos 16) (pos 20); swept = box (pos 0) (pos 20) }) 2
+after-δ : four (Command (pos 25)) (box (pos 0) (pos 0)) 0 ≡ ok (record { end = box (pos 16) (pos 20); swept = box (pos 0) (pos 20) }) 2
 unfolding everything box four
 after-δ = refl
 
-after-α : four baseline (box (pos 16) (pos 20)) 2 ≡ ok (record { end = box (pos 12) (pos 20); swept = box (pos 12) (pos 20) }) 4
+after-α : four Baseline (box (pos 16) (pos 20)) 2 ≡ ok (record { end = box (pos 12) (pos 20); swept = box (pos 12) (pos 20) }) 4
 unfolding everything box four
 after-α = refl
 
 -- here the rates hang on where the box is at the last tick but one, and not at the last
-under-24 : four (command (pos 24)) (box (pos 0) (pos 0)) 0 ≡ ok (record { end = box (pos 16) (pos 20); swept = box (pos 0) (pos 20) }) 2
+under-24 : four (Command (pos 24)) (box (pos 0) (pos 0)) 0 ≡ ok (record { end = box (pos 16) (pos 20); swept = box (pos 0) (pos 20) }) 2
 unfolding everything box four
 under-24 = refl
 
 -- a step from 131 ends clear of the no-go box from 130, and its swept box is not clear
-from-131 : one baseline (box (pos 131) (pos 131)) ≡ failed (unsafe 4 (box (pos 126) (pos 131))) 1
+from-131 : one Baseline (box (pos 131) (pos 131)) ≡ failed (unsafe 4 (box (pos 126) (pos 131))) 1
 unfolding everything box one
 from-131 = refl
 
@@ -46,10 +48,10 @@ from-131 = refl
 answers : Law → ℕ → List ℤ → Answer
 answers l w S = reachFile fileA 0 w l S
 
-no-ticks : answers baseline 1 (box (pos 5) (pos 7)) ≡ record { refusal = 0; end = box (pos 5) (pos 7); swept = box (pos 5) (pos 7); rounds = 0 }
+no-ticks : answers Baseline 1 (box (pos 5) (pos 7)) ≡ record { refusal = 0; end = box (pos 5) (pos 7); swept = box (pos 5) (pos 7); rounds = 0 }
 unfolding everything box answers
 no-ticks = refl
 
-refusals : (answers (command (pos 26)) 0 (box (pos 1) (pos 0)) ≡ refused 16) × (answers (command (pos 26)) 1 (box (pos 1) (pos 0)) ≡ refused 14) × (answers baseline 1 (box (pos 1) (pos 0)) ≡ refused 15)
+refusals : (answers (Command (pos 26)) 0 (box (pos 1) (pos 0)) ≡ refused 16) × (answers (Command (pos 26)) 1 (box (pos 1) (pos 0)) ≡ refused 14) × (answers Baseline 1 (box (pos 1) (pos 0)) ≡ refused 15)
 unfolding everything box answers
 refusals = (refl, refl, refl)

@@ -11,7 +11,7 @@ use Rattle.integers.proofs.Z.{ints, flat, prod, mul-mono, le-or-lt}
 use Rattle.sheet_spec.specs.Slots.{N, boxSize, edge}
 use Rattle.sheet_spec.specs.Box.{lo, hi}
 use Rattle.machine_spec.specs.Box.{In, hull, moved}
-use Rattle.machine_spec.specs.Machine.{Machine, cap}
+use Rattle.machine_spec.specs.Machine.{Machine, varsOf, bandsOf, bandVarOf, cap}
 use Rattle.machine_spec.specs.Rate.{neutral, neighborhood, faceRate, rates}
 use Rattle.machine_spec.proofs.Box.{sides-length}
 use Rattle.machine_spec.proofs.Face.{Beyond, beyond-refl, beyond-sum, beyond-times}
@@ -26,9 +26,9 @@ use Rattle.boxes_spec.proofs.Settled.{Working, starts, grows}
 
 -- ---- working boxes
 
-module _ {m : Machine} (room : m .n ≤ N) {S : List ℤ} {k : ℕ} where
+module _ {m : Machine} (room : varsOf m ≤ N) {S : List ℤ} {k : ℕ} where
   -- they hold the start box
-  pub working-holds : {E : List ℤ} → Working m S k E → Inside (m .n) S E
+  pub working-holds : {E : List ℤ} → Working m S k E → Inside (varsOf m) S E
   unfolding grown
   working-holds starts = inside-refl S
   working-holds (grows {E = E} w) = inside-trans (working-holds w) (hull-left room E (lifted m S k E))
@@ -36,33 +36,33 @@ module _ {m : Machine} (room : m .n ≤ N) {S : List ℤ} {k : ℕ} where
 pub working-length : {m : Machine} {S : List ℤ} {k : ℕ} {E : List ℤ} → length S ≡ boxSize → Working m S k E → length E ≡ boxSize
 unfolding grown hull
 working-length l starts = l
-working-length {m} l (grows w) = sides-length (m .n) _ _
+working-length {m} l (grows w) = sides-length (varsOf m) _ _
 
 -- how far a neighborhood goes
 reach-in : {c : ℤ} (k : ℕ) → pos 0 ≤ℤ c → pos 0 ≤ℤ (pos k *ℤ c)
 reach-in {c} k h = omega (ints, mul-mono (pos k) (pos 0) c (omega ints) h, prod (pos k) (pos 0))
 
-module _ {m : Machine} (wf : Proper m) (S : List ℤ) (k : ℕ) (o : Ordered (m .n) S) where
+module _ {m : Machine} (wf : Proper m) (S : List ℤ) (k : ℕ) (o : Ordered (varsOf m) S) where
   -- no neighborhood is empty
-  pub face-ordered : {E : List ℤ} → Inside (m .n) S E → (up : Bool) (i : ℕ) → i < m .n → Ordered (m .n) (neighborhood up S (pos (k + 1) *ℤ cap m i) E i)
+  pub face-ordered : {E : List ℤ} → Inside (varsOf m) S E → (up : Bool) (i : ℕ) → i < varsOf m → Ordered (varsOf m) (neighborhood up S (pos (k + 1) *ℤ cap m i) E i)
   face-ordered s up i h = neighborhood-ordered (wf .room) S _ i h (reach-in (k + 1) (wf .caps i h)) up s (inside-ordered s o)
 
-  module _ {E F : List ℤ} (l : length E ≡ length F) (s : Inside (m .n) S E) (t : Inside (m .n) E F) where
+  module _ {E F : List ℤ} (l : length E ≡ length F) (s : Inside (varsOf m) S E) (t : Inside (varsOf m) E F) where
     -- the rates of the faces and M grow with the working box
-    face-mono : (up : Bool) (i : ℕ) → i < m .n → Beyond up (faceRate up m S k F i) (faceRate up m S k E i)
+    face-mono : (up : Bool) (i : ℕ) → i < varsOf m → Beyond up (faceRate up m S k F i) (faceRate up m S k E i)
     unfolding faceRate
     face-mono up i h = rate-mono wf _ _ (face-ordered s up i h) (neighborhood-inside (wf .room) S _ i h up l t) up i h
 
-    lifted-mono : Inside (m .n) (lifted m S k E) (lifted m S k F)
+    lifted-mono : Inside (varsOf m) (lifted m S k E) (lifted m S k F)
     unfolding lifted
     lifted-mono =
-        hull-least (wf .room) S _ (hull-left (wf .room) S (moved (m .n) S (k - 1) (rates m S k F)))
+        hull-least (wf .room) S _ (hull-left (wf .room) S (moved (varsOf m) S (k - 1) (rates m S k F)))
         (inside-trans (record { at = λ up i h. rw (lift-side m i (wf .room) h up S k F (k - 1), lift-side m i (wf .room) h up S k E (k - 1)) (beyond-sum (beyond-refl up (side up S i)) (beyond-times (k - 1) (face-mono up i h))) })
-        (hull-right (wf .room) S (moved (m .n) S (k - 1) (rates m S k F))))
+        (hull-right (wf .room) S (moved (varsOf m) S (k - 1) (rates m S k F))))
 
   module _ (l : length S ≡ boxSize) where
     -- every working box lies in its M
-    pub working-lifted : {E : List ℤ} → Working m S k E → Inside (m .n) E (lifted m S k E)
+    pub working-lifted : {E : List ℤ} → Working m S k E → Inside (varsOf m) E (lifted m S k E)
     unfolding lifted grown
     working-lifted starts = hull-left (wf .room) S _
     working-lifted (grows {E = E} w) =
@@ -85,8 +85,8 @@ faces-ordered k c s s′ r r′ z h l u near =
     (λ f. simp flat (omega (ints, simp flat at f, simp flat at (mul-mono (pos k) r c (omega ints) l), simp flat at (mul-mono (pos k) (negℤ c) r′ (omega ints) u))))
     (le-or-lt (s′ -ℤ pos (k + 1) *ℤ c) (s +ℤ pos (k + 1) *ℤ c))
 
-module _ {m : Machine} (wf : Proper m) (p : Permits m) (b : 0 < m .bands) (S : List ℤ) (k : ℕ) (o : Ordered (m .n) S) {E : List ℤ} (s : Inside (m .n) S E) (low : edge (m .sheet) 0 ≤ℤ lo E (m .var)) where
-  pub end-ordered : Ordered (m .n) (endBox m S k E)
+module _ {m : Machine} (wf : Proper m) (p : Permits m) (b : 0 < bandsOf m) (S : List ℤ) (k : ℕ) (o : Ordered (varsOf m) S) {E : List ℤ} (s : Inside (varsOf m) S E) (low : edge (m .sheet) 0 ≤ℤ lo E (bandVarOf m)) where
+  pub end-ordered : Ordered (varsOf m) (endBox m S k E)
   unfolding endBox faceRate neutral
   end-ordered = record {
     at = λ i h.
@@ -95,7 +95,7 @@ module _ {m : Machine} (wf : Proper m) (p : Permits m) (b : 0 < m .bands) (S : L
         (λ n.
         let U = neighborhood true S (pos (k + 1) *ℤ cap m i) E i in
         let u = corner (face-ordered wf S k o s true i h) in
-        let e : In (m .n) E U = inside-in (neighborhood-part (wf .room) S _ i h true E) u in
-        rates-ordered _ U i wf p (has-band b (omega (ints, e .low (m .var) (wf .var))))
+        let e : In (varsOf m) E U = inside-in (neighborhood-part (wf .room) S _ i h true E) u in
+        rates-ordered _ U i wf p (has-band b (omega (ints, e .low (bandVarOf m) (wf .var))))
         (near-in (wf .room) S _ i h false e (neighborhoods-touch (wf .room) S _ i h (reach-in (k + 1) (wf .caps i h)) true s (record { order = n }))) u h));
   }

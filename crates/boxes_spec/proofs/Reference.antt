@@ -6,7 +6,7 @@ use Prim.Native.Nat.{ℕ}
 use lib.IntN.{ℤ, pos, negsuc}
 use lib.ListN.{take}
 use Rattle.sheet_spec.specs.SheetA.{fileA}
-use Rattle.machine_spec.specs.Machine.{baseline, command}
+use Rattle.machine_spec.specs.declared.Law.the-variants.{Baseline, Command}
 use Rattle.boxes_spec.specs.Reach.{Answer, refused, reachFile}
 use Rattle.boxes_spec.proofs.Everything.{everything}
 
@@ -30,110 +30,110 @@ sheet2 = 83 ∷ 72 ∷ 2 ∷ 2 ∷ 1 ∷ 1 ∷ 0 ∷ 8 ∷ 0 ∷ 1 ∷ 0 ∷ 4 �
 unfoldable sheet3 : List ℕ
 sheet3 = 83 ∷ 72 ∷ 3 ∷ 1 ∷ 1 ∷ 2 ∷ 0 ∷ 2 ∷ 0 ∷ 6 ∷ 0 ∷ 6 ∷ 255 ∷ 255 ∷ 255 ∷ 251 ∷ 0 ∷ 0 ∷ 0 ∷ 5 ∷ 3 ∷ 132 ∷ 3 ∷ 132 ∷ 3 ∷ 132 ∷ 66 ∷ 68 ∷ 255 ∷ 225 ∷ 123 ∷ 128 ∷ 255 ∷ 255 ∷ 255 ∷ 255 ∷ 0 ∷ 0 ∷ 0 ∷ 1 ∷ 255 ∷ 251 ∷ 0 ∷ 1 ∷ 0 ∷ 0 ∷ 0 ∷ 3 ∷ 0 ∷ 0 ∷ 0 ∷ 0 ∷ 0 ∷ 0 ∷ 0 ∷ 0 ∷ 0 ∷ 32 ∷ 0 ∷ 0 ∷ 255 ∷ 251 ∷ 255 ∷ 255 ∷ 0 ∷ 2 ∷ 0 ∷ 0 ∷ 0 ∷ 0 ∷ 0 ∷ 0 ∷ 0 ∷ 4 ∷ 0 ∷ 32 ∷ 0 ∷ 1 ∷ 0 ∷ 0 ∷ 255 ∷ 251 ∷ 255 ∷ 255 ∷ 0 ∷ 0 ∷ 0 ∷ 5 ∷ 0 ∷ 0 ∷ 0 ∷ 0 ∷ 0 ∷ 32 ∷ 78 ∷ 71 ∷ 0 ∷ 0 ∷ 1 ∷ 244 ∷ 0 ∷ 0 ∷ 2 ∷ 88 ∷ 0 ∷ 0 ∷ 1 ∷ 244 ∷ 0 ∷ 0 ∷ 2 ∷ 88 ∷ 0 ∷ 0 ∷ 1 ∷ 244 ∷ 0 ∷ 0 ∷ 2 ∷ 88 ∷ 82 ∷ 67 ∷ 255 ∷ 255 ∷ 255 ∷ 166 ∷ 0 ∷ 0 ∷ 0 ∷ 90 ∷ 255 ∷ 255 ∷ 255 ∷ 166 ∷ 0 ∷ 0 ∷ 0 ∷ 90 ∷ 255 ∷ 255 ∷ 255 ∷ 166 ∷ 0 ∷ 0 ∷ 0 ∷ 90 ∷ []
 
-reach-under-command : reachFile sheet0 9 4 (command (negsuc 6)) (pos 36 ∷ negsuc 2 ∷ pos 0 ∷ pos 0 ∷ pos 41 ∷ pos 5 ∷ pos 0 ∷ pos 0 ∷ []) ≡ answered (negsuc 27 ∷ negsuc 50 ∷ pos 0 ∷ pos 0 ∷ pos 109 ∷ pos 31 ∷ pos 0 ∷ pos 0 ∷ []) (negsuc 27 ∷ negsuc 50 ∷ pos 0 ∷ pos 0 ∷ pos 109 ∷ pos 37 ∷ pos 0 ∷ pos 0 ∷ []) 8
+reach-under-command : reachFile sheet0 9 4 (Command (negsuc 6)) (pos 36 ∷ negsuc 2 ∷ pos 0 ∷ pos 0 ∷ pos 41 ∷ pos 5 ∷ pos 0 ∷ pos 0 ∷ []) ≡ answered (negsuc 27 ∷ negsuc 50 ∷ pos 0 ∷ pos 0 ∷ pos 109 ∷ pos 31 ∷ pos 0 ∷ pos 0 ∷ []) (negsuc 27 ∷ negsuc 50 ∷ pos 0 ∷ pos 0 ∷ pos 109 ∷ pos 37 ∷ pos 0 ∷ pos 0 ∷ []) 8
 unfolding sheet0 everything
 reach-under-command = refl
 
-reach-under-baseline : reachFile sheet1 6 3 baseline (negsuc 19 ∷ negsuc 8 ∷ pos 0 ∷ pos 2 ∷ pos 20 ∷ pos 7 ∷ pos 0 ∷ pos 5 ∷ []) ≡ answered (negsuc 25 ∷ negsuc 26 ∷ negsuc 23 ∷ negsuc 27 ∷ pos 26 ∷ pos 28 ∷ pos 24 ∷ pos 26 ∷ []) (negsuc 25 ∷ negsuc 26 ∷ negsuc 23 ∷ negsuc 27 ∷ pos 26 ∷ pos 28 ∷ pos 24 ∷ pos 26 ∷ []) 11
+reach-under-baseline : reachFile sheet1 6 3 Baseline (negsuc 19 ∷ negsuc 8 ∷ pos 0 ∷ pos 2 ∷ pos 20 ∷ pos 7 ∷ pos 0 ∷ pos 5 ∷ []) ≡ answered (negsuc 25 ∷ negsuc 26 ∷ negsuc 23 ∷ negsuc 27 ∷ pos 26 ∷ pos 28 ∷ pos 24 ∷ pos 26 ∷ []) (negsuc 25 ∷ negsuc 26 ∷ negsuc 23 ∷ negsuc 27 ∷ pos 26 ∷ pos 28 ∷ pos 24 ∷ pos 26 ∷ []) 11
 unfolding sheet1 everything
 reach-under-baseline = refl
 
-reach-with-two-halvings : reachFile sheet2 9 8 (command (pos 3)) (negsuc 19 ∷ pos 46 ∷ pos 0 ∷ pos 0 ∷ pos 20 ∷ pos 51 ∷ pos 0 ∷ pos 0 ∷ []) ≡ answered (negsuc 238 ∷ pos 19 ∷ pos 0 ∷ pos 0 ∷ pos 239 ∷ pos 24 ∷ pos 0 ∷ pos 0 ∷ []) (negsuc 238 ∷ pos 19 ∷ pos 0 ∷ pos 0 ∷ pos 239 ∷ pos 51 ∷ pos 0 ∷ pos 0 ∷ []) 51
+reach-with-two-halvings : reachFile sheet2 9 8 (Command (pos 3)) (negsuc 19 ∷ pos 46 ∷ pos 0 ∷ pos 0 ∷ pos 20 ∷ pos 51 ∷ pos 0 ∷ pos 0 ∷ []) ≡ answered (negsuc 238 ∷ pos 19 ∷ pos 0 ∷ pos 0 ∷ pos 239 ∷ pos 24 ∷ pos 0 ∷ pos 0 ∷ []) (negsuc 238 ∷ pos 19 ∷ pos 0 ∷ pos 0 ∷ pos 239 ∷ pos 51 ∷ pos 0 ∷ pos 0 ∷ []) 51
 unfolding sheet2 everything
 reach-with-two-halvings = refl
 
-reach-of-no-ticks : reachFile sheet3 0 1000 (command (pos 5)) (negsuc 0 ∷ negsuc 2 ∷ negsuc 4 ∷ pos 0 ∷ pos 2 ∷ pos 4 ∷ pos 6 ∷ pos 0 ∷ []) ≡ answered (negsuc 0 ∷ negsuc 2 ∷ negsuc 4 ∷ pos 0 ∷ pos 2 ∷ pos 4 ∷ pos 6 ∷ pos 0 ∷ []) (negsuc 0 ∷ negsuc 2 ∷ negsuc 4 ∷ pos 0 ∷ pos 2 ∷ pos 4 ∷ pos 6 ∷ pos 0 ∷ []) 0
+reach-of-no-ticks : reachFile sheet3 0 1000 (Command (pos 5)) (negsuc 0 ∷ negsuc 2 ∷ negsuc 4 ∷ pos 0 ∷ pos 2 ∷ pos 4 ∷ pos 6 ∷ pos 0 ∷ []) ≡ answered (negsuc 0 ∷ negsuc 2 ∷ negsuc 4 ∷ pos 0 ∷ pos 2 ∷ pos 4 ∷ pos 6 ∷ pos 0 ∷ []) (negsuc 0 ∷ negsuc 2 ∷ negsuc 4 ∷ pos 0 ∷ pos 2 ∷ pos 4 ∷ pos 6 ∷ pos 0 ∷ []) 0
 unfolding sheet3 everything
 reach-of-no-ticks = refl
 
-refused-reach : reachFile sheet3 1001 1 (command (pos 6)) (pos 0 ∷ pos 0 ∷ pos 0 ∷ pos 0 ∷ pos 0 ∷ pos 0 ∷ pos 0 ∷ pos 0 ∷ []) ≡ refused 16
+refused-reach : reachFile sheet3 1001 1 (Command (pos 6)) (pos 0 ∷ pos 0 ∷ pos 0 ∷ pos 0 ∷ pos 0 ∷ pos 0 ∷ pos 0 ∷ pos 0 ∷ []) ≡ refused 16
 unfolding sheet3 everything
 refused-reach = refl
 
-ticks-0 : reachFile fileA 0 1 baseline (pos 95 ∷ pos 0 ∷ pos 0 ∷ pos 0 ∷ pos 100 ∷ pos 0 ∷ pos 0 ∷ pos 0 ∷ []) ≡ answered (pos 95 ∷ pos 0 ∷ pos 0 ∷ pos 0 ∷ pos 100 ∷ pos 0 ∷ pos 0 ∷ pos 0 ∷ []) (pos 95 ∷ pos 0 ∷ pos 0 ∷ pos 0 ∷ pos 100 ∷ pos 0 ∷ pos 0 ∷ pos 0 ∷ []) 0
+ticks-0 : reachFile fileA 0 1 Baseline (pos 95 ∷ pos 0 ∷ pos 0 ∷ pos 0 ∷ pos 100 ∷ pos 0 ∷ pos 0 ∷ pos 0 ∷ []) ≡ answered (pos 95 ∷ pos 0 ∷ pos 0 ∷ pos 0 ∷ pos 100 ∷ pos 0 ∷ pos 0 ∷ pos 0 ∷ []) (pos 95 ∷ pos 0 ∷ pos 0 ∷ pos 0 ∷ pos 100 ∷ pos 0 ∷ pos 0 ∷ pos 0 ∷ []) 0
 unfolding everything
 ticks-0 = refl
 
-ticks-1 : reachFile fileA 1 1 baseline (pos 95 ∷ pos 0 ∷ pos 0 ∷ pos 0 ∷ pos 100 ∷ pos 0 ∷ pos 0 ∷ pos 0 ∷ []) ≡ answered (pos 90 ∷ pos 0 ∷ pos 0 ∷ pos 0 ∷ pos 96 ∷ pos 0 ∷ pos 0 ∷ pos 0 ∷ []) (pos 90 ∷ pos 0 ∷ pos 0 ∷ pos 0 ∷ pos 100 ∷ pos 0 ∷ pos 0 ∷ pos 0 ∷ []) 1
+ticks-1 : reachFile fileA 1 1 Baseline (pos 95 ∷ pos 0 ∷ pos 0 ∷ pos 0 ∷ pos 100 ∷ pos 0 ∷ pos 0 ∷ pos 0 ∷ []) ≡ answered (pos 90 ∷ pos 0 ∷ pos 0 ∷ pos 0 ∷ pos 96 ∷ pos 0 ∷ pos 0 ∷ pos 0 ∷ []) (pos 90 ∷ pos 0 ∷ pos 0 ∷ pos 0 ∷ pos 100 ∷ pos 0 ∷ pos 0 ∷ pos 0 ∷ []) 1
 unfolding everything
 ticks-1 = refl
 
-ticks-1000 : reachFile fileA 1000 1000 baseline (pos 95 ∷ pos 0 ∷ pos 0 ∷ pos 0 ∷ pos 100 ∷ pos 0 ∷ pos 0 ∷ pos 0 ∷ []) ≡ answered (negsuc 4904 ∷ pos 0 ∷ pos 0 ∷ pos 0 ∷ pos 5100 ∷ pos 0 ∷ pos 0 ∷ pos 0 ∷ []) (negsuc 4904 ∷ pos 0 ∷ pos 0 ∷ pos 0 ∷ pos 5100 ∷ pos 0 ∷ pos 0 ∷ pos 0 ∷ []) 3
+ticks-1000 : reachFile fileA 1000 1000 Baseline (pos 95 ∷ pos 0 ∷ pos 0 ∷ pos 0 ∷ pos 100 ∷ pos 0 ∷ pos 0 ∷ pos 0 ∷ []) ≡ answered (negsuc 4904 ∷ pos 0 ∷ pos 0 ∷ pos 0 ∷ pos 5100 ∷ pos 0 ∷ pos 0 ∷ pos 0 ∷ []) (negsuc 4904 ∷ pos 0 ∷ pos 0 ∷ pos 0 ∷ pos 5100 ∷ pos 0 ∷ pos 0 ∷ pos 0 ∷ []) 3
 unfolding everything
 ticks-1000 = refl
 
-ticks-1001 : reachFile fileA 1001 1000 baseline (pos 95 ∷ pos 0 ∷ pos 0 ∷ pos 0 ∷ pos 100 ∷ pos 0 ∷ pos 0 ∷ pos 0 ∷ []) ≡ refused 16
+ticks-1001 : reachFile fileA 1001 1000 Baseline (pos 95 ∷ pos 0 ∷ pos 0 ∷ pos 0 ∷ pos 100 ∷ pos 0 ∷ pos 0 ∷ pos 0 ∷ []) ≡ refused 16
 unfolding everything
 ticks-1001 = refl
 
-width-0 : reachFile fileA 1 0 baseline (pos 95 ∷ pos 0 ∷ pos 0 ∷ pos 0 ∷ pos 100 ∷ pos 0 ∷ pos 0 ∷ pos 0 ∷ []) ≡ refused 16
+width-0 : reachFile fileA 1 0 Baseline (pos 95 ∷ pos 0 ∷ pos 0 ∷ pos 0 ∷ pos 100 ∷ pos 0 ∷ pos 0 ∷ pos 0 ∷ []) ≡ refused 16
 unfolding everything
 width-0 = refl
 
-width-1 : reachFile fileA 2 1 baseline (pos 95 ∷ pos 0 ∷ pos 0 ∷ pos 0 ∷ pos 100 ∷ pos 0 ∷ pos 0 ∷ pos 0 ∷ []) ≡ answered (pos 85 ∷ pos 0 ∷ pos 0 ∷ pos 0 ∷ pos 92 ∷ pos 0 ∷ pos 0 ∷ pos 0 ∷ []) (pos 85 ∷ pos 0 ∷ pos 0 ∷ pos 0 ∷ pos 100 ∷ pos 0 ∷ pos 0 ∷ pos 0 ∷ []) 2
+width-1 : reachFile fileA 2 1 Baseline (pos 95 ∷ pos 0 ∷ pos 0 ∷ pos 0 ∷ pos 100 ∷ pos 0 ∷ pos 0 ∷ pos 0 ∷ []) ≡ answered (pos 85 ∷ pos 0 ∷ pos 0 ∷ pos 0 ∷ pos 92 ∷ pos 0 ∷ pos 0 ∷ pos 0 ∷ []) (pos 85 ∷ pos 0 ∷ pos 0 ∷ pos 0 ∷ pos 100 ∷ pos 0 ∷ pos 0 ∷ pos 0 ∷ []) 2
 unfolding everything
 width-1 = refl
 
-width-1000 : reachFile fileA 2 1000 baseline (pos 95 ∷ pos 0 ∷ pos 0 ∷ pos 0 ∷ pos 100 ∷ pos 0 ∷ pos 0 ∷ pos 0 ∷ []) ≡ answered (pos 85 ∷ pos 0 ∷ pos 0 ∷ pos 0 ∷ pos 92 ∷ pos 0 ∷ pos 0 ∷ pos 0 ∷ []) (pos 85 ∷ pos 0 ∷ pos 0 ∷ pos 0 ∷ pos 100 ∷ pos 0 ∷ pos 0 ∷ pos 0 ∷ []) 2
+width-1000 : reachFile fileA 2 1000 Baseline (pos 95 ∷ pos 0 ∷ pos 0 ∷ pos 0 ∷ pos 100 ∷ pos 0 ∷ pos 0 ∷ pos 0 ∷ []) ≡ answered (pos 85 ∷ pos 0 ∷ pos 0 ∷ pos 0 ∷ pos 92 ∷ pos 0 ∷ pos 0 ∷ pos 0 ∷ []) (pos 85 ∷ pos 0 ∷ pos 0 ∷ pos 0 ∷ pos 100 ∷ pos 0 ∷ pos 0 ∷ pos 0 ∷ []) 2
 unfolding everything
 width-1000 = refl
 
-width-1001 : reachFile fileA 2 1001 baseline (pos 95 ∷ pos 0 ∷ pos 0 ∷ pos 0 ∷ pos 100 ∷ pos 0 ∷ pos 0 ∷ pos 0 ∷ []) ≡ refused 16
+width-1001 : reachFile fileA 2 1001 Baseline (pos 95 ∷ pos 0 ∷ pos 0 ∷ pos 0 ∷ pos 100 ∷ pos 0 ∷ pos 0 ∷ pos 0 ∷ []) ≡ refused 16
 unfolding everything
 width-1001 = refl
 
-command-minus-25 : reachFile fileA 1 1 (command (negsuc 24)) (pos 95 ∷ pos 0 ∷ pos 0 ∷ pos 0 ∷ pos 100 ∷ pos 0 ∷ pos 0 ∷ pos 0 ∷ []) ≡ answered (pos 90 ∷ pos 0 ∷ pos 0 ∷ pos 0 ∷ pos 95 ∷ pos 0 ∷ pos 0 ∷ pos 0 ∷ []) (pos 90 ∷ pos 0 ∷ pos 0 ∷ pos 0 ∷ pos 100 ∷ pos 0 ∷ pos 0 ∷ pos 0 ∷ []) 1
+command-minus-25 : reachFile fileA 1 1 (Command (negsuc 24)) (pos 95 ∷ pos 0 ∷ pos 0 ∷ pos 0 ∷ pos 100 ∷ pos 0 ∷ pos 0 ∷ pos 0 ∷ []) ≡ answered (pos 90 ∷ pos 0 ∷ pos 0 ∷ pos 0 ∷ pos 95 ∷ pos 0 ∷ pos 0 ∷ pos 0 ∷ []) (pos 90 ∷ pos 0 ∷ pos 0 ∷ pos 0 ∷ pos 100 ∷ pos 0 ∷ pos 0 ∷ pos 0 ∷ []) 1
 unfolding everything
 command-minus-25 = refl
 
-command-minus-26 : reachFile fileA 1 1 (command (negsuc 25)) (pos 95 ∷ pos 0 ∷ pos 0 ∷ pos 0 ∷ pos 100 ∷ pos 0 ∷ pos 0 ∷ pos 0 ∷ []) ≡ refused 14
+command-minus-26 : reachFile fileA 1 1 (Command (negsuc 25)) (pos 95 ∷ pos 0 ∷ pos 0 ∷ pos 0 ∷ pos 100 ∷ pos 0 ∷ pos 0 ∷ pos 0 ∷ []) ≡ refused 14
 unfolding everything
 command-minus-26 = refl
 
-command-25 : reachFile fileA 1 1 (command (pos 25)) (pos 95 ∷ pos 0 ∷ pos 0 ∷ pos 0 ∷ pos 100 ∷ pos 0 ∷ pos 0 ∷ pos 0 ∷ []) ≡ answered (pos 95 ∷ pos 0 ∷ pos 0 ∷ pos 0 ∷ pos 101 ∷ pos 0 ∷ pos 0 ∷ pos 0 ∷ []) (pos 95 ∷ pos 0 ∷ pos 0 ∷ pos 0 ∷ pos 101 ∷ pos 0 ∷ pos 0 ∷ pos 0 ∷ []) 1
+command-25 : reachFile fileA 1 1 (Command (pos 25)) (pos 95 ∷ pos 0 ∷ pos 0 ∷ pos 0 ∷ pos 100 ∷ pos 0 ∷ pos 0 ∷ pos 0 ∷ []) ≡ answered (pos 95 ∷ pos 0 ∷ pos 0 ∷ pos 0 ∷ pos 101 ∷ pos 0 ∷ pos 0 ∷ pos 0 ∷ []) (pos 95 ∷ pos 0 ∷ pos 0 ∷ pos 0 ∷ pos 101 ∷ pos 0 ∷ pos 0 ∷ pos 0 ∷ []) 1
 unfolding everything
 command-25 = refl
 
-command-26 : reachFile fileA 1 1 (command (pos 26)) (pos 95 ∷ pos 0 ∷ pos 0 ∷ pos 0 ∷ pos 100 ∷ pos 0 ∷ pos 0 ∷ pos 0 ∷ []) ≡ refused 14
+command-26 : reachFile fileA 1 1 (Command (pos 26)) (pos 95 ∷ pos 0 ∷ pos 0 ∷ pos 0 ∷ pos 100 ∷ pos 0 ∷ pos 0 ∷ pos 0 ∷ []) ≡ refused 14
 unfolding everything
 command-26 = refl
 
-start-lower-minus-1000000 : reachFile fileA 1 1 baseline (negsuc 999999 ∷ pos 0 ∷ pos 0 ∷ pos 0 ∷ pos 0 ∷ pos 0 ∷ pos 0 ∷ pos 0 ∷ []) ≡ answered (negsuc 999994 ∷ pos 0 ∷ pos 0 ∷ pos 0 ∷ pos 1 ∷ pos 0 ∷ pos 0 ∷ pos 0 ∷ []) (negsuc 999999 ∷ pos 0 ∷ pos 0 ∷ pos 0 ∷ pos 1 ∷ pos 0 ∷ pos 0 ∷ pos 0 ∷ []) 1
+start-lower-minus-1000000 : reachFile fileA 1 1 Baseline (negsuc 999999 ∷ pos 0 ∷ pos 0 ∷ pos 0 ∷ pos 0 ∷ pos 0 ∷ pos 0 ∷ pos 0 ∷ []) ≡ answered (negsuc 999994 ∷ pos 0 ∷ pos 0 ∷ pos 0 ∷ pos 1 ∷ pos 0 ∷ pos 0 ∷ pos 0 ∷ []) (negsuc 999999 ∷ pos 0 ∷ pos 0 ∷ pos 0 ∷ pos 1 ∷ pos 0 ∷ pos 0 ∷ pos 0 ∷ []) 1
 unfolding everything
 start-lower-minus-1000000 = refl
 
-start-lower-minus-1000001 : reachFile fileA 1 1 baseline (negsuc 1000000 ∷ pos 0 ∷ pos 0 ∷ pos 0 ∷ pos 0 ∷ pos 0 ∷ pos 0 ∷ pos 0 ∷ []) ≡ refused 15
+start-lower-minus-1000001 : reachFile fileA 1 1 Baseline (negsuc 1000000 ∷ pos 0 ∷ pos 0 ∷ pos 0 ∷ pos 0 ∷ pos 0 ∷ pos 0 ∷ pos 0 ∷ []) ≡ refused 15
 unfolding everything
 start-lower-minus-1000001 = refl
 
-start-upper-1000000 : reachFile fileA 1 1 baseline (pos 0 ∷ pos 0 ∷ pos 0 ∷ pos 0 ∷ pos 1000000 ∷ pos 0 ∷ pos 0 ∷ pos 0 ∷ []) ≡ answered (negsuc 0 ∷ pos 0 ∷ pos 0 ∷ pos 0 ∷ pos 999995 ∷ pos 0 ∷ pos 0 ∷ pos 0 ∷ []) (negsuc 0 ∷ pos 0 ∷ pos 0 ∷ pos 0 ∷ pos 1000000 ∷ pos 0 ∷ pos 0 ∷ pos 0 ∷ []) 1
+start-upper-1000000 : reachFile fileA 1 1 Baseline (pos 0 ∷ pos 0 ∷ pos 0 ∷ pos 0 ∷ pos 1000000 ∷ pos 0 ∷ pos 0 ∷ pos 0 ∷ []) ≡ answered (negsuc 0 ∷ pos 0 ∷ pos 0 ∷ pos 0 ∷ pos 999995 ∷ pos 0 ∷ pos 0 ∷ pos 0 ∷ []) (negsuc 0 ∷ pos 0 ∷ pos 0 ∷ pos 0 ∷ pos 1000000 ∷ pos 0 ∷ pos 0 ∷ pos 0 ∷ []) 1
 unfolding everything
 start-upper-1000000 = refl
 
-start-upper-1000001 : reachFile fileA 1 1 baseline (pos 0 ∷ pos 0 ∷ pos 0 ∷ pos 0 ∷ pos 1000001 ∷ pos 0 ∷ pos 0 ∷ pos 0 ∷ []) ≡ refused 15
+start-upper-1000001 : reachFile fileA 1 1 Baseline (pos 0 ∷ pos 0 ∷ pos 0 ∷ pos 0 ∷ pos 1000001 ∷ pos 0 ∷ pos 0 ∷ pos 0 ∷ []) ≡ refused 15
 unfolding everything
 start-upper-1000001 = refl
 
-start-of-one-state : reachFile fileA 1 1 baseline (pos 5 ∷ pos 0 ∷ pos 0 ∷ pos 0 ∷ pos 5 ∷ pos 0 ∷ pos 0 ∷ pos 0 ∷ []) ≡ answered (pos 4 ∷ pos 0 ∷ pos 0 ∷ pos 0 ∷ pos 5 ∷ pos 0 ∷ pos 0 ∷ pos 0 ∷ []) (pos 4 ∷ pos 0 ∷ pos 0 ∷ pos 0 ∷ pos 5 ∷ pos 0 ∷ pos 0 ∷ pos 0 ∷ []) 1
+start-of-one-state : reachFile fileA 1 1 Baseline (pos 5 ∷ pos 0 ∷ pos 0 ∷ pos 0 ∷ pos 5 ∷ pos 0 ∷ pos 0 ∷ pos 0 ∷ []) ≡ answered (pos 4 ∷ pos 0 ∷ pos 0 ∷ pos 0 ∷ pos 5 ∷ pos 0 ∷ pos 0 ∷ pos 0 ∷ []) (pos 4 ∷ pos 0 ∷ pos 0 ∷ pos 0 ∷ pos 5 ∷ pos 0 ∷ pos 0 ∷ pos 0 ∷ []) 1
 unfolding everything
 start-of-one-state = refl
 
-start-reversed : reachFile fileA 1 1 baseline (pos 5 ∷ pos 0 ∷ pos 0 ∷ pos 0 ∷ pos 4 ∷ pos 0 ∷ pos 0 ∷ pos 0 ∷ []) ≡ refused 15
+start-reversed : reachFile fileA 1 1 Baseline (pos 5 ∷ pos 0 ∷ pos 0 ∷ pos 0 ∷ pos 4 ∷ pos 0 ∷ pos 0 ∷ pos 0 ∷ []) ≡ refused 15
 unfolding everything
 start-reversed = refl
 
-sheet-before-ticks : reachFile (take 69 fileA) 1001 1 baseline (pos 95 ∷ pos 0 ∷ pos 0 ∷ pos 0 ∷ pos 100 ∷ pos 0 ∷ pos 0 ∷ pos 0 ∷ []) ≡ refused 5
+sheet-before-ticks : reachFile (take 69 fileA) 1001 1 Baseline (pos 95 ∷ pos 0 ∷ pos 0 ∷ pos 0 ∷ pos 100 ∷ pos 0 ∷ pos 0 ∷ pos 0 ∷ []) ≡ refused 5
 unfolding everything
 sheet-before-ticks = refl
 
-ticks-before-command : reachFile fileA 1001 1 (command (pos 26)) (pos 0 ∷ pos 0 ∷ pos 0 ∷ pos 0 ∷ pos 0 ∷ pos 0 ∷ pos 0 ∷ pos 0 ∷ []) ≡ refused 16
+ticks-before-command : reachFile fileA 1001 1 (Command (pos 26)) (pos 0 ∷ pos 0 ∷ pos 0 ∷ pos 0 ∷ pos 0 ∷ pos 0 ∷ pos 0 ∷ pos 0 ∷ []) ≡ refused 16
 unfolding everything
 ticks-before-command = refl
 
-width-before-command : reachFile fileA 1 0 (command (pos 26)) (pos 0 ∷ pos 0 ∷ pos 0 ∷ pos 0 ∷ pos 0 ∷ pos 0 ∷ pos 0 ∷ pos 0 ∷ []) ≡ refused 16
+width-before-command : reachFile fileA 1 0 (Command (pos 26)) (pos 0 ∷ pos 0 ∷ pos 0 ∷ pos 0 ∷ pos 0 ∷ pos 0 ∷ pos 0 ∷ pos 0 ∷ []) ≡ refused 16
 unfolding everything
 width-before-command = refl
 
-command-before-start : reachFile fileA 1 1 (command (pos 26)) (pos 5 ∷ pos 0 ∷ pos 0 ∷ pos 0 ∷ pos 4 ∷ pos 0 ∷ pos 0 ∷ pos 0 ∷ []) ≡ refused 14
+command-before-start : reachFile fileA 1 1 (Command (pos 26)) (pos 5 ∷ pos 0 ∷ pos 0 ∷ pos 0 ∷ pos 4 ∷ pos 0 ∷ pos 0 ∷ pos 0 ∷ []) ≡ refused 14
 unfolding everything
 command-before-start = refl

@@ -12,7 +12,7 @@ use borrow.Author.Tests.{leb-true, leb-false}
 use Rattle.integers.proofs.Z.{ints, flat}
 use Rattle.sheet_spec.specs.Slots.{N}
 use Rattle.machine_spec.specs.Box.{hull}
-use Rattle.machine_spec.specs.Machine.{Machine}
+use Rattle.machine_spec.specs.Machine.{Machine, varsOf}
 use Rattle.machine_spec.specs.Rate.{rates}
 use Rattle.sheet_spec.proofs.Box.{differ}
 use Rattle.machine_spec.proofs.Face.{beyond-refl}
@@ -45,9 +45,9 @@ pub still : (a b : ℤ) → a +ℤ pos 0 *ℤ b ≡ a
 still a b = simp flat (omega ints)
 
 -- a length of 1 settles in its first round: M is the start box
-pub settles-one : (m : Machine) (S : List ℤ) → m .n ≤ N → settles m S 1 S ≡ true
+pub settles-one : (m : Machine) (S : List ℤ) → varsOf m ≤ N → settles m S 1 S ≡ true
 unfolding settles lifted
-settles-one m S room = inside-within (hull-least room S _ (inside-refl S) (record { at = λ up i h. rw (moved-side (m .n) i room h up S 0 (rates m S 1 S), still (side up S i) _) (beyond-refl up (side up S i)) }))
+settles-one m S room = inside-within (hull-least room S _ (inside-refl S) (record { at = λ up i h. rw (moved-side (varsOf m) i room h up S 0 (rates m S 1 S), still (side up S i) _) (beyond-refl up (side up S i)) }))
 
 -- every length is below some power of 2
 pub below-power : (k : ℕ) → k < 2 ^ suc k
@@ -67,7 +67,7 @@ module _ (l : Bool) (a : ℕ) (m : Machine) (S : List ℤ) where
       (λ s. rounds-take k left (grown m S k E) (c + 1) z (grows w)))
 
   -- a length of 1 takes one round
-  pub rounds-one : m .n ≤ N → (left c : ℕ) → Takes l a c 1 (Settled m S 1) (λ why. ⊥) (rounds l a m S 1 (suc left) S c)
+  pub rounds-one : varsOf m ≤ N → (left c : ℕ) → Takes l a c 1 (Settled m S 1) (λ why. ⊥) (rounds l a m S 1 (suc left) S c)
   unfolding rounds
   rounds-one room left c =
       takes-round _
@@ -76,7 +76,7 @@ module _ (l : Bool) (a : ℕ) (m : Machine) (S : List ℤ) where
       (λ s. absurd (differ (settles-one m S room) s)))
 
   -- a step of a length below 2^(e + 1) takes at most 8·e + 1 rounds, and settles
-  pub halving-takes : m .n ≤ N → (fuel k c e : ℕ) → 0 < k → k ≤ fuel → k < 2 ^ suc e → Takes l a c (8 * e + 1) (Settled m S k) (λ why. ⊥) (halving l a m S fuel k c)
+  pub halving-takes : varsOf m ≤ N → (fuel k c e : ℕ) → 0 < k → k ≤ fuel → k < 2 ^ suc e → Takes l a c (8 * e + 1) (Settled m S k) (λ why. ⊥) (halving l a m S fuel k c)
   unfolding halving
   halving-takes room zero k c e z f h = absurd (omega arith)
   halving-takes room (suc fuel) zero c e z f h = absurd (omega arith)
@@ -87,7 +87,7 @@ module _ (l : Bool) (a : ℕ) (m : Machine) (S : List ℤ) where
       (λ why c′ _. takes-if (leb (suc (suc k)) 1) _ _ (λ l. absurd (omega (arith, leb-true (suc (suc k)) 1 l)))
       (λ l. takes-map (le-refl (8 * e + 1)) (λ t s. settled-less (omega arith) s) (λ why b. b) (halving-takes room fuel (suc (suc k) / 2) c′ e (omega arith) (omega arith) (omega arith))))
 
-  pub step-takes : m .n ≤ N → (k c e : ℕ) → 0 < k → k < 2 ^ suc e → Takes l a c (8 * e + 1) (Settled m S k) (λ why. ⊥) (step l a m S k c)
+  pub step-takes : varsOf m ≤ N → (k c e : ℕ) → 0 < k → k < 2 ^ suc e → Takes l a c (8 * e + 1) (Settled m S k) (λ why. ⊥) (step l a m S k c)
   unfolding step
   step-takes room k c e z h = halving-takes room k k c e z (le-refl k) h
 
@@ -108,7 +108,7 @@ finish r = record { box = r .end; swept = r .swept; left = 0 }
 
 -- the place after a step
 abbrev pub behind : Machine → Place → Step → Place
-behind m p t = record { box = t .end; swept = hull (m .n) (p .swept) (swept m (p .box) t); left = p .left - t .ticks }
+behind m p t = record { box = t .end; swept = hull (varsOf m) (p .swept) (swept m (p .box) t); left = p .left - t .ticks }
 
 -- from p, steps that are clear lead to q
 pub data StepsTo (m : Machine) (clear : List ℤ → Bool) (w : ℕ) (q : Place) : Place → Type 0 where
@@ -142,7 +142,7 @@ ends-here {m} {clear} {w} p h =
     let q : 0 ≡ p .left = omega arith in
     record { path = subst (λ (j : ℕ). StepsTo m clear w (finish r) (record { box = p .box; swept = p .swept; left = j })) q here }
 
-module _ (l : Bool) (a : ℕ) (m : Machine) (clear : List ℤ → Bool) (w e : ℕ) (room : m .n ≤ N) (z : 0 < w) (h : w < 2 ^ suc e) where
+module _ (l : Bool) (a : ℕ) (m : Machine) (clear : List ℤ → Bool) (w e : ℕ) (room : varsOf m ≤ N) (z : 0 < w) (h : w < 2 ^ suc e) where
   pub tested-takes : (p : Place) (c : ℕ) → 0 < p .left
       → Takes l a c (8 * e + 1) (λ t. Settled m (p .box) (min w (p .left)) t × (clear (swept m (p .box) t) ≡ true)) (Hits m clear w p) (testedStep l a m clear w (p .box) (p .left) c)
   unfolding testedStep

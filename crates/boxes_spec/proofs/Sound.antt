@@ -12,7 +12,7 @@ use lib.Signed.{_≤ℤ_}
 use Rattle.integers.proofs.Z.{ints, flat}
 use Rattle.sheet_spec.specs.Slots.{_!_, N, unsafeBox}
 use Rattle.machine_spec.specs.Box.{In, hull, moved}
-use Rattle.machine_spec.specs.Machine.{Machine, cap, Tick}
+use Rattle.machine_spec.specs.Machine.{Machine, varsOf, cap, Tick}
 use Rattle.machine_spec.specs.Rate.{outer, neutral, faceRate, rates}
 use borrow.Author.Tests.{not-true}
 use Rattle.sheet_spec.proofs.Box.{differ, any-none}
@@ -68,34 +68,34 @@ Ticks m x k = (j : ℕ) → j < k → Tick m (x j) (x (suc j))
 module _ {m : Machine} (wf : Proper m) (S : List ℤ) (k : ℕ) (E : List ℤ) where
   -- the state lies in S with each face moved by j of its rates
   record Lies (j : ℕ) (x : List ℤ) : Type 0 where
-    at : (up : Bool) (i : ℕ) → i < m .n → Beyond up (side up S i +ℤ pos j *ℤ faceRate up m S k E i) (x ! i)
+    at : (up : Bool) (i : ℕ) → i < varsOf m → Beyond up (side up S i +ℤ pos j *ℤ faceRate up m S k E i) (x ! i)
 
-  lies-start : {x : List ℤ} → In (m .n) S x → Lies 0 x
+  lies-start : {x : List ℤ} → In (varsOf m) S x → Lies 0 x
   lies-start b = record { at = λ up i h. rw (still (side up S i) _) (in-side b up i h) }
 
-  lies-moved : {j : ℕ} {x : List ℤ} → Lies j x → In (m .n) (moved (m .n) S j (rates m S k E)) x
+  lies-moved : {j : ℕ} {x : List ℤ} → Lies j x → In (varsOf m) (moved (varsOf m) S j (rates m S k E)) x
   lies-moved {j} a = in-by (λ up i h. rw (lift-side m i (wf .room) h up S k E j) (a .at up i h))
 
-  lies-hull : {j d : ℕ} {x : List ℤ} → j ≤ d → Lies j x → In (m .n) (hull (m .n) S (moved (m .n) S d (rates m S k E))) x
-  lies-hull {j} {d} l a = in-by (λ up i h. rw (hull-side (m .n) i (wf .room) h up S _, lift-side m i (wf .room) h up S k E d) (beyond-trans (between up d j (side up S i) (faceRate up m S k E i) l) (a .at up i h)))
+  lies-hull : {j d : ℕ} {x : List ℤ} → j ≤ d → Lies j x → In (varsOf m) (hull (varsOf m) S (moved (varsOf m) S d (rates m S k E))) x
+  lies-hull {j} {d} l a = in-by (λ up i h. rw (hull-side (varsOf m) i (wf .room) h up S _, lift-side m i (wf .room) h up S k E d) (beyond-trans (between up d j (side up S i) (faceRate up m S k E i) l) (a .at up i h)))
 
   lies-next : {x y : List ℤ} (j : ℕ) → settles m S k E ≡ true → j < k → Tick m x y → Lies j x → Lies (suc j) y
   unfolding settles lifted faceRate
   lies-next {x} {y} j s l t a = record {
     at = λ up i h.
-        let e : In (m .n) E x = inside-in (within-inside _ E s) (lies-hull {j = j} {d = k - 1} (omega arith) a) in
+        let e : In (varsOf m) E x = inside-in (within-inside _ E s) (lies-hull {j = j} {d = k - 1} (omega arith) a) in
         face-next up k j (cap m i) (side up S i) (x ! i) (y ! i) _ l (wf .caps i h) (a .at up i h) (beyond-neutral (rate-within up m _ i (wf .caps i h)) up) (cap-bounds wf t i h up)
         (λ near. rate-bounds wf t i h up _ (near-in (wf .room) S _ i h up e near));
   }
 
-  lies-at : {x : ℕ → List ℤ} → settles m S k E ≡ true → In (m .n) S (x 0) → (j : ℕ) → j ≤ k → Ticks m x j → Lies j (x j)
+  lies-at : {x : ℕ → List ℤ} → settles m S k E ≡ true → In (varsOf m) S (x 0) → (j : ℕ) → j ≤ k → Ticks m x j → Lies j (x j)
   lies-at s b zero l t = lies-start b
   lies-at s b (suc j) l t = lies-next j s l (t j (omega arith)) (lies-at s b j (omega arith) (λ i g. t i (omega arith)))
 
 -- STEP: the start box's states are in the swept box at each tick of the step, and in the end box after it
 pub record Sound (m : Machine) (S : List ℤ) (t : Step) : Type 0 where
-  pub sweeps : (x : ℕ → List ℤ) → In (m .n) S (x 0) → (j : ℕ) → j ≤ t .ticks → Ticks m x j → In (m .n) (swept m S t) (x j)
-  pub ends : (x : ℕ → List ℤ) → In (m .n) S (x 0) → Ticks m x (t .ticks) → In (m .n) (t .end) (x (t .ticks))
+  pub sweeps : (x : ℕ → List ℤ) → In (varsOf m) S (x 0) → (j : ℕ) → j ≤ t .ticks → Ticks m x j → In (varsOf m) (swept m S t) (x j)
+  pub ends : (x : ℕ → List ℤ) → In (varsOf m) S (x 0) → Ticks m x (t .ticks) → In (varsOf m) (t .end) (x (t .ticks))
 
 pub settled-sound : {m : Machine} {S : List ℤ} {k : ℕ} {t : Step} → Proper m → Settled m S k t → Sound m S t
 unfolding swept endBox
@@ -141,36 +141,36 @@ pub record Cleared (n : ℕ) (clear : List ℤ → Bool) (x : List ℤ) : Type 0
 
 -- d ticks from a state of p's box end in q's box; up to there each state is in q's swept box, and in one that is clear
 pub record Contains (m : Machine) (clear : List ℤ → Bool) (p q : Place) (d : ℕ) : Type 0 where
-  pub keeps : (y : List ℤ) → In (m .n) (p .swept) y → In (m .n) (q .swept) y
-  pub sweeps : (x : ℕ → List ℤ) → In (m .n) (p .box) (x 0) → In (m .n) (p .swept) (x 0) → (j : ℕ) → j ≤ d → Ticks m x j → In (m .n) (q .swept) (x j)
-  pub clears : (x : ℕ → List ℤ) → In (m .n) (p .box) (x 0) → (j : ℕ) → 0 < d → j ≤ d → Ticks m x j → Cleared (m .n) clear (x j)
-  pub ends : (x : ℕ → List ℤ) → In (m .n) (p .box) (x 0) → Ticks m x d → In (m .n) (q .box) (x d)
+  pub keeps : (y : List ℤ) → In (varsOf m) (p .swept) y → In (varsOf m) (q .swept) y
+  pub sweeps : (x : ℕ → List ℤ) → In (varsOf m) (p .box) (x 0) → In (varsOf m) (p .swept) (x 0) → (j : ℕ) → j ≤ d → Ticks m x j → In (varsOf m) (q .swept) (x j)
+  pub clears : (x : ℕ → List ℤ) → In (varsOf m) (p .box) (x 0) → (j : ℕ) → 0 < d → j ≤ d → Ticks m x j → Cleared (varsOf m) clear (x j)
+  pub ends : (x : ℕ → List ℤ) → In (varsOf m) (p .box) (x 0) → Ticks m x d → In (varsOf m) (q .box) (x d)
 
 contains-none : {m : Machine} {clear : List ℤ → Bool} (p : Place) → Contains m clear p p 0
 contains-none {m} p = record {
   keeps = λ y h. h;
-  sweeps = λ x b w j l f. let e : 0 ≡ j = omega arith in subst (λ (i : ℕ). In (m .n) (p .swept) (x i)) e w;
+  sweeps = λ x b w j l f. let e : 0 ≡ j = omega arith in subst (λ (i : ℕ). In (varsOf m) (p .swept) (x i)) e w;
   clears = λ x b j z l f. absurd (omega arith);
   ends = λ x b f. b;
 }
 
 -- a step, and what covers the rest
-module _ {m : Machine} (room : m .n ≤ N) {clear : List ℤ → Bool} (p q : Place) {t : Step} {d : ℕ} (s : Sound m (p .box) t) (k : clear (swept m (p .box) t) ≡ true) (r : Contains m clear (behind m p t) q d) where
-  onward : (x : ℕ → List ℤ) → In (m .n) (p .box) (x 0) → (j : ℕ) → Ticks m x (t .ticks + j) → In (m .n) (t .end) (later x (t .ticks) 0)
-  onward x b j f = later-start x (t .ticks) (In (m .n) (t .end)) (s .ends x b (λ i g. f i (omega arith)))
+module _ {m : Machine} (room : varsOf m ≤ N) {clear : List ℤ → Bool} (p q : Place) {t : Step} {d : ℕ} (s : Sound m (p .box) t) (k : clear (swept m (p .box) t) ≡ true) (r : Contains m clear (behind m p t) q d) where
+  onward : (x : ℕ → List ℤ) → In (varsOf m) (p .box) (x 0) → (j : ℕ) → Ticks m x (t .ticks + j) → In (varsOf m) (t .end) (later x (t .ticks) 0)
+  onward x b j f = later-start x (t .ticks) (In (varsOf m) (t .end)) (s .ends x b (λ i g. f i (omega arith)))
 
-  sweep : (x : ℕ → List ℤ) → In (m .n) (p .box) (x 0) → (j : ℕ) → j ≤ t .ticks → Ticks m x j → In (m .n) (behind m p t .swept) (x j)
+  sweep : (x : ℕ → List ℤ) → In (varsOf m) (p .box) (x 0) → (j : ℕ) → j ≤ t .ticks → Ticks m x j → In (varsOf m) (behind m p t .swept) (x j)
   sweep x b j g f = inside-in (hull-right room (p .swept) (swept m (p .box) t)) (s .sweeps x b j g f)
 
   contains-next : Contains m clear p q (t .ticks + d)
   unfolding later
   contains-next = record {
     keeps = λ y h. r .keeps y (inside-in (hull-left room (p .swept) (swept m (p .box) t)) h);
-    sweeps = λ x b w j. by-tick (λ j. j ≤ t .ticks + d → Ticks m x j → In (m .n) (q .swept) (x j)) (t .ticks) j
+    sweeps = λ x b w j. by-tick (λ j. j ≤ t .ticks + d → Ticks m x j → In (varsOf m) (q .swept) (x j)) (t .ticks) j
         (λ g l f. r .keeps (x j) (sweep x b j g f))
         (λ i z l f. r .sweeps (later x (t .ticks)) (onward x b i f)
-        (later-start x (t .ticks) (In (m .n) (behind m p t .swept)) (sweep x b (t .ticks) (le-refl (t .ticks)) (λ i g. f i (omega arith)))) i (omega arith) (later-ticks x (t .ticks) i f));
-    clears = λ x b j z. by-tick (λ j. j ≤ t .ticks + d → Ticks m x j → Cleared (m .n) clear (x j)) (t .ticks) j
+        (later-start x (t .ticks) (In (varsOf m) (behind m p t .swept)) (sweep x b (t .ticks) (le-refl (t .ticks)) (λ i g. f i (omega arith)))) i (omega arith) (later-ticks x (t .ticks) i f));
+    clears = λ x b j z. by-tick (λ j. j ≤ t .ticks + d → Ticks m x j → Cleared (varsOf m) clear (x j)) (t .ticks) j
         (λ g l f. record { box = swept m (p .box) t; clears = k; holds = s .sweeps x b j g f })
         (λ i z l f. r .clears (later x (t .ticks)) (onward x b i f) i (omega arith) (omega arith) (later-ticks x (t .ticks) i f));
     ends = λ x b f. r .ends (later x (t .ticks)) (onward x b d f) (later-ticks x (t .ticks) d f);
@@ -187,9 +187,9 @@ steps-contain {m} {clear} {p} {q} wf (next {t = t} s k r) =
 -- REACH: `ticks` ticks from a state of S end in the end box; up to there each state is in the swept box and, but in a reach of
 -- no ticks, in a box that is clear
 pub record Reaches (m : Machine) (clear : List ℤ → Bool) (S : List ℤ) (ticks : ℕ) (r : Reached) : Type 0 where
-  pub sweeps : (x : ℕ → List ℤ) → In (m .n) S (x 0) → (j : ℕ) → j ≤ ticks → Ticks m x j → In (m .n) (r .swept) (x j)
-  pub clears : (x : ℕ → List ℤ) → In (m .n) S (x 0) → (j : ℕ) → 0 < ticks → j ≤ ticks → Ticks m x j → Cleared (m .n) clear (x j)
-  pub ends : (x : ℕ → List ℤ) → In (m .n) S (x 0) → Ticks m x ticks → In (m .n) (r .end) (x ticks)
+  pub sweeps : (x : ℕ → List ℤ) → In (varsOf m) S (x 0) → (j : ℕ) → j ≤ ticks → Ticks m x j → In (varsOf m) (r .swept) (x j)
+  pub clears : (x : ℕ → List ℤ) → In (varsOf m) S (x 0) → (j : ℕ) → 0 < ticks → j ≤ ticks → Ticks m x j → Cleared (varsOf m) clear (x j)
+  pub ends : (x : ℕ → List ℤ) → In (varsOf m) S (x 0) → Ticks m x ticks → In (varsOf m) (r .end) (x ticks)
 
 pub ends-reach : {m : Machine} {clear : List ℤ → Bool} {w : ℕ} {S : List ℤ} {ticks : ℕ} {r : Reached} → Proper m → Ends m clear w (start S ticks) r → Reaches m clear S ticks r
 ends-reach {m} {clear} {S} {ticks} {r} wf e =
@@ -203,7 +203,7 @@ reach-sound l a clear zero S ticks c wf e = ends-reach wf (value-of (reach-zero 
 reach-sound {m} l a clear (suc w) S ticks c wf e = ends-reach wf (value-of (reach-takes l a m clear (suc w) (suc w) (wf .room) (omega arith) (below-power (suc w)) S ticks c) e .0)
 
 -- it covers every box inside S too
-pub reaches-part : {m : Machine} {clear : List ℤ → Bool} {B S : List ℤ} {ticks : ℕ} {r : Reached} → Inside (m .n) B S → Reaches m clear S ticks r → Reaches m clear B ticks r
+pub reaches-part : {m : Machine} {clear : List ℤ → Bool} {B S : List ℤ} {ticks : ℕ} {r : Reached} → Inside (varsOf m) B S → Reaches m clear S ticks r → Reaches m clear B ticks r
 reaches-part s r = record { sweeps = λ x b. r .sweeps x (inside-in s b); clears = λ x b. r .clears x (inside-in s b); ends = λ x b. r .ends x (inside-in s b) }
 
 -- ---- no-go boxes

@@ -12,7 +12,9 @@ use Rattle.sheet_spec.specs.Refusals.{Cause, refuseUnless, unlessRefused, first
 use Rattle.sheet_spec.specs.Sheet.{refusal, values}
 use Rattle.sheet_spec.specs.Box.{lo, hi, all, any, meets}
 use Rattle.machine_spec.specs.Box.{hull, trim}
-use Rattle.machine_spec.specs.Machine.{Law, baseline, command, Machine, machine}
+use Rattle.machine_spec.specs.declared.Law.{Law}
+use Rattle.machine_spec.specs.declared.Law.the-variants.{Baseline, Command}
+use Rattle.machine_spec.specs.Machine.{Machine, machine, varsOf}
 use Rattle.boxes_spec.specs.Step.{Result, ok, failed, exhausted, unsafe, unsettled, andThen, Step, step, swept}
 
 pub record Reached : Type 0 where
@@ -34,7 +36,7 @@ module _ (limited : Bool) (allowance : ℕ) (m : Machine) (clear : List ℤ → 
   steps (suc fuel) S W left c =
       elim (leb left 0) [
         | true ↦ ok (record { end = S; swept = W }) c
-        | false ↦ andThen (testedStep S left c) (λ t c′. steps fuel (t .end) (hull (m .n) W (swept m S t)) (left - t .ticks) c′)
+        | false ↦ andThen (testedStep S left c) (λ t c′. steps fuel (t .end) (hull (varsOf m) W (swept m S t)) (left - t .ticks) c′)
       ]
 
   -- a reach of `ticks` ticks from S, after c rounds
@@ -49,8 +51,8 @@ clear n v count B = not (any count (λ j. meets n B (unsafeBox v j)))
 
 -- a command outside the head's
 unfoldable pub lawRefusal : List ℤ → Law → ℕ
-lawRefusal v baseline = 0
-lawRefusal v (command u) = refuseUnless (leZ (leastCommand v) u && leZ u (greatestCommand v)) Cause.command
+lawRefusal v Baseline = 0
+lawRefusal v (Command u) = refuseUnless (leZ (leastCommand v) u && leZ u (greatestCommand v)) Cause.command
 
 -- a variable's sides: in order and within ±1,000,000
 abbrev pub inRange : ℤ → ℤ → Bool

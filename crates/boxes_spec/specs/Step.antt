@@ -5,25 +5,25 @@ use Prim.Native.Nat.{ℕ, zero, suc, _+_, _-_, _/_}
 use lib.Dec.{leb, eqb}
 use lib.IntN.{ℤ}
 use Rattle.machine_spec.specs.Box.{hull, within, moved}
-use Rattle.machine_spec.specs.Machine.{Machine}
+use Rattle.machine_spec.specs.Machine.{Machine, varsOf}
 use Rattle.machine_spec.specs.Rate.{rates}
 
 -- ---- a round of a step of `ticks` ticks (document 01: length k) from the box S, with the working box E
 
 -- M: the hull of start and of start with each face moved by `ticks` − 1 rates
 unfoldable pub lifted : Machine → List ℤ → ℕ → List ℤ → List ℤ
-lifted m S ticks E = hull (m .n) S (moved (m .n) S (ticks - 1) (rates m S ticks E))
+lifted m S ticks E = hull (varsOf m) S (moved (varsOf m) S (ticks - 1) (rates m S ticks E))
 
 unfoldable pub settles : Machine → List ℤ → ℕ → List ℤ → Bool
-settles m S ticks E = within (m .n) (lifted m S ticks E) E
+settles m S ticks E = within (varsOf m) (lifted m S ticks E) E
 
 -- the end box of a step that settles: start moved by `ticks` rates
 unfoldable pub endBox : Machine → List ℤ → ℕ → List ℤ → List ℤ
-endBox m S ticks E = moved (m .n) S ticks (rates m S ticks E)
+endBox m S ticks E = moved (varsOf m) S ticks (rates m S ticks E)
 
 -- the next working box
 unfoldable pub grown : Machine → List ℤ → ℕ → List ℤ → List ℤ
-grown m S ticks E = hull (m .n) E (lifted m S ticks E)
+grown m S ticks E = hull (varsOf m) E (lifted m S ticks E)
 
 -- ---- what a stage gives, with the count of rounds after it
 
@@ -89,4 +89,4 @@ module _ (limited : Bool) (allowance : ℕ) (m : Machine) (S : List ℤ) where
 
 -- the swept box of a settled step from S
 unfoldable pub swept : Machine → List ℤ → Step → List ℤ
-swept m S t = hull (m .n) S (t .end)
+swept m S t = hull (varsOf m) S (t .end)

@@ -4,8 +4,9 @@ use mathlib.Core.Bool.{Bool, false}
 use mathlib.Core.List.{List}
 use Prim.Native.Nat.{ℕ}
 use lib.IntN.{ℤ}
+use Rattle.sheet_spec.specs.Limits.{maxCap}
 use Rattle.machine_spec.specs.Box.{trim, moved}
-use Rattle.machine_spec.specs.Machine.{Machine}
+use Rattle.machine_spec.specs.Machine.{Machine, varsOf}
 use Rattle.machine_spec.specs.Rate.{rates}
 use Rattle.boxes_arithmetic.specs.Limits.{SidesWithin}
 use Rattle.boxes_step.specs.declared.StepResult.{StepResult}
@@ -23,10 +24,10 @@ pub record RoundDone (m : Machine) (S : List ℤ) (k : ℕ) (E : List ℤ) (answ
   pub settled : answer ≡ settles m S k E
   pub rated : R ≡ rates m S k E
   pub grew : answer ≡ false → F ≡ grown m S k E
-  pub trimmed : trim (m .n) F ≡ F
+  pub trimmed : trim (varsOf m) F ≡ F
 
 -- rounds from S that are to give `result` answer r, and leave the rates R and the working box F
 pub record StepDone (n : ℕ) (S : List ℤ) (result : Result Step) (r : StepResult) (F R : List ℤ) : Type 0 where
   pub same : stepOf n S R r ≡ result
   pub trimmed : trim n F ≡ F
-  pub rates : SidesWithin 1000 R
+  pub rates : SidesWithin maxCap R

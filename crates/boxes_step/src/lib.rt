@@ -3,7 +3,8 @@
 // specs/StepResult says what an answer of the code means in their terms.
 ghost use Prim.Native.Nat.{_*_};
 ghost use mathlib.Core.Path.{_≡_};
-ghost use Rattle.boxes_rates.specs.Plant.{machineOf};
+ghost use Rattle.sheet_spec.specs.Slots as slots;
+ghost use Rattle.machine_spec.specs.Machine.{machine};
 ghost use Rattle.boxes_spec.specs.Step.{isExhausted, rounds, step};
 ghost use Rattle.boxes_step.specs.Limits.{RoundAsked, StepAsked};
 ghost use Rattle.boxes_step.specs.StepResult.{RoundDone, StepDone};
@@ -38,8 +39,8 @@ fn round(
     work: &mut [i64; BOX_SIZE],
     face_rates: &mut [i64; BOX_SIZE],
 ) -> bool
-    requires { ⌜ RoundAsked (machineOf plant (now sheet)) (now start) ticks (now work) ⌝ }
-    ensures { λ r. ⌜ RoundDone (machineOf plant (now (sheet .entry))) (now (start .entry)) ticks (now (work .entry)) r (now (work .exit)) (now («face_rates» .exit)) ⌝ }
+    requires { ⌜ RoundAsked plant (now sheet) (now start) ticks (now work) ⌝ }
+    ensures { λ r. ⌜ RoundDone (machine (now (sheet .entry)) (plant .law)) (now (start .entry)) ticks (now (work .entry)) r (now (work .exit)) (now («face_rates» .exit)) ⌝ }
 {
     rates(plant, sheet, start, ticks, work, face_rates);
     // A step of one tick settles in its first round: there is nothing to test.
@@ -68,8 +69,8 @@ fn rounds(
     work: &mut [i64; BOX_SIZE],
     face_rates: &mut [i64; BOX_SIZE],
 ) -> StepResult
-    requires { ⌜ StepAsked (machineOf plant (now sheet)) (now start) ticks count 8 (now work) (now «face_rates») ⌝ }
-    ensures { λ r. ⌜ StepDone (plant .n) (now (start .entry)) (rounds (budget .limited) (budget .allowance) (machineOf plant (now (sheet .entry))) (now (start .entry)) ticks 8 (now (start .entry)) count) r (now (work .exit)) (now («face_rates» .exit)) ⌝ }
+    requires { ⌜ StepAsked plant (now sheet) (now start) ticks count 8 (now work) (now «face_rates») ⌝ }
+    ensures { λ r. ⌜ StepDone (slots.vars (now (sheet .entry))) (now (start .entry)) (rounds (budget .limited) (budget .allowance) (machine (now (sheet .entry)) (plant .law)) (now (start .entry)) ticks 8 (now (start .entry)) count) r (now (work .exit)) (now («face_rates» .exit)) ⌝ }
 {
     let mut counted = count;
     let mut left: usize = 8;
@@ -102,8 +103,8 @@ pub fn step(
     work: &mut [i64; BOX_SIZE],
     face_rates: &mut [i64; BOX_SIZE],
 ) -> StepResult
-    requires { ⌜ StepAsked (machineOf plant (now sheet)) (now start) width count (8 * width) (now work) (now «face_rates») ⌝ }
-    ensures { λ r. ⌜ StepDone (plant .n) (now (start .entry)) (step (budget .limited) (budget .allowance) (machineOf plant (now (sheet .entry))) (now (start .entry)) width count) r (now (work .exit)) (now («face_rates» .exit)) ⌝ }
+    requires { ⌜ StepAsked plant (now sheet) (now start) width count (8 * width) (now work) (now «face_rates») ⌝ }
+    ensures { λ r. ⌜ StepDone (slots.vars (now (sheet .entry))) (now (start .entry)) (step (budget .limited) (budget .allowance) (machine (now (sheet .entry)) (plant .law)) (now (start .entry)) width count) r (now (work .exit)) (now («face_rates» .exit)) ⌝ }
 {
     let mut ticks = width;
     let mut counted = count;

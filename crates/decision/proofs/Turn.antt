@@ -12,17 +12,15 @@ use Rattle.sheet_spec.specs.Slots.{N, vars, boxes, recoveryBox}
 use Rattle.sheet_spec.specs.Valid.{Valid}
 use Rattle.sheet_spec.specs.Box.{all, lowestMet}
 use Rattle.machine_spec.specs.Box.{trim, within}
-use Rattle.boxes_rates.specs.declared.Plant.{Plant}
-use Rattle.machine_spec.specs.Machine.{Law, Machine, machine}
+use Rattle.machine_spec.specs.declared.Law.{Law}
+use Rattle.machine_spec.specs.Machine.{machine}
 use Rattle.boxes_arithmetic.specs.Limits.{SidesWithin}
-use Rattle.boxes_rates.specs.Plant.{Usable, machineOf}
-use Rattle.boxes_rates.proofs.Rates.{usable}
 use Rattle.machine_spec.proofs.Box.{trim-lo, trim-hi}
 use Rattle.boxes.specs.declared.steps.ReachResult.{ReachResult}
 use Rattle.boxes.specs.declared.steps.ReachResult.the-variants.{Ended, Unsettled, Unsafe}
 use Rattle.boxes.specs.declared.steps.ReachResult.the-variants as result
 use Rattle.boxes_spec.specs.Step.{Result, ok, failed, exhausted, unrecovered, andThen}
-use Rattle.sheet_spec.specs.Limits.{maxTicks, maxWidth}
+use Rattle.sheet_spec.specs.Limits.{maxTicks, maxWidth, maxCap}
 use Rattle.boxes_spec.specs.Reach.{Reached, reach, clear}
 use Rattle.boxes.specs.ReachResult.{resultOf, reachedOf, Names}
 use Rattle.boxes_spec.proofs.Stages.{value, failure, spent}
@@ -48,30 +46,16 @@ use Rattle.decision_spec.proofs.Allowance.{ticksOf, Spends, attempt-takes}
 abbrev pub reached : Bool → ℕ → List ℤ → ℕ → Phase → List ℤ → ℕ → Result Reached
 reached limited allowance v w p S c = reach limited allowance (machine v (p .law)) (clear (vars v) v (boxes v)) w S (p .ticks) c
 
--- the plant that the code reaches with is the sheet's machine under a law
-module _ {v : List ℤ} (plant : Plant) (law : Law) (under : machineOf plant v ≡ machine v law) where
-  pub plant-usable : Valid v → Usable (machineOf plant v)
-  plant-usable sheet = subst Usable (sym under) (usable law sheet)
+-- a reach with the law and the number of no-go boxes that the code has
+pub plant-reach : (v : List ℤ) {used law : Law} → used ≡ law → (limited : Bool) (allowance count w : ℕ) (S : List ℤ) (ticks c : ℕ) → count ≡ boxes v
+    → reach limited allowance (machine v used) (clear (vars v) v count) w S ticks c ≡ reached limited allowance v w (phase law ticks) S c
+plant-reach v {law = law} under limited allowance count w S ticks c all-boxes =
+    ap (λ (l : Law). reach limited allowance (machine v l) (clear (vars v) v count) w S ticks c) under
+    ∙ ap (λ (j : ℕ). reach limited allowance (machine v law) (clear (vars v) v j) w S ticks c) all-boxes
 
-  pub plant-vars : plant .n ≡ vars v
-  plant-vars = ap (λ (m : Machine). m .n) under
-
-  -- a box is trimmed to the plant's variables exactly if it is to the sheet's
-  pub plant-trimmed : {S : List ℤ} → trim (vars v) S ≡ S → trim (plant .n) S ≡ S
-  plant-trimmed {S} trimmed = subst (λ (n : ℕ). trim n S ≡ S) (sym plant-vars) trimmed
-
-  pub vars-trimmed : {S : List ℤ} → trim (plant .n) S ≡ S → trim (vars v) S ≡ S
-  vars-trimmed {S} trimmed = subst (λ (n : ℕ). trim n S ≡ S) plant-vars trimmed
-
-  -- the lowest number of a no-go box is the sheet's
-  pub plant-names : {count : ℕ} (W : List ℤ) (r : ReachResult) → count ≡ boxes v → Names (lowestMet (plant .n) v count W) r → Names (lowestMet (vars v) v (boxes v) W) r
-  plant-names W r counted names = subst (λ (n : ℕ). Names (lowestMet n v (boxes v) W) r) plant-vars (subst (λ (m : ℕ). Names (lowestMet (plant .n) v m W) r) counted names)
-
-  pub plant-reach : (limited : Bool) (allowance count w : ℕ) (S : List ℤ) (ticks c : ℕ) → count ≡ boxes v
-      → reach limited allowance (machineOf plant v) (clear (plant .n) v count) w S ticks c ≡ reached limited allowance v w (phase law ticks) S c
-  plant-reach limited allowance count w S ticks c all-boxes =
-      ap (λ (m : Machine). reach limited allowance m (clear (m .n) v count) w S ticks c) under
-      ∙ ap (λ (j : ℕ). reach limited allowance (machine v law) (clear (vars v) v j) w S ticks c) all-boxes
+-- the number of a no-go box, with the number of them that the code has
+pub names-all : (v : List ℤ) {count : ℕ} (W : List ℤ) (r : ReachResult) → count ≡ boxes v → Names (lowestMet (vars v) v count W) r → Names (lowestMet (vars v) v (boxes v) W) r
+names-all v W r all-boxes names = subst (λ (j : ℕ). Names (lowestMet (vars v) v j W) r) all-boxes names
 
 -- a box lies in another exactly if it lies in what counts of it
 pub within-trim : (n : ℕ) (A B : List ℤ) → n ≤ N → within n A (trim n B) ≡ within n A B
@@ -99,9 +83,9 @@ module _ (limited : Bool) (allowance : ℕ) (v : List ℤ) (w : ℕ) where
     phase-turn = ap rest reaches
 
     -- it ended: the next phase's start box and count
-    pub phase-near : (t d : ℕ) → r ≡ Ended t d → {b : ℕ} → Valid v → 0 < w → w ≤ maxWidth → SidesWithin b S → SidesWithin (b + p .ticks * 1000) E × (d ≤ c + 73 * p .ticks)
+    pub phase-near : (t d : ℕ) → r ≡ Ended t d → {b : ℕ} → Valid v → 0 < w → w ≤ maxWidth → SidesWithin b S → SidesWithin (b + p .ticks * maxCap) E × (d ≤ c + 73 * p .ticks)
     unfolding resultOf
-    phase-near t d ended sheet some most near = reach-near limited allowance _ w S (p .ticks) c (usable (p .law) sheet) some most near (sym reaches ∙ ap (reachedOf E W) ended)
+    phase-near t d ended sheet some most near = reach-near limited allowance _ _ w S (p .ticks) c sheet some most near (sym reaches ∙ ap (reachedOf E W) ended)
 
     pub phase-on : (t d : ℕ) → r ≡ Ended t d → attempt limited allowance v w (p ∷ ps) S c ≡ attempt limited allowance v w ps E d
     unfolding attempt andThen resultOf

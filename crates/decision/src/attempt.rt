@@ -20,15 +20,16 @@ use boxes_shape::compare::box_at;
 use boxes_shape::compare::within;
 use boxes_step::Budget;
 use decision_answers::Decision;
+use machine_spec::Law;
 use sheet_spec::slots::BOX_SIZE;
 use sheet_spec::slots::BOXES;
 use sheet_spec::slots::RECOVERY;
 use sheet_spec::slots::SLOTS;
 
-// What is attempted: `first` ticks under the command, then `then` ticks under the baseline, within a budget of rounds.
+// What is attempted: `first` ticks under the law, then `then` ticks under the baseline, within a budget of rounds.
 pub struct AttemptPlan {
     pub budget: Budget,
-    pub command: i32,
+    pub law: Law,
     pub first: usize,
     pub then: usize,
 }
@@ -89,7 +90,8 @@ fn attempt(
     ensures { λ r. ⌜ r ≡ summary (now (sheet .entry)) (attemptOf plan (now (sheet .entry)) (now (start .entry)) width count) ⌝ }
 {
     let budget = plan.budget;
-    let p = plant(sheet, false, plan.command);
+    let law = plan.law;
+    let p = plant(sheet, law);
     let boxes = sheet_encoding::count(sheet, BOXES);
     let mut end = *start;
     let mut swept = end;
@@ -105,7 +107,7 @@ fn attempt(
     };
     let plain = ReachPlan {
         budget: budget,
-        plant: plant(sheet, true, plan.command),
+        plant: plant(sheet, Law::Baseline),
         boxes: boxes,
         width: width,
     };

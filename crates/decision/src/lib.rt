@@ -8,7 +8,6 @@ ghost use Rattle.sheet_spec.specs.Valid.{Valid};
 ghost use Rattle.machine_spec.specs.Box.{trim};
 ghost use Rattle.decision_spec.specs.Question.{allowanceOf};
 ghost use Rattle.decision_spec.specs.Decision.{checkRecovery, decide, decisionOn, decisionTo, recoveryOf, roundsOf};
-ghost use Rattle.decision_question.specs.Question.{questionOf};
 ghost use Rattle.decision_answers.specs.Recovery.{checkReplyOf};
 ghost use Rattle.decision_answers.specs.Decision.{replyOf};
 ghost use Rattle.decision.specs.Limits.{DecisionAsked};
@@ -22,7 +21,8 @@ use boxes_step::Budget;
 use decision_answers::Decision;
 use decision_answers::Recovery;
 use decision_answers::recovery_of;
-use decision_question::Question;
+use decision_spec::Question;
+use machine_spec::Law;
 use sheet::read_zeroed;
 use sheet_encoding::count;
 use sheet_spec::slots::ALPHA;
@@ -41,7 +41,7 @@ fn larger(one: usize, other: usize) -> usize
 // The decision on an accepted sheet's value and a question that is not refused.
 fn decision_to(sheet: &[i32; SLOTS], question: Question) -> Decision
     requires { ⌜ DecisionAsked (now sheet) (question .measured) ⌝ }
-    ensures { λ r. ⌜ replyOf r ≡ decisionTo (now (sheet .entry)) (questionOf question) ⌝ }
+    ensures { λ r. ⌜ replyOf r ≡ decisionTo (now (sheet .entry)) question ⌝ }
 {
     let head = question.head;
     let start = question.measured;
@@ -51,9 +51,10 @@ fn decision_to(sheet: &[i32; SLOTS], question: Question) -> Decision
         limited: true,
         allowance: head.allowance,
     };
+    let law = head.law;
     let plan = AttemptPlan {
         budget: budget,
-        command: head.command,
+        law: law,
         first: first,
         then: then,
     };
@@ -99,7 +100,7 @@ fn check_on(sheet: &[i32; SLOTS]) -> Recovery
     };
     let plan = AttemptPlan {
         budget: budget,
-        command: 0,
+        law: Law::Baseline,
         first: 0,
         then: ticks,
     };

@@ -10,7 +10,7 @@ use Rattle.machine_spec.proofs.InPlace.{trim-sides}
 use Rattle.boxes_arithmetic.specs.Limits.{SidesWithin}
 use Rattle.boxes_refusals.proofs.Turn.{sides-near}
 use Rattle.decision_spec.specs.Question.{pairs, measured, questionRefusal}
-use Rattle.decision_spec.proofs.Question.{question-passes}
+use Rattle.decision_spec.proofs.Passes.{question-passes}
 
 pub measured-trimmed : (n : ℕ) (g : List ℕ) → n ≤ N → trim n (measured n g) ≡ measured n g
 unfolding measured pairs

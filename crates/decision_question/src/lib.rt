@@ -1,15 +1,18 @@
-// A question's bytes (document 01, "Sheet layout"), read once: its refusal, or the value that they say, the head (allowance and command) apart from
-// the measured box. `pairs` also reads the start box of a reach from its bytes. The definitions are in decision_spec/specs/Question, and
-// specs/Question says what a value means in their terms; commands and boxes are tested in `boxes_refusals`.
+// A question's bytes (document 01, "Sheet layout"), read once: the refusal, or the question as one value, whose head (allowance and law) is
+// read apart from the measured box. `pairs` also reads the start box of a reach from its bytes. The definitions are in
+// decision_spec/specs/Question, and specs/Read says what reading gives; laws and boxes are tested in `boxes_refusals`.
 ghost use mathlib.Core.Path.{_≡_};
 ghost use Prim.Native.Nat.{_+_, _≤_};
 ghost use lib.ListN.{length};
 ghost use Rattle.sheet_spec.specs.Sizes.{boxBytes};
 ghost use Rattle.sheet_spec.specs.Slots as slots;
 ghost use Rattle.decision_spec.specs.Question.{formRefusal, pairs, questionHead, questionLength, sidesAt};
-ghost use Rattle.decision_question.specs.Question.{HeadReads, QuestionReads, headOf};
+ghost use Rattle.decision_question.specs.Read.{HeadReads, QuestionReads};
 use boxes_refusals::law_refusal;
 use boxes_refusals::sides_refusal;
+use decision_spec::Question;
+use decision_spec::QuestionHead;
+use machine_spec::Law;
 use sheet_encoding::bytes::four;
 use sheet_encoding::bytes::get_i32;
 use sheet_spec::limits::MAX_ALLOWANCE;
@@ -36,17 +39,6 @@ const COMMAND_AT: usize = ALLOWANCE_AT + I32;
 pub const SIDES_AT: usize = COMMAND_AT + I32;
 
 pub const PAIR: usize = PAIR_BYTES;
-
-// How many rounds are allowed, and the command that is asked for.
-pub struct QuestionHead {
-    pub allowance: u32,
-    pub command: i32,
-}
-
-pub struct Question {
-    pub head: QuestionHead,
-    pub measured: [i64; BOX_SIZE],
-}
 
 // What reading gives: a refusal, or 0 and the head.
 pub struct HeadRead {
@@ -103,11 +95,11 @@ fn form_refusal(size: usize, question: &[u8]) -> u8
 
 fn head(question: &[u8]) -> QuestionHead
     requires { ⌜ sidesAt ≤ length (now question) ⌝ }
-    ensures { λ r. ⌜ headOf r ≡ questionHead (now (question .entry)) ⌝ }
+    ensures { λ r. ⌜ r ≡ questionHead (now (question .entry)) ⌝ }
 {
     QuestionHead {
         allowance: four(question, ALLOWANCE_AT),
-        command: get_i32(question, COMMAND_AT),
+        law: Law::Command(get_i32(question, COMMAND_AT)),
     }
 }
 
@@ -120,7 +112,7 @@ pub fn read_head(sheet: &[i32; SLOTS], size: usize, question: &[u8]) -> HeadRead
     if form != 0 {
         let none = QuestionHead {
             allowance: 0,
-            command: 0,
+            law: Law::Baseline,
         };
         return HeadRead {
             refusal: form,
@@ -134,8 +126,9 @@ pub fn read_head(sheet: &[i32; SLOTS], size: usize, question: &[u8]) -> HeadRead
             head: read,
         };
     }
+    let law = read.law;
     HeadRead {
-        refusal: law_refusal(sheet, false, read.command),
+        refusal: law_refusal(sheet, law),
         head: read,
     }
 }

@@ -8,7 +8,7 @@ use lib.Seq.{sets}
 use Rattle.sheet_spec.specs.Sheet.{values}
 use Rattle.sheet_spec.specs.SheetA.{fileA}
 use Rattle.sheet_spec.specs.Refusals.{Cause, number}
-use Rattle.machine_spec.specs.Machine.{command}
+use Rattle.machine_spec.specs.declared.Law.the-variants.{Command}
 use Rattle.boxes_spec.specs.Step.{Result, ok, failed, exhausted}
 use Rattle.decision_spec.specs.Question.{allowanceRefusal, questionRefusal}
 use Rattle.decision_spec.specs.Decision.{attempt, decisionPhases}
@@ -43,7 +43,7 @@ succeeds (exhausted c) = false
 
 -- the first question's attempt at width 4, whose last end box is 12..20 (document 01, "Checks at the stops")
 abbrev attempted : List ℤ → Bool
-attempted v = succeeds (attempt true 100 v 4 (decisionPhases v (command (pos 25))) (interval (pos 0) (pos 0)) 0)
+attempted v = succeeds (attempt true 100 v 4 (decisionPhases v (Command (pos 25))) (interval (pos 0) (pos 0)) 0)
 
 pub recovered : (attempted (sheet 12 20) ≡ true) × (attempted (sheet 13 20) ≡ false) × (attempted (sheet 12 19) ≡ false)
 unfolding everything

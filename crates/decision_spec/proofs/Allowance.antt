@@ -17,7 +17,8 @@ use Rattle.sheet_spec.specs.Valid.{Valid}
 use Rattle.sheet_spec.proofs.Valid.{valid}
 use Rattle.sheet_spec.proofs.Causes.{refusal-most, unless-most, first-of-most}
 use Rattle.machine_spec.specs.Box.{within}
-use Rattle.machine_spec.specs.Machine.{Law, machine}
+use Rattle.machine_spec.specs.declared.Law.{Law}
+use Rattle.machine_spec.specs.Machine.{machine}
 use Rattle.sheet_spec.proofs.Box.{differ}
 use Rattle.machine_spec.proofs.Sound.{proper}
 use Rattle.boxes_spec.specs.Step.{Result, ok, failed, exhausted}

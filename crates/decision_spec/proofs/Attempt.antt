@@ -13,7 +13,8 @@ use Rattle.sheet_spec.specs.Refusals.{unlessRefused}
 use Rattle.sheet_spec.specs.Sheet.{refusal, values}
 use Rattle.sheet_spec.specs.Valid.{Valid}
 use Rattle.machine_spec.specs.Box.{In}
-use Rattle.machine_spec.specs.Machine.{Law, baseline}
+use Rattle.machine_spec.specs.declared.Law.{Law}
+use Rattle.machine_spec.specs.declared.Law.the-variants.{Baseline}
 use Rattle.machine_spec.proofs.Inside.{inside-in, within-inside}
 use Rattle.machine_spec.proofs.Sound.{proper}
 use Rattle.boxes_spec.specs.Step.{Result, ok, failed, exhausted, andThen}
@@ -104,14 +105,14 @@ module _ (attemptAt : ℕ → ℕ → Result (List ℤ)) where
       (attempts-keep fuel (w / 2)) (subst (λ (r : Reply). T (isKeep r)) (reply-turn attemptAt fuel w c) t)
 
 module _ {v : List ℤ} (wf : Valid v) where
-  pub recovery-sound : {x : List ℤ} → T (isKeep (recoveryOf v)) → In (vars v) (recoveryBox v) x → Covered v (replicate (ρ v) baseline) x
+  pub recovery-sound : {x : List ℤ} → T (isKeep (recoveryOf v)) → In (vars v) (recoveryBox v) x → Covered v (replicate (ρ v) Baseline) x
   unfolding recoveryOf recoveryPhases laws
   recovery-sound {x} t b =
       let s = attempts-keep (λ w c. attempt false 0 v w (recoveryPhases v) (recoveryBox v) c) (ρ v) (ρ v) 0 t in
       rw append-nil at (attempt-sound false 0 wf (s .width) (recoveryPhases v) (recoveryBox v) (s .before) (s .gives) x b)
 
   pub decision-sound : (l : Law) (a : ℕ) {B x : List ℤ} → T (isKeep (decisionOf v B l a)) → In (vars v) B x
-      → Covered v (replicate (δ v) l ++ replicate (α v) baseline) x
+      → Covered v (replicate (δ v) l ++ replicate (α v) Baseline) x
   unfolding decisionOf decisionPhases laws
   decision-sound l a {B} {x} t b =
       let s = attempts-keep (λ w c. attempt true a v w (decisionPhases v l) B c) _ _ 0 t in

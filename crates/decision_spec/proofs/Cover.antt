@@ -8,7 +8,8 @@ use lib.IntN.{ℤ}
 use lib.ListN.{replicate}
 use Rattle.sheet_spec.specs.Slots.{vars, boxes, recoveryBox, unsafeBox}
 use Rattle.machine_spec.specs.Box.{In}
-use Rattle.machine_spec.specs.Machine.{Law, Machine, machine, Tick}
+use Rattle.machine_spec.specs.declared.Law.{Law}
+use Rattle.machine_spec.specs.Machine.{Machine, machine, Tick}
 use Rattle.boxes_spec.proofs.Sound.{Ticks}
 
 -- no no-go box of the sheet v holds the state

@@ -1,4 +1,4 @@
-pub mod Question
+pub mod Passes
 pub mod Calls
 pub mod ReadWriteCalls
 pub mod Everything

@@ -19,7 +19,9 @@ use Rattle.sheet_spec.specs.Refusals.{Cause, unlessRefused}
 use Rattle.sheet_spec.specs.Sheet.{refusal, values}
 use Rattle.sheet_spec.proofs.Laws.{unless-zero}
 use Rattle.machine_spec.specs.Box.{boxOf, within}
-use Rattle.machine_spec.specs.Machine.{Law, command, machine}
+use Rattle.machine_spec.specs.declared.Law.{Law}
+use Rattle.machine_spec.specs.declared.Law.the-variants.{Command}
+use Rattle.machine_spec.specs.Machine.{machine}
 use Rattle.sheet_spec.proofs.Box.{differ}
 use Rattle.boxes_spec.specs.Step.{Result, ok, failed, exhausted}
 use Rattle.boxes_spec.specs.Reach.{clear}
@@ -150,4 +152,4 @@ spent-on-bytes f g g′ s h e =
     let v = values f in
     unless-cut (refusal f)
     (rw (same-refusal s v (less-allowed g g′ h e), same-command s, same-measured s (vars v))
-    (unless-cut (questionRefusal v g′) (spent-on-values v (measured (vars v) g′) (command (commandOf g′)) (allowanceOf g) .1 (allowanceOf g′) h)))
+    (unless-cut (questionRefusal v g′) (spent-on-values v (measured (vars v) g′) (Command (commandOf g′)) (allowanceOf g) .1 (allowanceOf g′) h)))

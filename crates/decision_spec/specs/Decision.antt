@@ -8,10 +8,13 @@ use Rattle.sheet_spec.specs.Slots.{vars, boxes, δ, α, ρ, recoveryBox}
 use Rattle.sheet_spec.specs.Refusals.{unlessRefused}
 use Rattle.sheet_spec.specs.Sheet.{refusal, values}
 use Rattle.machine_spec.specs.Box.{within}
-use Rattle.machine_spec.specs.Machine.{Law, baseline, machine}
+use Rattle.machine_spec.specs.declared.Law.{Law}
+use Rattle.machine_spec.specs.declared.Law.the-variants.{Baseline}
+use Rattle.machine_spec.specs.Machine.{machine}
 use Rattle.boxes_spec.specs.Step.{Failure, unsettled, unrecovered, Result, ok, failed, exhausted, andThen}
 use Rattle.boxes_spec.specs.Reach.{reach, clear}
-use Rattle.decision_spec.specs.Question.{Question, questionOf, questionRefusal}
+use Rattle.decision_spec.specs.declared.Question.{Question}
+use Rattle.decision_spec.specs.Question.{questionOf, questionRefusal}
 
 -- ---- an attempt at a width
 
@@ -108,7 +111,7 @@ lastReply (a ∷ b ∷ others) = lastReply (b ∷ others)
 
 -- δ ticks under the law that is asked for, then α under the plain law
 unfoldable pub decisionPhases : List ℤ → Law → List Phase
-decisionPhases v l = phase l (δ v) ∷ phase baseline (α v) ∷ []
+decisionPhases v l = phase l (δ v) ∷ phase Baseline (α v) ∷ []
 
 -- the attempts from the measured box B, with an allowance (if `limited`)
 abbrev pub decisionAttempts : Bool → ℕ → List ℤ → List ℤ → Law → List Attempt
@@ -123,7 +126,7 @@ decisionOf v B l allowance = decisionWithin true allowance v B l
 
 -- ρ ticks under the plain law from the recovery box, with no allowance
 unfoldable pub recoveryPhases : List ℤ → List Phase
-recoveryPhases v = phase baseline (ρ v) ∷ []
+recoveryPhases v = phase Baseline (ρ v) ∷ []
 
 abbrev pub recoveryAttempts : List ℤ → List Attempt
 recoveryAttempts v = attempts (λ w c. attempt false 0 v w (recoveryPhases v) (recoveryBox v) c) (ρ v) (ρ v) 0

@@ -13,8 +13,10 @@ use Rattle.sheet_spec.specs.Limits.{maxAllowance}
 use Rattle.sheet_spec.specs.Slots.{vars}
 use Rattle.sheet_spec.specs.Refusals.{Cause, refuseUnless, firstOf}
 use Rattle.machine_spec.specs.Box.{boxOf}
-use Rattle.machine_spec.specs.Machine.{Law, command}
+use Rattle.machine_spec.specs.declared.Law.the-variants.{Command}
 use Rattle.boxes_spec.specs.Reach.{lawRefusal, sidesRefusal}
+use Rattle.decision_spec.specs.declared.QuestionHead.{QuestionHead}
+use Rattle.decision_spec.specs.declared.Question.{Question}
 
 -- ---- its bytes
 
@@ -53,17 +55,9 @@ pairs n g at = boxOf n (λ i. decoded i32 (drop (at + pairBytes * i) g)) (λ i. 
 unfoldable pub measured : ℕ → List ℕ → List ℤ
 measured n g = pairs n g sidesAt
 
--- the head: how many rounds are allowed, and the law that is asked for
-pub record QuestionHead : Type 0 where
-  pub allowance : ℕ
-  pub law : Law
-
-pub record Question : Type 0 where
-  pub head : QuestionHead
-  pub measured : List ℤ
-
+-- as one value, its head apart from the measured box
 abbrev pub questionHead : List ℕ → QuestionHead
-questionHead g = record { allowance = allowanceOf g; law = command (commandOf g) }
+questionHead g = record { allowance = allowanceOf g; law = Command (commandOf g) }
 
 -- the question on a sheet of n variables
 abbrev pub questionOf : ℕ → List ℕ → Question

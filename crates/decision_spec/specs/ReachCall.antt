@@ -1,4 +1,4 @@
--- What a reach on bytes answers and what it leaves in a lent buffer. Law 0 is the baseline, any other the command u.
+-- What a reach on bytes answers and what it leaves in a lent buffer.
 use mathlib.Core.Bool.{cond}
 use mathlib.Core.List.{List, [], _∷_, _++_}
 use Prim.Native.Nat.{ℕ, _*_}
@@ -10,7 +10,8 @@ use Rattle.sheet_spec.specs.Slots.{vars, pairSize}
 use Rattle.sheet_spec.specs.Sizes.{boxBytes}
 use Rattle.sheet_spec.specs.Refusals.{unlessRefused, firstOf}
 use Rattle.sheet_spec.specs.Sheet.{values}
-use Rattle.machine_spec.specs.Machine.{lawOf}
+use Rattle.machine_spec.specs.declared.Law.{Law}
+use Rattle.machine_spec.specs.declared.Law.the-variants.{Baseline, Command}
 use Rattle.boxes_spec.specs.Reach.{Answer, noBox, reachFile}
 use Rattle.decision_spec.specs.Question.{pairs}
 use Rattle.decision_spec.specs.Call.{refusedCall, roomRefusal}
@@ -32,8 +33,12 @@ module _ (n : ℕ) (a : Answer) (out : List ℕ) where
   unfoldable pub reachedOut : List ℕ
   reachedOut = unlessRefused reachedRefusal (λ r. out) (sets out 0 (numberBytes (sidesOf n (a .end) ++ sidesOf n (a .swept)) (2 * pairSize * n)))
 
+-- law 0 is the plain law, any other the command u
+unfoldable pub lawOf : ℕ → ℤ → Law
+lawOf law u = cond (eqb law 0) Baseline (Command u)
+
 unfoldable pub reachAnswer : List ℕ → ℕ → ℕ → ℕ → ℤ → List ℕ → Answer
-reachAnswer f ticks w law u s = reachFile f ticks w (lawOf (eqb law 0) u) (startBox (vars (values f)) s)
+reachAnswer f ticks w law u s = reachFile f ticks w (lawOf law u) (startBox (vars (values f)) s)
 
 unfoldable pub reachCall : List ℕ → ℕ → ℕ → ℕ → ℤ → List ℕ → List ℕ → ℕ
 reachCall f ticks w law u s out = reachedCall (vars (values f)) (reachAnswer f ticks w law u s) out

@@ -8,7 +8,7 @@ use lib.Dec.{ltb}
 use lib.IntN.{ℤ}
 use lib.ListN.{length, take, drop}
 use Rattle.sheet_spec.specs.Sizes.{letters}
-use Rattle.machine_spec.specs.Machine.{Law}
+use Rattle.machine_spec.specs.declared.Law.{Law}
 use Rattle.decision_spec.specs.Question.{commandAt, allowanceRefusal, allowanceOf}
 use Rattle.decision_spec.specs.Decision.{keep, finest, spent, Reply, refused, answered, roundsOf, decisionWithin, decisionOf, decide}
 

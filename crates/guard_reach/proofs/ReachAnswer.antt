@@ -4,22 +4,20 @@ use mathlib.Core.Bool.{Bool, false}
 use mathlib.Core.List.{List, _++_}
 use Prim.Native.Nat.{ℕ, zero, suc, _+_, _*_, _-_, _≤_, _<_}
 use native.Mathlib.Omega.{arith}
-use lib.Dec.{eqb}
 use lib.IntN.{ℤ, pos}
 use lib.ListN.{length, length-append, List·getD-append}
 use lib.Seq.{sets, sets-eq}
 use Rattle.integers.proofs.Lists.{sets-append}
+use Rattle.sheet_spec.specs.Limits.{maxCap, maxSide, maxTicks}
 use Rattle.sheet_spec.specs.Slots.{_!_, vars}
-use Rattle.sheet_spec.specs.Limits.{maxSide, maxTicks}
 use Rattle.sheet_spec.specs.Refusals.{unlessRefused}
 use Rattle.sheet_spec.specs.Sheet.{refusal, values}
 use Rattle.sheet_spec.proofs.FirstRefusal.{found-stops, found-none}
 use Rattle.sheet_spec.specs.Valid.{Valid}
 use Rattle.machine_spec.specs.Box.{boxOf, trim}
-use Rattle.machine_spec.specs.Machine.{Law, Machine, machine, lawOf}
+use Rattle.machine_spec.specs.declared.Law.{Law}
+use Rattle.machine_spec.specs.Machine.{Machine, machine, varsOf}
 use Rattle.boxes_arithmetic.specs.Limits.{SidesWithin}
-use Rattle.boxes_rates.specs.Plant.{Usable}
-use Rattle.boxes_rates.proofs.Rates.{usable}
 use Rattle.boxes_rates.proofs.Bounds.{wider, sides-bound, hull-bound, moved-bound, rates-bound}
 use Rattle.boxes_spec.specs.Step.{Failure, Result, Step, endBox, swept}
 use Rattle.boxes_spec.specs.Reach.{Reached, reach, clear, reachRefusal, noBox, Answer, refused, answer, reachOf, reachFile}
@@ -28,7 +26,7 @@ use Rattle.boxes_spec.proofs.Settled.{Settled, Place, start, StepsTo, here, nex
 use Rattle.boxes_spec.proofs.Refusals.{reach-passes}
 use Rattle.boxes_refusals.proofs.Turn.{sides-near}
 use Rattle.decision_spec.specs.Numbers.{numberBytes, sidesOf}
-use Rattle.decision_spec.specs.ReachCall.{startBox, reachAnswer}
+use Rattle.decision_spec.specs.ReachCall.{startBox, lawOf, reachAnswer}
 use Rattle.guard_reach.proofs.Turn.{sides-length}
 
 -- ---- sides
@@ -37,19 +35,19 @@ use Rattle.guard_reach.proofs.Turn.{sides-length}
 abbrev Far : ℕ → List ℤ → List ℤ → Type 0
 Far b E W = SidesWithin b E × SidesWithin b W
 
-module _ {m : Machine} (wf : Usable m) where
-  step-far : {S : List ℤ} {k b : ℕ} {t : Step} → SidesWithin b S → Settled m S k t → SidesWithin (b + t .ticks * 1000) (t .end)
+module _ (m : Machine) (wf : Valid (m .sheet)) where
+  step-far : {S : List ℤ} {k b : ℕ} {t : Step} → SidesWithin b S → Settled m S k t → SidesWithin (b + t .ticks * maxCap) (t .end)
   unfolding endBox
-  step-far {S} {t = t} h s = rw (s .end) (moved-bound (m .n) S (t .ticks) _ h (rates-bound wf S (t .ticks) (s .E)))
+  step-far {S} {t = t} h s = rw (s .end) (moved-bound (varsOf m) S (t .ticks) _ h (rates-bound (m .law) wf S (t .ticks) (s .E)))
 
-  walks-far : {clear : List ℤ → Bool} {w b : ℕ} {p q : Place} → StepsTo m clear w q p → Far b (p .box) (p .swept) → Far (b + p .left * 1000) (q .box) (q .swept)
+  walks-far : {clear : List ℤ → Bool} {w b : ℕ} {p q : Place} → StepsTo m clear w q p → Far b (p .box) (p .swept) → Far (b + p .left * maxCap) (q .box) (q .swept)
   unfolding swept
   walks-far here h = (wider (omega arith) (h .0), wider (omega arith) (h .1))
   walks-far {b = b} {p = p} (next {t = t} s k r) h =
       let e = step-far (h .0) s in
-      let o : b ≤ b + t .ticks * 1000 = omega arith in
-      let f = walks-far r (e, hull-bound (m .n) (p .swept) _ (wider o (h .1)) (hull-bound (m .n) (p .box) _ (wider o (h .0)) e)) in
-      let g : b + t .ticks * 1000 + (p .left - t .ticks) * 1000 ≤ b + p .left * 1000 = omega (arith, s .most) in
+      let o : b ≤ b + t .ticks * maxCap = omega arith in
+      let f = walks-far r (e, hull-bound (varsOf m) (p .swept) _ (wider o (h .1)) (hull-bound (varsOf m) (p .box) _ (wider o (h .0)) e)) in
+      let g : b + t .ticks * maxCap + (p .left - t .ticks) * maxCap ≤ b + p .left * maxCap = omega (arith, s .most) in
       (wider g (f .0), wider g (f .1))
 
 none-far : {b : ℕ} → Far b noBox noBox
@@ -69,7 +67,7 @@ reach-far {v} wf ticks w l B = by (reachRefusal v ticks w l B) refl
 
     far : {g : Result Reached} {Q : Failure → Type 0} → SidesWithin maxSide S → ticks ≤ maxTicks
         → Takes false 0 0 (73 * ticks) (Ends (machine v l) (clear (vars v) v 0) w (start S ticks)) Q g → Far 2000000 (answer g .end) (answer g .swept)
-    far h k (value p n) = let f = walks-far (usable l wf) (p .path) (h, h) in (wider (omega arith) (f .0), wider (omega arith) (f .1))
+    far h k (value p n) = let f = walks-far (machine v l) wf (p .path) (h, h) in (wider (omega arith) (f .0), wider (omega arith) (f .1))
     far h k (failure q n) = none-far
     far h k (spent i e n) = none-far
 
@@ -110,6 +108,6 @@ module _ (f : List ℕ) (ticks w law : ℕ) (u : ℤ) (s : List ℕ) {r : ℕ} (
   file-refused n = ap (λ (a : Answer). a .refusal) (found-stops refused _ p n)
 
   -- v and B are the code's value and start box
-  pub file-reached : r ≡ 0 → {v B : List ℤ} → v ≡ values f → B ≡ startBox (vars (values f)) s → reachOf v ticks w (lawOf (eqb law 0) u) B ≡ reachAnswer f ticks w law u s
+  pub file-reached : r ≡ 0 → {v B : List ℤ} → v ≡ values f → B ≡ startBox (vars (values f)) s → reachOf v ticks w (lawOf law u) B ≡ reachAnswer f ticks w law u s
   unfolding reachAnswer reachFile
   file-reached e h k = rw (h, k) (found-none refused _ p e)

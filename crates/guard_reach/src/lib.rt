@@ -6,7 +6,7 @@ ghost use Prim.Native.Nat.{_≤_};
 ghost use Rattle.sheet_spec.specs.Slots as slots;
 ghost use Rattle.boxes_arithmetic.specs.Limits.{SidesWithin};
 ghost use Rattle.boxes.specs.ReachAnswer.{answerOf};
-ghost use Rattle.decision_spec.specs.ReachCall.{reachCall, reachOut, reachedCall, reachedOut, startBox};
+ghost use Rattle.decision_spec.specs.ReachCall.{lawOf, reachCall, reachOut, reachedCall, reachedOut, startBox};
 
 pub mod numbers;
 
@@ -16,6 +16,7 @@ use boxes::ReachAnswer;
 use boxes::reach_of;
 use decision_answers::pack_refusal;
 use decision_question::pairs;
+use machine_spec::Law;
 use sheet::read_zeroed;
 use sheet_encoding::count;
 use sheet_spec::refusals::ROOM;
@@ -59,7 +60,18 @@ fn give_reached(n: usize, a: ReachAnswer, out: &mut [u8]) -> u64
     a.rounds as u64
 }
 
-// The answer to the bytes of a call; law 0 is the plain law, any other the command.
+// Law 0 is the plain law, any other the command.
+fn law_of(law: u32, command: i32) -> Law
+    ensures { λ r. ⌜ r ≡ lawOf law command ⌝ }
+{
+    if law == 0 {
+        Law::Baseline
+    } else {
+        Law::Command(command)
+    }
+}
+
+// The answer to the bytes of a call.
 pub fn reach_call(
     sheet: &[u8],
     ticks: u32,
@@ -79,5 +91,5 @@ pub fn reach_call(
     }
     let n = count(&v, VARS);
     let b = start_box(n, start);
-    give_reached(n, reach_of(&v, ticks, width, law == 0, command, &b), out)
+    give_reached(n, reach_of(&v, ticks, width, law_of(law, command), &b), out)
 }

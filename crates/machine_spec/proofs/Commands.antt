@@ -14,7 +14,8 @@ use Rattle.integers.specs.Division.{floorDiv, ceilDiv}
 use Rattle.integers.proofs.Z.{ints, flat, le-true, min-is, max-is}
 use Rattle.integers.proofs.Division.{floor-hi, ceil-lo}
 use Rattle.sheet_spec.specs.Slots.{N, rowAt}
-use Rattle.machine_spec.specs.Machine.{baseline, Machine, machine, rowOf, least, greatest, clamp, numerator, change, Allowed, Tick}
+use Rattle.machine_spec.specs.declared.Law.the-variants.{Baseline}
+use Rattle.machine_spec.specs.Machine.{Machine, machine, rowOf, least, greatest, clamp, numerator, change, Allowed, Tick}
 use Rattle.machine_spec.proofs.Everything.{everything}
 
 -- two variables and one band; each variable changes by the command, which lies in 0..1
@@ -26,7 +27,7 @@ v = (pos 2 ∷ pos 1 ∷ pos 1 ∷ pos 0 ∷ pos 4 ∷ pos 4 ∷ pos 4 ∷ pos 0
     ++ (negsuc 1999999 ∷ pos 0 ∷ pos 1 ∷ row ++ row)
 
 abbrev m : Machine
-m = machine v baseline
+m = machine v Baseline
 
 commands : (least m 0 ≡ pos 0) × (greatest m 0 ≡ pos 1)
 unfolding everything

@@ -8,7 +8,8 @@ use lib.IntN.{ℤ, pos, negsuc}
 use lib.ListN.{replicate}
 use Rattle.sheet_spec.specs.Slots.{N, rowSize, rowAt}
 use Rattle.sheet_spec.specs.Box.{meets}
-use Rattle.machine_spec.specs.Machine.{baseline, command, machine, bandMeets, change}
+use Rattle.machine_spec.specs.declared.Law.the-variants.{Baseline, Command}
+use Rattle.machine_spec.specs.Machine.{machine, bandMeets, change}
 use Rattle.machine_spec.specs.Rate.{rates}
 use Rattle.machine_spec.proofs.Everything.{everything}
 
@@ -59,10 +60,10 @@ unfolding everything zeros band v bandAt
 banded = (refl, refl)
 
 -- a step of length 2 from −20..10 with the working box −70..60: the neighborhoods are −70..40 and −50..60
-under-baseline : rates (machine v baseline) (box (negsuc 19) (pos 10)) 2 (box (negsuc 69) (pos 60)) ≡ box (negsuc 9) (pos 16)
+under-baseline : rates (machine v Baseline) (box (negsuc 19) (pos 10)) 2 (box (negsuc 69) (pos 60)) ≡ box (negsuc 9) (pos 16)
 unfolding everything zeros box band v
 under-baseline = refl
 
-under-command : rates (machine v (command (pos 5))) (box (negsuc 19) (pos 10)) 2 (box (negsuc 69) (pos 60)) ≡ box (negsuc 7) (pos 18)
+under-command : rates (machine v (Command (pos 5))) (box (negsuc 19) (pos 10)) 2 (box (negsuc 69) (pos 60)) ≡ box (negsuc 7) (pos 18)
 unfolding everything zeros box band v
 under-command = refl

@@ -11,7 +11,7 @@ use Rattle.integers.proofs.Z.{ints, min-is, max-is}
 use Rattle.sheet_spec.specs.Slots.{_!_, N}
 use Rattle.sheet_spec.specs.Box.{lo, hi, meets}
 use Rattle.machine_spec.specs.Box.{In, boxOf, trim, hull, within, moved}
-use Rattle.machine_spec.specs.Machine.{Machine}
+use Rattle.machine_spec.specs.Machine.{Machine, varsOf}
 use Rattle.machine_spec.specs.Rate.{outer, faceRate, rates}
 use Rattle.sheet_spec.proofs.Box.{le-is, all-of}
 use Rattle.machine_spec.proofs.Box.{sides-lo, sides-hi, hull-lo, hull-hi, moved-lo, moved-hi, trim-lo, trim-hi, within-at}
@@ -37,15 +37,15 @@ module _ (n i : ℕ) (room : n ≤ N) (h : i < n) where
   trim-side false B = trim-lo n i room h B
   trim-side true B = trim-hi n i room h B
 
-module _ (m : Machine) (i : ℕ) (room : m .n ≤ N) (h : i < m .n) where
+module _ (m : Machine) (i : ℕ) (room : varsOf m ≤ N) (h : i < varsOf m) where
   pub rates-side : (up : Bool) (S : List ℤ) (k : ℕ) (E : List ℤ) → side up (rates m S k E) i ≡ faceRate up m S k E i
   unfolding rates
-  rates-side false S k E = sides-lo _ _ (m .n) i room h
-  rates-side true S k E = sides-hi _ _ (m .n) i room h
+  rates-side false S k E = sides-lo _ _ (varsOf m) i room h
+  rates-side true S k E = sides-hi _ _ (varsOf m) i room h
 
   -- S with each face moved by j of its rates
-  pub lift-side : (up : Bool) (S : List ℤ) (k : ℕ) (E : List ℤ) (j : ℕ) → side up (moved (m .n) S j (rates m S k E)) i ≡ side up S i +ℤ pos j *ℤ faceRate up m S k E i
-  lift-side up S k E j = rw (← rates-side up S k E) (moved-side (m .n) i room h up S j (rates m S k E))
+  pub lift-side : (up : Bool) (S : List ℤ) (k : ℕ) (E : List ℤ) (j : ℕ) → side up (moved (varsOf m) S j (rates m S k E)) i ≡ side up S i +ℤ pos j *ℤ faceRate up m S k E i
+  lift-side up S k E j = rw (← rates-side up S k E) (moved-side (varsOf m) i room h up S j (rates m S k E))
 
 -- ---- states
 

@@ -10,7 +10,7 @@ use Rattle.integers.proofs.Z.{ints}
 use Rattle.sheet_spec.specs.Slots.{_!_, Row}
 use Rattle.sheet_spec.specs.Box.{lo, hi}
 use Rattle.machine_spec.specs.Box.{In}
-use Rattle.machine_spec.specs.Machine.{Machine, cap, rowOf, least, greatest, bandMeets}
+use Rattle.machine_spec.specs.Machine.{Machine, varsOf, bandsOf, bandVarOf, cap, rowOf, least, greatest, bandMeets}
 use Rattle.machine_spec.specs.Rate.{outer, outermost, weighted, bound, part, bandRate, rate}
 use Rattle.machine_spec.proofs.Face.{Beyond, beyond-refl, beyond-sum, sum-beyond, outer-in, outer-mono, span, change-mono}
 use Rattle.machine_spec.proofs.Inside.{Inside, Ordered}
@@ -41,34 +41,34 @@ cond-beyond {up} false false {z = z} f g h = beyond-refl up z
 
 -- band k meets the box
 abbrev met : Machine → ℕ → List ℤ → Bool
-met m k B = bandMeets (m .sheet) (m .bands) k (lo B (m .var)) (hi B (m .var))
+met m k B = bandMeets (m .sheet) (bandsOf m) k (lo B (bandVarOf m)) (hi B (bandVarOf m))
 
-module _ {m : Machine} (wf : Proper m) (A B : List ℤ) (o : Ordered (m .n) A) (s : Inside (m .n) A B) where
+module _ {m : Machine} (wf : Proper m) (A B : List ℤ) (o : Ordered (varsOf m) A) (s : Inside (varsOf m) A B) where
   -- what a band's row is bounded over: not empty where the band meets the box, and wider in a wider box
-  part-ordered : (k : ℕ) → T (met m k A) → Ordered (m .n) (part m k A)
+  part-ordered : (k : ℕ) → T (met m k A) → Ordered (varsOf m) (part m k A)
   part-ordered k t = o
 
-  part-inside : (k : ℕ) → T (met m k A) → Inside (m .n) (part m k A) (part m k B)
+  part-inside : (k : ℕ) → T (met m k A) → Inside (varsOf m) (part m k A) (part m k B)
   part-inside k t = s
 
   met-wider : (k : ℕ) → T (met m k A) → T (met m k B)
-  met-wider k t = meets-show (meets-wider (s .at false (m .var) (wf .var) .order) (s .at true (m .var) (wf .var) .order) (meets-read t))
+  met-wider k t = meets-show (meets-wider (s .at false (bandVarOf m) (wf .var) .order) (s .at true (bandVarOf m) (wf .var) .order) (meets-read t))
 
-  share-mono : (up : Bool) (i k : ℕ) → i < m .n → k < m .bands → Beyond up (bandRate up m B i k) (bandRate up m A i k)
+  share-mono : (up : Bool) (i k : ℕ) → i < varsOf m → k < bandsOf m → Beyond up (bandRate up m B i k) (bandRate up m A i k)
   unfolding bandRate
   share-mono up i k h g =
       cond-beyond (met m k A) (met m k B) (met-wider k)
       (λ t. change-mono up (cap m i) (rowOf m k i) _ _ (wf .divisors k i g h)
-      (bound-mono up (m .n) (rowOf m k i) (part m k A) (part m k B) (least m k) (greatest m k) (part-ordered k t) (part-inside k t)))
+      (bound-mono up (varsOf m) (rowOf m k i) (part m k A) (part m k B) (least m k) (greatest m k) (part-ordered k t) (part-inside k t)))
       (beyond-neutral (change-within up (cap m i) (rowOf m k i) _ (wf .caps i h)) up)
 
-  pub rate-mono : (up : Bool) (i : ℕ) → i < m .n → Beyond up (rate up m B i) (rate up m A i)
+  pub rate-mono : (up : Bool) (i : ℕ) → i < varsOf m → Beyond up (rate up m B i) (rate up m A i)
   unfolding rate
-  rate-mono up i h = outermost-mono _ (m .bands) _ _ (λ k g. share-mono up i k h g)
+  rate-mono up i h = outermost-mono _ (bandsOf m) _ _ (λ k g. share-mono up i k h g)
 
 -- ---- rates over two boxes that share a state
 
-pub rates-ordered : {m : Machine} {x : List ℤ} (A B : List ℤ) (i : ℕ) → Proper m → Permits m → Band (m .sheet) (m .bands) (x ! (m .var)) → In (m .n) A x → In (m .n) B x → i < m .n → rate false m A i ≤ℤ rate true m B i
+pub rates-ordered : {m : Machine} {x : List ℤ} (A B : List ℤ) (i : ℕ) → Proper m → Permits m → Band (m .sheet) (bandsOf m) (x ! (bandVarOf m)) → In (varsOf m) A x → In (varsOf m) B x → i < varsOf m → rate false m A i ≤ℤ rate true m B i
 rates-ordered {m} {x} A B i wf p b a c h =
     let t = goes-on x wf p b .tick in
     omega (ints, rate-bounds wf t i h false A a .order, rate-bounds wf t i h true B c .order)

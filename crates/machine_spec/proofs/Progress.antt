@@ -13,7 +13,9 @@ use Rattle.integers.proofs.Division.{floor-le-ceil, ceil-mono}
 use Rattle.sheet_spec.specs.Slots.{_!_, N, Row, bands}
 use Rattle.sheet_spec.specs.Valid.{Valid}
 use Rattle.machine_spec.specs.Box.{boxOf}
-use Rattle.machine_spec.specs.Machine.{Law, baseline, command, Machine, machine, cap, rowOf, least, greatest, leastOf, greatestOf, numerator, change, Tick}
+use Rattle.machine_spec.specs.declared.Law.{Law}
+use Rattle.machine_spec.specs.declared.Law.the-variants.{Baseline, Command}
+use Rattle.machine_spec.specs.Machine.{Machine, machine, varsOf, bandsOf, bandVarOf, cap, rowOf, least, greatest, leastOf, greatestOf, numerator, change, Tick}
 use Rattle.machine_spec.proofs.Box.{sides-lo, sides-length}
 use Rattle.machine_spec.proofs.Face.{clamp-mono}
 use Rattle.machine_spec.proofs.Bands.{Band}
@@ -22,15 +24,15 @@ use Rattle.machine_spec.proofs.Sound.{Proper}
 -- ---- in every band some command may be used, and some change is allowed
 
 pub record Permits (m : Machine) : Type 0 where
-  pub commands : (k : ℕ) → k < m .bands → least m k ≤ℤ greatest m k
-  pub spreads : (k i : ℕ) → k < m .bands → i < m .n → pos 0 ≤ℤ rowOf m k i .d
+  pub commands : (k : ℕ) → k < bandsOf m → least m k ≤ℤ greatest m k
+  pub spreads : (k i : ℕ) → k < bandsOf m → i < varsOf m → pos 0 ≤ℤ rowOf m k i .d
 
 pub permits : {v : List ℤ} (l : Law) → Valid v → Permits (machine v l)
 permits {v} l wf = record { commands = commands l; spreads = λ k i h g. wf .rows k i h g .d .low }
   where
     commands : (l : Law) (k : ℕ) → k < bands v → leastOf l v k ≤ℤ greatestOf l v k
-    commands baseline k h = unfold leastOf greatestOf in wf .safety k h
-    commands (command u) k h = unfold leastOf greatestOf in ≤ℤ-refl u
+    commands Baseline k h = unfold leastOf greatestOf in wf .safety k h
+    commands (Command u) k h = unfold leastOf greatestOf in ≤ℤ-refl u
 
 pub change-ordered : (c : ℤ) (r : Row) (n : ℤ) → 0 < natAbs (r .q) → pos 0 ≤ℤ r .d → change false c r n ≤ℤ change true c r n
 unfolding change
@@ -58,23 +60,23 @@ pub record Next (m : Machine) (x : List ℤ) : Type 0 where
   pub tick : Tick m x next
 
 -- each variable takes its least allowed change under the law's least command
-pub goes-on : {m : Machine} (x : List ℤ) → Proper m → Permits m → Band (m .sheet) (m .bands) (x ! (m .var)) → Next m x
+pub goes-on : {m : Machine} (x : List ℤ) → Proper m → Permits m → Band (m .sheet) (bandsOf m) (x ! (bandVarOf m)) → Next m x
 goes-on {m} x wf p b = record {
-  next = stateOf (m .n) (λ i. x ! i +ℤ f i);
+  next = stateOf (varsOf m) (λ i. x ! i +ℤ f i);
   tick = record {
-    size = state-length (m .n) _ (wf .room);
+    size = state-length (varsOf m) _ (wf .room);
     band = b .band;
     among = b .among;
     holds = b .holds;
     used = least m (b .band);
     least-used = ≤ℤ-refl (least m (b .band));
     most-used = p .commands (b .band) (b .among);
-    change = λ i h. rw (state-at (m .n) (λ i. x ! i +ℤ f i) i (wf .room) h) (record {
+    change = λ i h. rw (state-at (varsOf m) (λ i. x ! i +ℤ f i) i (wf .room) h) (record {
       above = simp flat (omega ints);
-      below = simp flat (omega (ints, change-ordered (cap m i) (rowOf m (b .band) i) (numerator (m .n) (rowOf m (b .band) i) x (least m (b .band))) (wf .divisors (b .band) i (b .among) h) (p .spreads (b .band) i (b .among) h)));
+      below = simp flat (omega (ints, change-ordered (cap m i) (rowOf m (b .band) i) (numerator (varsOf m) (rowOf m (b .band) i) x (least m (b .band))) (wf .divisors (b .band) i (b .among) h) (p .spreads (b .band) i (b .among) h)));
     });
   };
 }
   where
     f : ℕ → ℤ
-    f i = change false (cap m i) (rowOf m (b .band) i) (numerator (m .n) (rowOf m (b .band) i) x (least m (b .band)))
+    f i = change false (cap m i) (rowOf m (b .band) i) (numerator (varsOf m) (rowOf m (b .band) i) x (least m (b .band)))

@@ -10,7 +10,9 @@ use Rattle.integers.proofs.Z.{ints, neg, bound-in, bound-less, bound-sum, bound
 use Rattle.sheet_spec.specs.Slots.{N, Row, bands, leastCommand, greatestCommand}
 use Rattle.sheet_spec.specs.Valid.{Between, ValidRow, Valid}
 use Rattle.machine_spec.specs.Box.{sum, hull, moved}
-use Rattle.machine_spec.specs.Machine.{Law, baseline, command, Machine, machine, cap, rowOf, least, greatest, leastOf, greatestOf}
+use Rattle.machine_spec.specs.declared.Law.{Law}
+use Rattle.machine_spec.specs.declared.Law.the-variants.{Baseline, Command}
+use Rattle.machine_spec.specs.Machine.{Machine, machine, varsOf, bandsOf, cap, rowOf, least, greatest, leastOf, greatestOf}
 use Rattle.machine_spec.specs.Rate.{weighted, bound, rate, rates, faceRate}
 use Rattle.machine_spec.proofs.Face.{outer-one}
 use Rattle.machine_spec.proofs.Inside.{side, hull-side, moved-side, rates-side, Inside, Ordered}
@@ -46,15 +48,15 @@ module _ {n : ℕ} (room : n ≤ N) where
 
 -- what a sheet says of its rows and commands
 pub record Ranged (m : Machine) : Type 0 where
-  pub caps : (i : ℕ) → i < m .n → cap m i ≤ℤ pos 1000
-  pub rows : (k i : ℕ) → k < m .bands → i < m .n → ValidRow (m .n) (rowOf m k i)
-  pub least : (k : ℕ) → k < m .bands → Bound (least m k) 10000
-  pub greatest : (k : ℕ) → k < m .bands → Bound (greatest m k) 10000
+  pub caps : (i : ℕ) → i < varsOf m → cap m i ≤ℤ pos 1000
+  pub rows : (k i : ℕ) → k < bandsOf m → i < varsOf m → ValidRow (varsOf m) (rowOf m k i)
+  pub least : (k : ℕ) → k < bandsOf m → Bound (least m k) 10000
+  pub greatest : (k : ℕ) → k < bandsOf m → Bound (greatest m k) 10000
 
 -- a command is one of the head's
 abbrev pub Lawful : List ℤ → Law → Type 0
-Lawful v baseline = Unit
-Lawful v (command u) = Between (leastCommand v) (greatestCommand v) u
+Lawful v Baseline = Unit
+Lawful v (Command u) = Between (leastCommand v) (greatestCommand v) u
 
 module _ {v : List ℤ} (wf : Valid v) where
   head-near : {u : ℤ} → Between (leastCommand v) (greatestCommand v) u → Bound u 10000
@@ -62,26 +64,26 @@ module _ {v : List ℤ} (wf : Valid v) where
 
   least-near : (l : Law) (k : ℕ) → Lawful v l → k < bands v → Bound (leastOf l v k) 10000
   unfolding leastOf
-  least-near baseline k t h = head-near (record { low = wf .safety-low k h; high = omega (ints, wf .safety k h, wf .safety-high k h) })
-  least-near (command u) k t h = head-near t
+  least-near Baseline k t h = head-near (record { low = wf .safety-low k h; high = omega (ints, wf .safety k h, wf .safety-high k h) })
+  least-near (Command u) k t h = head-near t
 
   greatest-near : (l : Law) (k : ℕ) → Lawful v l → k < bands v → Bound (greatestOf l v k) 10000
   unfolding greatestOf
-  greatest-near baseline k t h = head-near (record { low = omega (ints, wf .safety-low k h, wf .safety k h); high = wf .safety-high k h })
-  greatest-near (command u) k t h = head-near t
+  greatest-near Baseline k t h = head-near (record { low = omega (ints, wf .safety-low k h, wf .safety k h); high = wf .safety-high k h })
+  greatest-near (Command u) k t h = head-near t
 
   pub ranged : (l : Law) → Lawful v l → Ranged (machine v l)
   ranged l t = record { caps = λ i h. wf .caps i h .high; rows = wf .rows; least = λ k h. least-near l k t h; greatest = λ k h. greatest-near l k t h }
 
-pub rate-near : {m : Machine} → Proper m → Ranged m → (up : Bool) (B : List ℤ) (i : ℕ) → i < m .n → Bound (rate up m B i) 1000
+pub rate-near : {m : Machine} → Proper m → Ranged m → (up : Bool) (B : List ℤ) (i : ℕ) → i < varsOf m → Bound (rate up m B i) 1000
 rate-near {m} wf r up B i h = let w = rate-within up m B i (wf .caps i h) in bound-in (omega (ints, w .low, neg (cap m i), r .caps i h)) (omega (ints, w .high, r .caps i h))
 
-pub rates-near : {m : Machine} → Proper m → Ranged m → (S : List ℤ) (k : ℕ) (E : List ℤ) → Near (m .n) 1000 (rates m S k E)
+pub rates-near : {m : Machine} → Proper m → Ranged m → (S : List ℤ) (k : ℕ) (E : List ℤ) → Near (varsOf m) 1000 (rates m S k E)
 unfolding faceRate
 rates-near {m} wf r S k E = record { at = λ up i h. rw (rates-side m i (wf .room) h up S k E) (rate-near wf r up _ i h) }
 
 -- where the neighborhood of a face of S is cut
-pub limit-near : {m : Machine} {S : List ℤ} {b : ℕ} → Proper m → Ranged m → Near (m .n) b S → (up : Bool) (k i : ℕ) → i < m .n → Bound (inward up (side up S i) (pos k *ℤ cap m i)) (b + k * 1000)
+pub limit-near : {m : Machine} {S : List ℤ} {b : ℕ} → Proper m → Ranged m → Near (varsOf m) b S → (up : Bool) (k i : ℕ) → i < varsOf m → Bound (inward up (side up S i) (pos k *ℤ cap m i)) (b + k * 1000)
 limit-near {m} wf r s up k i h = at up (s .at up i h) (bound-mul {x = pos k} {B = k} (record { at-most = omega arith }) (bound-in (omega (ints, wf .caps i h)) (r .caps i h)))
   where
     at : (up : Bool) {x y : ℤ} {b c : ℕ} → Bound x b → Bound y c → Bound (inward up x y) (b + c)

@@ -14,17 +14,18 @@ use Rattle.sheet_spec.specs.Slots.{_!_, N, Row}
 use Rattle.sheet_spec.specs.Valid.{Between, Valid}
 use Rattle.sheet_spec.specs.Box.{lo, hi}
 use Rattle.machine_spec.specs.Box.{In}
-use Rattle.machine_spec.specs.Machine.{Law, Machine, machine, cap, rowOf, least, greatest, bandMeets, clamp, numerator, change, Tick}
+use Rattle.machine_spec.specs.declared.Law.{Law}
+use Rattle.machine_spec.specs.Machine.{Machine, machine, varsOf, bandsOf, bandVarOf, cap, rowOf, least, greatest, bandMeets, clamp, numerator, change, Tick}
 use Rattle.machine_spec.specs.Rate.{outer, outermost, weighted, bound, part, neutral, bandRate, rate}
 use Rattle.machine_spec.proofs.Face.{Beyond, beyond-refl, beyond-trans, beyond-sum, sum-beyond, span, change-mono, cond-one, outer-one, outermost-one, outermost-at}
 use Rattle.machine_spec.proofs.Bands.{meets-read, meets-show, meets-wider}
 
 -- what the argument asks of a machine
 pub record Proper (m : Machine) : Type 0 where
-  pub room : m .n ≤ N
-  pub var : m .var < m .n
-  pub caps : (i : ℕ) → i < m .n → pos 0 ≤ℤ cap m i
-  pub divisors : (k i : ℕ) → k < m .bands → i < m .n → 0 < natAbs (rowOf m k i .q)
+  pub room : varsOf m ≤ N
+  pub var : bandVarOf m < varsOf m
+  pub caps : (i : ℕ) → i < varsOf m → pos 0 ≤ℤ cap m i
+  pub divisors : (k i : ℕ) → k < bandsOf m → i < varsOf m → 0 < natAbs (rowOf m k i .q)
 
 positive : (q : ℤ) → pos 1 ≤ℤ q → 0 < natAbs q
 positive (pos n) h = omega ints
@@ -47,18 +48,18 @@ bound-holds up n r B x u v w b h k =
 
 -- what band k's share in the rates over B is worked out over holds the state x and the command u
 pub record InPart (m : Machine) (B : List ℤ) (k : ℕ) (x : List ℤ) (u : ℤ) : Type 0 where
-  pub meets : T (bandMeets (m .sheet) (m .bands) k (lo B (m .var)) (hi B (m .var)))
-  pub state : In (m .n) (part m k B) x
+  pub meets : T (bandMeets (m .sheet) (bandsOf m) k (lo B (bandVarOf m)) (hi B (bandVarOf m)))
+  pub state : In (varsOf m) (part m k B) x
   pub least-used : least m k ≤ℤ u
   pub most-used : u ≤ℤ greatest m k
 
 -- the part of a box that a band's row is bounded over holds those of the box's states that are in the band
-pub part-holds : (m : Machine) (k : ℕ) (B x : List ℤ) → In (m .n) B x → T (bandMeets (m .sheet) (m .bands) k (x ! (m .var)) (x ! (m .var))) → In (m .n) (part m k B) x
+pub part-holds : (m : Machine) (k : ℕ) (B x : List ℤ) → In (varsOf m) B x → T (bandMeets (m .sheet) (bandsOf m) k (x ! (bandVarOf m)) (x ! (bandVarOf m))) → In (varsOf m) (part m k B) x
 part-holds m k B x b t = b
 
-pub tick-in-part : {m : Machine} {x y : List ℤ} (B : List ℤ) → Proper m → In (m .n) B x → (t : Tick m x y) → InPart m B (t .band) x (t .used)
+pub tick-in-part : {m : Machine} {x y : List ℤ} (B : List ℤ) → Proper m → In (varsOf m) B x → (t : Tick m x y) → InPart m B (t .band) x (t .used)
 tick-in-part {m} {x} B wf b t = record {
-  meets = meets-show (meets-wider (b .low (m .var) (wf .var)) (b .high (m .var) (wf .var)) (meets-read (t .holds)));
+  meets = meets-show (meets-wider (b .low (bandVarOf m) (wf .var)) (b .high (bandVarOf m) (wf .var)) (meets-read (t .holds)));
   state = part-holds m (t .band) B x b (t .holds);
   least-used = t .least-used;
   most-used = t .most-used;
@@ -72,11 +73,11 @@ cond-yes false x y h = absurd h
 
 -- a band's share in a rate bounds the outermost change from every state, with every command, that it covers
 pub share-bounds : {m : Machine} {B : List ℤ} {k : ℕ} {x : List ℤ} {u : ℤ} (up : Bool) (i : ℕ) → InPart m B k x u → 0 < natAbs (rowOf m k i .q)
-    → Beyond up (bandRate up m B i k) (change up (cap m i) (rowOf m k i) (numerator (m .n) (rowOf m k i) x u))
+    → Beyond up (bandRate up m B i k) (change up (cap m i) (rowOf m k i) (numerator (varsOf m) (rowOf m k i) x u))
 unfolding bandRate
 share-bounds {m} {B} {k} {x} {u} up i c q =
     rw (cond-yes _ _ _ (c .meets))
-    (change-mono up (cap m i) (rowOf m k i) _ _ q (bound-holds up (m .n) (rowOf m k i) (part m k B) x _ u _ (c .state) (c .least-used) (c .most-used)))
+    (change-mono up (cap m i) (rowOf m k i) _ _ q (bound-holds up (varsOf m) (rowOf m k i) (part m k B) x _ u _ (c .state) (c .least-used) (c .most-used)))
 
 -- a change lies within the cap
 clamp-within : (c z : ℤ) → pos 0 ≤ℤ c → Between (negℤ c) c (clamp c z)
@@ -108,16 +109,16 @@ outer-neutral {c} {z} h true = omega (ints, max-is z (negℤ c), h .low)
 pub outer-within : {c z : ℤ} → Between (negℤ c) c z → (up : Bool) (r : Row) (n : ℤ) → Between (negℤ c) c (outer up z (change up c r n))
 outer-within {c} h up r n = outer-one (Between (negℤ c) c) up h (change-within up c r n (omega (ints, h .low, h .high, neg c)))
 
-module _ {m : Machine} {x y : List ℤ} (wf : Proper m) (t : Tick m x y) (i : ℕ) (h : i < m .n) where
-  allowed : (up : Bool) → Beyond up (change up (cap m i) (rowOf m (t .band) i) (numerator (m .n) (rowOf m (t .band) i) x (t .used))) (y ! i -ℤ x ! i)
+module _ {m : Machine} {x y : List ℤ} (wf : Proper m) (t : Tick m x y) (i : ℕ) (h : i < varsOf m) where
+  allowed : (up : Bool) → Beyond up (change up (cap m i) (rowOf m (t .band) i) (numerator (varsOf m) (rowOf m (t .band) i) x (t .used))) (y ! i -ℤ x ! i)
   allowed false = record { order = t .change i h .above }
   allowed true = record { order = t .change i h .below }
 
   -- a tick from a state of B changes variable i by no more than its rates over B
-  pub rate-bounds : (up : Bool) (B : List ℤ) → In (m .n) B x → Beyond up (rate up m B i) (y ! i -ℤ x ! i)
+  pub rate-bounds : (up : Bool) (B : List ℤ) → In (varsOf m) B x → Beyond up (rate up m B i) (y ! i -ℤ x ! i)
   unfolding rate
   rate-bounds up B b =
-      beyond-trans (outermost-at up _ (m .bands) _ (t .band) (t .among))
+      beyond-trans (outermost-at up _ (bandsOf m) _ (t .band) (t .among))
       (beyond-trans (share-bounds up i (tick-in-part B wf b t) (wf .divisors (t .band) i (t .among) h)) (allowed up))
 
   -- and by no more than its cap
@@ -136,8 +137,8 @@ unfolding bandRate
 outermost-within up m B i n h =
     let z = neutral-within up (cap m i) h in
     outermost-one (Between (negℤ (cap m i)) (cap m i)) up n (bandRate up m B i) z
-    (λ k g. cond-one (Between (negℤ (cap m i)) (cap m i)) (bandMeets (m .sheet) (m .bands) k (lo B (m .var)) (hi B (m .var))) (change-within up (cap m i) (rowOf m k i) _ h) z)
+    (λ k g. cond-one (Between (negℤ (cap m i)) (cap m i)) (bandMeets (m .sheet) (bandsOf m) k (lo B (bandVarOf m)) (hi B (bandVarOf m))) (change-within up (cap m i) (rowOf m k i) _ h) z)
 
 pub rate-within : (up : Bool) (m : Machine) (B : List ℤ) (i : ℕ) → pos 0 ≤ℤ cap m i → Between (negℤ (cap m i)) (cap m i) (rate up m B i)
 unfolding rate
-rate-within up m B i h = outermost-within up m B i (m .bands) h
+rate-within up m B i h = outermost-within up m B i (bandsOf m) h

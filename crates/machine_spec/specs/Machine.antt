@@ -11,30 +11,28 @@ use Rattle.integers.specs.Order.{minZ, maxZ}
 use Rattle.integers.specs.Division.{floorDiv, ceilDiv}
 use Rattle.sheet_spec.specs.Slots.{_!_, Row, vars, bands, bandVar, row}
 use Rattle.sheet_spec.specs.Slots as sheet
+use Rattle.machine_spec.specs.declared.Law.{Law}
+use Rattle.machine_spec.specs.declared.Law.the-variants.{Baseline, Command}
 use Rattle.machine_spec.specs.Box.{sum}
-
--- what acts on the motor: the plain law, or one command
-pub data Law : Type 0 where
-  baseline : Law
-  command : ℤ → Law
-
--- the plain law, or else the command u
-unfoldable pub lawOf : Bool → ℤ → Law
-lawOf true u = baseline
-lawOf false u = command u
 
 -- a sheet's machine under a law
 pub record Machine : Type 0 where
-  pub n : ℕ
-  pub bands : ℕ
-  -- the band variable
-  pub var : ℕ
   pub law : Law
   -- the sheet's value
   pub sheet : List ℤ
 
 abbrev pub machine : List ℤ → Law → Machine
-machine v l = record { n = vars v; bands = bands v; var = bandVar v; law = l; sheet = v }
+machine v l = record { law = l; sheet = v }
+
+-- its variables, its bands, and the variable whose number has the band
+abbrev pub varsOf : Machine → ℕ
+varsOf m = vars (m .sheet)
+
+abbrev pub bandsOf : Machine → ℕ
+bandsOf m = bands (m .sheet)
+
+abbrev pub bandVarOf : Machine → ℕ
+bandVarOf m = bandVar (m .sheet)
 
 abbrev pub cap : Machine → ℕ → ℤ
 cap m i = sheet.cap (m .sheet) i
@@ -44,12 +42,12 @@ rowOf m k i = row (m .sheet) k i
 
 -- the law's commands in band k run from `least` to `greatest`: under the plain law the band's safety range
 unfoldable pub leastOf : Law → List ℤ → ℕ → ℤ
-leastOf baseline v k = sheet.safetyLeast v k
-leastOf (command u) v k = u
+leastOf Baseline v k = sheet.safetyLeast v k
+leastOf (Command u) v k = u
 
 unfoldable pub greatestOf : Law → List ℤ → ℕ → ℤ
-greatestOf baseline v k = sheet.safetyGreatest v k
-greatestOf (command u) v k = u
+greatestOf Baseline v k = sheet.safetyGreatest v k
+greatestOf (Command u) v k = u
 
 abbrev pub least : Machine → ℕ → ℤ
 least m k = leastOf (m .law) (m .sheet) k
@@ -77,17 +75,17 @@ change true cap r N = clamp cap (ceilDiv (N +ℤ r .d) (natAbs (r .q)))
 
 -- variable i may change by y from the state x, in band k under the command u
 pub record Allowed (m : Machine) (k : ℕ) (x : List ℤ) (u : ℤ) (i : ℕ) (y : ℤ) : Type 0 where
-  pub above : change false (cap m i) (rowOf m k i) (numerator (m .n) (rowOf m k i) x u) ≤ℤ y
-  pub below : y ≤ℤ change true (cap m i) (rowOf m k i) (numerator (m .n) (rowOf m k i) x u)
+  pub above : change false (cap m i) (rowOf m k i) (numerator (varsOf m) (rowOf m k i) x u) ≤ℤ y
+  pub below : y ≤ℤ change true (cap m i) (rowOf m k i) (numerator (varsOf m) (rowOf m k i) x u)
 
 -- a tick from the state x to the state y: one band holds x, one of the law's commands is used for all variables, and each
 -- variable takes an allowed change
 pub record Tick (m : Machine) (x y : List ℤ) : Type 0 where
-  pub size : length y ≡ m .n
+  pub size : length y ≡ varsOf m
   pub band : ℕ
-  pub among : band < m .bands
-  pub holds : T (bandMeets (m .sheet) (m .bands) band (x ! (m .var)) (x ! (m .var)))
+  pub among : band < bandsOf m
+  pub holds : T (bandMeets (m .sheet) (bandsOf m) band (x ! (bandVarOf m)) (x ! (bandVarOf m)))
   pub used : ℤ
   pub least-used : least m band ≤ℤ used
   pub most-used : used ≤ℤ greatest m band
-  pub change : (i : ℕ) → i < m .n → Allowed m band x used i (y ! i -ℤ x ! i)
+  pub change : (i : ℕ) → i < varsOf m → Allowed m band x used i (y ! i -ℤ x ! i)

@@ -9,7 +9,7 @@ use Rattle.integers.specs.Order.{minZ, maxZ}
 use Rattle.sheet_spec.specs.Slots.{N, Row}
 use Rattle.sheet_spec.specs.Box.{lo, hi}
 use Rattle.machine_spec.specs.Box.{sum, boxOf}
-use Rattle.machine_spec.specs.Machine.{Machine, cap, rowOf, least, greatest, bandMeets, change}
+use Rattle.machine_spec.specs.Machine.{Machine, varsOf, bandsOf, bandVarOf, cap, rowOf, least, greatest, bandMeets, change}
 
 -- ---- rates over a box
 
@@ -43,13 +43,13 @@ neutral true cap = negℤ cap
 -- band k's share in the rate of variable i over the box
 unfoldable pub bandRate : Bool → Machine → List ℤ → ℕ → ℕ → ℤ
 bandRate up m B i k =
-    cond (bandMeets (m .sheet) (m .bands) k (lo B (m .var)) (hi B (m .var)))
-    (change up (cap m i) (rowOf m k i) (bound up (m .n) (rowOf m k i) (part m k B) (least m k) (greatest m k)))
+    cond (bandMeets (m .sheet) (bandsOf m) k (lo B (bandVarOf m)) (hi B (bandVarOf m)))
+    (change up (cap m i) (rowOf m k i) (bound up (varsOf m) (rowOf m k i) (part m k B) (least m k) (greatest m k)))
     (neutral up (cap m i))
 
 -- the least (greatest) allowed change of variable i over the box: all commands, and every band that the box meets
 unfoldable pub rate : Bool → Machine → List ℤ → ℕ → ℤ
-rate up m B i = outermost up (neutral up (cap m i)) (m .bands) (bandRate up m B i)
+rate up m B i = outermost up (neutral up (cap m i)) (bandsOf m) (bandRate up m B i)
 
 -- ---- the rates of a round: a step of `ticks` ticks (document 01: length k) from the box S, with the working box E
 
@@ -63,4 +63,4 @@ faceRate up m S ticks E i = rate up m (neighborhood up S (pos (ticks + 1) *ℤ c
 
 -- the rates of all faces, as a box
 unfoldable pub rates : Machine → List ℤ → ℕ → List ℤ → List ℤ
-rates m S ticks E = boxOf (m .n) (faceRate false m S ticks E) (faceRate true m S ticks E)
+rates m S ticks E = boxOf (varsOf m) (faceRate false m S ticks E) (faceRate true m S ticks E)

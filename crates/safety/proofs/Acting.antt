@@ -8,7 +8,7 @@ use lib.ListN.{length, getD, replicate, length-append, length-replicate, getD-re
 use lib.Seq.{getD-append-add}
 use Rattle.sheet_spec.specs.Slots.{δ}
 use Rattle.sheet_spec.specs.Sheet.{values}
-use Rattle.machine_spec.specs.Machine.{baseline}
+use Rattle.machine_spec.specs.declared.Law.the-variants.{Baseline}
 use Rattle.safety.specs.Run.{Period, periodLaw, acting, lawAt}
 
 pub acting-length : (f : List ℕ) (qs : List Period) → length (acting f qs) ≡ length qs * δ (values f)
@@ -25,16 +25,16 @@ acting-append f (q ∷ qs) rs = rw (acting-append f qs rs) (sym (append-assoc (r
 
 module _ (f : List ℕ) (qs rs : List Period) where
   pub law-before : (t : ℕ) → t < length qs * δ (values f) → lawAt f (qs ++ rs) t ≡ lawAt f qs t
-  law-before t h = rw (acting-append f qs rs) (List·getD-append (acting f qs) (acting f rs) baseline t (rw (acting-length f qs) h))
+  law-before t h = rw (acting-append f qs rs) (List·getD-append (acting f qs) (acting f rs) Baseline t (rw (acting-length f qs) h))
 
   pub law-behind : (i : ℕ) → lawAt f (qs ++ rs) (length qs * δ (values f) + i) ≡ lawAt f rs i
-  law-behind i = rw (acting-append f qs rs, ← acting-length f qs) (getD-append-add (acting f qs) (acting f rs) i baseline)
+  law-behind i = rw (acting-append f qs rs, ← acting-length f qs) (getD-append-add (acting f qs) (acting f rs) i Baseline)
 
 law-of-one : (f : List ℕ) (q : Period) (i : ℕ) → i < δ (values f) → lawAt f (q ∷ []) i ≡ periodLaw f q
 unfolding acting
 law-of-one f q i h =
     let n = δ (values f) in
-    List·getD-append (replicate n (periodLaw f q)) [] baseline i (rw (length-replicate n (periodLaw f q)) h) ∙ getD-replicate n i (periodLaw f q) baseline h
+    List·getD-append (replicate n (periodLaw f q)) [] Baseline i (rw (length-replicate n (periodLaw f q)) h) ∙ getD-replicate n i (periodLaw f q) Baseline h
 
 -- tick i of period p
 pub law-at : (f : List ℕ) (qs : List Period) (p i : ℕ) → p < length qs → i < δ (values f) → lawAt f qs (p * δ (values f) + i) ≡ periodLaw f (getD qs p none)

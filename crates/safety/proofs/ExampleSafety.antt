@@ -9,7 +9,8 @@ use Rattle.sheet_spec.specs.Slots.{recoveryBox, unsafeBox}
 use Rattle.sheet_spec.specs.Sheet.{values}
 use Rattle.sheet_spec.specs.SheetA.{fileA}
 use Rattle.machine_spec.specs.Box.{In}
-use Rattle.machine_spec.specs.Machine.{Law, baseline, command}
+use Rattle.machine_spec.specs.declared.Law.{Law}
+use Rattle.machine_spec.specs.declared.Law.the-variants.{Baseline, Command}
 use Rattle.sheet_spec.proofs.Box.{differ, all-at}
 use Rattle.safety.specs.Run.{lawAt, Safe}
 use Rattle.safety.proofs.Run.{safe-runs}
@@ -43,12 +44,12 @@ unfolding opened
 clearB = (safeB .safe 0 (lit≤ tt) 1 (lit< tt), safeB .safe 12 (lit≤ tt) 1 (lit< tt))
 
 abbrev plain : Law → Bool
-plain baseline = true
-plain (command u) = false
+plain Baseline = true
+plain (Command u) = false
 
-plain-is : (l : Law) → plain l ≡ true → l ≡ baseline
-plain-is baseline e = refl
-plain-is (command u) e = absurd (differ e refl)
+plain-is : (l : Law) → plain l ≡ true → l ≡ Baseline
+plain-is Baseline e = refl
+plain-is (Command u) e = absurd (differ e refl)
 
 -- the α ticks after the kept period end at tick 8, inside the third period
 backB : In 2 (recoveryBox (values fileB)) (statesB 8)

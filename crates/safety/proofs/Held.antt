@@ -14,14 +14,16 @@ use Rattle.integers.proofs.Z.{ints, sub, neg}
 use Rattle.sheet_spec.specs.Slots.{_!_, vars, δ, α, ρ, recoveryBox}
 use Rattle.sheet_spec.specs.Valid.{Valid}
 use Rattle.machine_spec.specs.Box.{In}
-use Rattle.machine_spec.specs.Machine.{Law, baseline, command, machine, Tick}
+use Rattle.machine_spec.specs.declared.Law.{Law}
+use Rattle.machine_spec.specs.declared.Law.the-variants.{Baseline, Command}
+use Rattle.machine_spec.specs.Machine.{machine, Tick}
 use Rattle.machine_spec.specs.Rate.{neutral}
 use Rattle.machine_spec.proofs.Sound.{proper, cap-bounds}
 use Rattle.boxes_spec.proofs.Sound.{Ticks}
 use Rattle.boxes_spec.proofs.Ranges.{Sized, start-sized, recovery-sized}
 use Rattle.decision_spec.specs.Question.{questionOf, questionRefusal, allowanceOf, commandOf, measured}
 use Rattle.decision_spec.specs.Decision.{recoveryOf, decisionTo, isKeep}
-use Rattle.decision_spec.proofs.Question.{question-passes}
+use Rattle.decision_spec.proofs.Passes.{question-passes}
 use Rattle.decision_spec.proofs.Cover.{Covered}
 use Rattle.decision_spec.proofs.Attempt.{recovery-sound, decision-sound}
 
@@ -55,9 +57,9 @@ module _ {v : List ℤ} (wf : Valid v) where
   held-after (suc k) x s f = held-after k (λ t. x (suc t)) (held-tick s (f 0 (omega arith))) (λ i h. f (suc i) (omega arith))
 
   -- and those of the plain law end in the recovery box
-  pub held-returns : (k : ℕ) (x : ℕ → List ℤ) → Held v (replicate k baseline) (x 0) → Ticks (machine v baseline) x k → In (vars v) (recoveryBox v) (x k)
+  pub held-returns : (k : ℕ) (x : ℕ → List ℤ) → Held v (replicate k Baseline) (x 0) → Ticks (machine v Baseline) x k → In (vars v) (recoveryBox v) (x k)
   unfolding Covered
-  held-returns k x s f = held-after {l = baseline} {ls = []} k x (rw append-nil s) f .covered
+  held-returns k x s f = held-after {l = Baseline} {ls = []} k x (rw append-nil s) f .covered
 
 -- ---- where it starts: in a measured box and in the recovery box, which lie within ±1,000,000
 
@@ -73,10 +75,10 @@ hold {x} few s b c = record {
 
 pub keep-held : {v x : List ℤ} (g : List ℕ) → Valid v → questionRefusal v g ≡ 0
     → T (isKeep (decisionTo v (questionOf (vars v) g))) → In (vars v) (measured (vars v) g) x
-    → Held v (replicate (δ v) (command (commandOf g)) ++ replicate (α v) baseline) x
+    → Held v (replicate (δ v) (Command (commandOf g)) ++ replicate (α v) Baseline) x
 keep-held {v} g wf e t b =
-    let few : length (replicate (δ v) (command (commandOf g)) ++ replicate (α v) baseline) ≤ 1000 = simp (length-append, length-replicate) (wf .sum-high) in
-    hold few (start-sized (vars v) (measured (vars v) g) (question-passes v g e .start)) b (decision-sound wf (command (commandOf g)) (allowanceOf g) t b)
+    let few : length (replicate (δ v) (Command (commandOf g)) ++ replicate (α v) Baseline) ≤ 1000 = simp (length-append, length-replicate) (wf .sum-high) in
+    hold few (start-sized (vars v) (measured (vars v) g) (question-passes v g e .start)) b (decision-sound wf (Command (commandOf g)) (allowanceOf g) t b)
 
 -- ---- the way back to the recovery box
 
@@ -84,25 +86,25 @@ keep-held {v} g wf e t b =
 pub record Returning (v x : List ℤ) : Type 0 where
   pub left : ℕ
   pub soon : left < max (α v) (ρ v)
-  pub held : Held v (replicate (suc left) baseline) x
+  pub held : Held v (replicate (suc left) Baseline) x
 
 -- a sheet whose recovery check passed
 module _ {v : List ℤ} (wf : Valid v) (passed : T (isKeep (recoveryOf v))) where
   -- a state of the recovery box comes back to it in ρ ticks
   pub recovered : {x : List ℤ} → In (vars v) (recoveryBox v) x → Returning v x
   recovered {x} b =
-      let few : length (replicate (ρ v) baseline) ≤ 1000 = rw (length-replicate (ρ v) baseline) (wf .ρ-high) in
+      let few : length (replicate (ρ v) Baseline) ≤ 1000 = rw (length-replicate (ρ v) Baseline) (wf .ρ-high) in
       from (ρ v) (wf .ρ-low) (omega arith) (hold few (recovery-sized wf) b (recovery-sound wf passed b))
     where
-      from : (k : ℕ) → 1 ≤ k → k ≤ max (α v) (ρ v) → Held v (replicate k baseline) x → Returning v x
+      from : (k : ℕ) → 1 ≤ k → k ≤ max (α v) (ρ v) → Held v (replicate k Baseline) x → Returning v x
       from zero h few s = absurd (omega arith)
       from (suc k) h few s = record { left = k; soon = few; held = s }
 
   -- and so does each state that the plain law brings there
-  pub returning : {x : List ℤ} (k : ℕ) → k ≤ max (α v) (ρ v) → Held v (replicate k baseline) x → Returning v x
+  pub returning : {x : List ℤ} (k : ℕ) → k ≤ max (α v) (ρ v) → Held v (replicate k Baseline) x → Returning v x
   unfolding Covered
   returning zero few s = recovered (s .covered)
   returning (suc k) few s = record { left = k; soon = few; held = s }
 
-  pub returning-tick : {x y : List ℤ} → Returning v x → Tick (machine v baseline) x y → Returning v y
+  pub returning-tick : {x y : List ℤ} → Returning v x → Tick (machine v Baseline) x y → Returning v y
   returning-tick r t = returning (r .left) (omega (arith, r .soon)) (held-tick wf (r .held) t)

@@ -16,7 +16,8 @@ use Rattle.sheet_spec.specs.Slots.{_!_, vars, bands, bandVar, δ, recoveryBox}
 use Rattle.sheet_spec.specs.Sheet.{values}
 use Rattle.sheet_spec.specs.Valid.{Valid}
 use Rattle.machine_spec.specs.Box.{In}
-use Rattle.machine_spec.specs.Machine.{Law, Machine, machine, Tick}
+use Rattle.machine_spec.specs.declared.Law.{Law}
+use Rattle.machine_spec.specs.Machine.{Machine, machine, Tick}
 use Rattle.machine_spec.proofs.Bands.{Band, has-band}
 use Rattle.machine_spec.proofs.Sound.{proper}
 use Rattle.machine_spec.proofs.Progress.{permits, goes-on}

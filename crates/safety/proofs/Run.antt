@@ -16,7 +16,9 @@ use Rattle.sheet_spec.specs.Sheet.{values}
 use Rattle.sheet_spec.specs.Valid.{Valid}
 use Rattle.sheet_spec.proofs.Valid.{valid}
 use Rattle.machine_spec.specs.Box.{In}
-use Rattle.machine_spec.specs.Machine.{Law, baseline, command, machine, Tick}
+use Rattle.machine_spec.specs.declared.Law.{Law}
+use Rattle.machine_spec.specs.declared.Law.the-variants.{Baseline, Command}
+use Rattle.machine_spec.specs.Machine.{machine, Tick}
 use Rattle.decision_spec.specs.Decision.{checkRecovery, decide, isKeep}
 use Rattle.safety.specs.Run.{Period, kept, periodLaw, lawAt, Measured, Run, SafeRuns}
 use Rattle.decision_spec.proofs.Cover.{Covered}
@@ -26,8 +28,8 @@ use Rattle.safety.proofs.Held.{Held, held-tick, held-returns, keep-held
 
 -- what is known of the state x in a period under the law l, of which `left` ticks are to come
 unfoldable pub Backed : List ℤ → Law → ℕ → List ℤ → Type 0
-Backed v baseline left x = Returning v x
-Backed v (command u) left x = Held v (replicate left (command u) ++ replicate (α v) baseline) x
+Backed v Baseline left x = Returning v x
+Backed v (Command u) left x = Held v (replicate left (Command u) ++ replicate (α v) Baseline) x
 
 -- the state is held by the laws of one or more ticks
 pub record Guarded (v x : List ℤ) : Type 0 where
@@ -36,12 +38,12 @@ pub record Guarded (v x : List ℤ) : Type 0 where
   pub held : Held v (law ∷ later) x
 
 pub returning-guarded : {v x : List ℤ} → Returning v x → Guarded v x
-returning-guarded r = record { law = baseline; later = replicate (r .left) baseline; held = r .held }
+returning-guarded r = record { law = Baseline; later = replicate (r .left) Baseline; held = r .held }
 
 pub backed-guarded : {v x : List ℤ} (l : Law) (left : ℕ) → Backed v l (suc left) x → Guarded v x
 unfolding Backed
-backed-guarded baseline left r = returning-guarded r
-backed-guarded {v} (command u) left s = record { law = command u; later = replicate left (command u) ++ replicate (α v) baseline; held = s }
+backed-guarded Baseline left r = returning-guarded r
+backed-guarded {v} (Command u) left s = record { law = Command u; later = replicate left (Command u) ++ replicate (α v) Baseline; held = s }
 
 choose : {A : Type 0} (P : A → Type 0) (t : Bool) (x y : A) → (T t → P x) → (T (not t) → P y) → P (elim t [ true ↦ x | false ↦ y ])
 choose P true x y f g = f tt
@@ -63,20 +65,20 @@ module _ (f : List ℕ) (passed : T (isKeep (checkRecovery f))) where
 
   pub backed-tick : {x y : List ℤ} (l : Law) (left : ℕ) → Backed (values f) l (suc left) x → Tick (machine (values f) l) x y → Backed (values f) l left y
   unfolding Backed
-  backed-tick baseline left r t = returning-tick wf (check-keep f passed .1) r t
-  backed-tick (command u) left s t = held-tick wf s t
+  backed-tick Baseline left r t = returning-tick wf (check-keep f passed .1) r t
+  backed-tick (Command u) left s t = held-tick wf s t
 
   ends : {x : List ℤ} (l : Law) → Backed (values f) l 0 x → Returning (values f) x
   unfolding Backed
-  ends baseline r = r
-  ends (command u) s = returning wf (check-keep f passed .1) (α (values f)) (omega arith) s
+  ends Baseline r = r
+  ends (Command u) s = returning wf (check-keep f passed .1) (α (values f)) (omega arith) s
 
   -- after a kept period α ticks of the plain law are left
-  kept-ends : {x : List ℤ} (q : Period) → T (kept f q) → Backed (values f) (periodLaw f q) 0 x → Held (values f) (replicate (α (values f)) baseline) x
+  kept-ends : {x : List ℤ} (q : Period) → T (kept f q) → Backed (values f) (periodLaw f q) 0 x → Held (values f) (replicate (α (values f)) Baseline) x
   unfolding kept periodLaw Backed
   kept-ends none t s = absurd t
   kept-ends {x} (some g) t s =
-      choose (λ l. Backed (values f) l 0 x → Held (values f) (replicate (α (values f)) baseline) x) (isKeep (decide f g)) _ _
+      choose (λ l. Backed (values f) l 0 x → Held (values f) (replicate (α (values f)) Baseline) x) (isKeep (decide f g)) _ _
       (λ k s. s) (λ n. absurd (T-not (isKeep (decide f g)) n t)) s
 
   -- ---- the whole run
@@ -113,7 +115,7 @@ module _ (f : List ℕ) (passed : T (isKeep (checkRecovery f))) where
         (rw (law-at f qs (t / n) (t % n) p i, ← e) (through (t / n) p (at-period (t / n) (omega arith)) (t % n) (omega arith)))
 
     -- so at each tick of the plain law the state is on the way back
-    pub returning-at : (t : ℕ) → t < length qs * δ (values f) → lawAt f qs t ≡ baseline → Returning (values f) (x t)
+    pub returning-at : (t : ℕ) → t < length qs * δ (values f) → lawAt f qs t ≡ Baseline → Returning (values f) (x t)
     unfolding Backed
     returning-at t h e = subst (λ (l : Law). Backed (values f) l (suc (δ (values f) - suc (t % δ (values f)))) (x t)) e (at-tick t h)
 
@@ -123,7 +125,7 @@ module _ (f : List ℕ) (passed : T (isKeep (checkRecovery f))) where
 
     returns : (p : ℕ) → p < length qs → T (kept f (getD qs p none))
         → suc p * δ (values f) + α (values f) ≤ length qs * δ (values f)
-        → ((t : ℕ) → t < α (values f) → lawAt f qs (suc p * δ (values f) + t) ≡ baseline)
+        → ((t : ℕ) → t < α (values f) → lawAt f qs (suc p * δ (values f) + t) ≡ Baseline)
         → In (vars (values f)) (recoveryBox (values f)) (x (suc p * δ (values f) + α (values f)))
     returns p h t k plain =
         let n = suc p * δ (values f) in

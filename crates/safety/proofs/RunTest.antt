@@ -14,7 +14,9 @@ use Rattle.sheet_spec.specs.Slots.{_!_, vars, δ}
 use Rattle.sheet_spec.specs.Sheet.{values}
 use Rattle.sheet_spec.specs.Box.{lo, hi, all}
 use Rattle.machine_spec.specs.Box.{In}
-use Rattle.machine_spec.specs.Machine.{Law, baseline, Machine, machine, cap, rowOf, least, greatest, bandMeets, numerator, change, Tick}
+use Rattle.machine_spec.specs.declared.Law.{Law}
+use Rattle.machine_spec.specs.declared.Law.the-variants.{Baseline}
+use Rattle.machine_spec.specs.Machine.{Machine, machine, varsOf, bandsOf, bandVarOf, cap, rowOf, least, greatest, bandMeets, numerator, change, Tick}
 use Rattle.sheet_spec.proofs.Box.{differ, and-both, all-at}
 use Rattle.decision_spec.specs.Question.{measured}
 use Rattle.safety.specs.Run.{Period, kept, acting, Measured, Run}
@@ -37,13 +39,13 @@ states x (t ∷ ts) (suc i) = states (t .state) ts i
 unfoldable pub allows : Machine → List ℤ → Moment → ℕ → Bool
 allows m x t i =
     let r = rowOf m (t .band) i in
-    let N = numerator (m .n) r x (t .used) in
+    let N = numerator (varsOf m) r x (t .used) in
     leZ (change false (cap m i) r N) (t .state ! i -ℤ x ! i) && leZ (t .state ! i -ℤ x ! i) (change true (cap m i) r N)
 
 unfoldable pub ticks : Machine → List ℤ → Moment → Bool
 ticks m x t =
-    eqb (length (t .state)) (m .n) && (ltb (t .band) (m .bands) && (bandMeets (m .sheet) (m .bands) (t .band) (x ! (m .var)) (x ! (m .var))
-    && (leZ (least m (t .band)) (t .used) && (leZ (t .used) (greatest m (t .band)) && all (m .n) (allows m x t)))))
+    eqb (length (t .state)) (varsOf m) && (ltb (t .band) (bandsOf m) && (bandMeets (m .sheet) (bandsOf m) (t .band) (x ! (bandVarOf m)) (x ! (bandVarOf m))
+    && (leZ (least m (t .band)) (t .used) && (leZ (t .used) (greatest m (t .band)) && all (varsOf m) (allows m x t)))))
 
 unfoldable pub follows : List ℤ → List Law → List ℤ → List Moment → Bool
 follows v [] x ts = true
@@ -71,31 +73,31 @@ ticks-tick : (m : Machine) (x : List ℤ) (t : Moment) → ticks m x t ≡ true 
 unfolding ticks allows
 ticks-tick m x t e =
     let k = t .band in
-    let a = and-both (eqb (length (t .state)) (m .n)) _ e in
-    let b = and-both (ltb k (m .bands)) _ (a .1) in
-    let c = and-both (bandMeets (m .sheet) (m .bands) k (x ! (m .var)) (x ! (m .var))) _ (b .1) in
+    let a = and-both (eqb (length (t .state)) (varsOf m)) _ e in
+    let b = and-both (ltb k (bandsOf m)) _ (a .1) in
+    let c = and-both (bandMeets (m .sheet) (bandsOf m) k (x ! (bandVarOf m)) (x ! (bandVarOf m))) _ (b .1) in
     let d = and-both (leZ (least m k) (t .used)) _ (c .1) in
     let g = and-both (leZ (t .used) (greatest m k)) _ (d .1) in
     record {
-      size = eqb→eq (length (t .state)) (m .n) (passes (a .0));
+      size = eqb→eq (length (t .state)) (varsOf m) (passes (a .0));
       band = k;
-      among = ltb→lt k (m .bands) (passes (b .0));
+      among = ltb→lt k (bandsOf m) (passes (b .0));
       holds = passes (c .0);
       used = t .used;
       least-used = le-true _ _ (d .0);
       most-used = le-true _ _ (g .0);
-      change = λ i h. let s = sides i (all-at (m .n) (allows m x t) i (g .1) h) in record { above = le-true _ _ (s .0); below = le-true _ _ (s .1) };
+      change = λ i h. let s = sides i (all-at (varsOf m) (allows m x t) i (g .1) h) in record { above = le-true _ _ (s .0); below = le-true _ _ (s .1) };
     }
   where
     N : ℕ → ℤ
-    N i = numerator (m .n) (rowOf m (t .band) i) x (t .used)
+    N i = numerator (varsOf m) (rowOf m (t .band) i) x (t .used)
 
     sides : (i : ℕ) → allows m x t i ≡ true
         → (leZ (change false (cap m i) (rowOf m (t .band) i) (N i)) (t .state ! i -ℤ x ! i) ≡ true) × (leZ (t .state ! i -ℤ x ! i) (change true (cap m i) (rowOf m (t .band) i) (N i)) ≡ true)
     sides i = and-both (leZ (change false (cap m i) (rowOf m (t .band) i) (N i)) (t .state ! i -ℤ x ! i)) _
 
 follows-ticks : (v : List ℤ) (ls : List Law) (x : List ℤ) (ts : List Moment) → follows v ls x ts ≡ true
-    → (i : ℕ) → i < length ls → Tick (machine v (getD ls i baseline)) (states x ts i) (states x ts (suc i))
+    → (i : ℕ) → i < length ls → Tick (machine v (getD ls i Baseline)) (states x ts i) (states x ts (suc i))
 unfolding follows states
 follows-ticks v [] x ts e i h = absurd (omega arith)
 follows-ticks v (l ∷ ls) x [] e i h = absurd (differ e refl)

@@ -10,7 +10,9 @@ use lib.ListN.{getD, length, replicate}
 use Rattle.sheet_spec.specs.Slots.{vars, boxes, δ, α, recoveryBox, unsafeBox}
 use Rattle.sheet_spec.specs.Sheet.{values}
 use Rattle.machine_spec.specs.Box.{In}
-use Rattle.machine_spec.specs.Machine.{Law, baseline, command, machine, Tick}
+use Rattle.machine_spec.specs.declared.Law.{Law}
+use Rattle.machine_spec.specs.declared.Law.the-variants.{Baseline, Command}
+use Rattle.machine_spec.specs.Machine.{machine, Tick}
 use Rattle.decision_spec.specs.Question.{commandOf, measured}
 use Rattle.decision_spec.specs.Decision.{isKeep, decide, checkRecovery}
 
@@ -25,8 +27,8 @@ kept f (some g) = isKeep (decide f g)
 
 -- the law that acts at each tick of a period: the question's command if it is kept, else the plain law
 unfoldable pub periodLaw : List ℕ → Period → Law
-periodLaw f none = baseline
-periodLaw f (some g) = elim (kept f (some g)) [ true ↦ command (commandOf g) | false ↦ baseline ]
+periodLaw f none = Baseline
+periodLaw f (some g) = elim (kept f (some g)) [ true ↦ Command (commandOf g) | false ↦ Baseline ]
 
 -- the law of each tick of the run: δ ticks a period
 unfoldable pub acting : List ℕ → List Period → List Law
@@ -34,7 +36,7 @@ acting f [] = []
 acting f (q ∷ qs) = replicate (δ (values f)) (periodLaw f q) ++ acting f qs
 
 abbrev pub lawAt : List ℕ → List Period → ℕ → Law
-lawAt f qs t = getD (acting f qs) t baseline
+lawAt f qs t = getD (acting f qs) t Baseline
 
 -- the measured box of a kept question holds the state
 unfoldable pub Measured : List ℕ → Period → List ℤ → Type 0
@@ -53,7 +55,7 @@ pub record Safe (f : List ℕ) (qs : List Period) (x : ℕ → List ℤ) : Type 
   pub safe : (t : ℕ) → t ≤ length qs * δ (values f) → (j : ℕ) → j < boxes (values f) → In (vars (values f)) (unsafeBox (values f) j) (x t) → ⊥
   pub returns : (p : ℕ) → p < length qs → T (kept f (getD qs p none))
       → suc p * δ (values f) + α (values f) ≤ length qs * δ (values f)
-      → ((t : ℕ) → t < α (values f) → lawAt f qs (suc p * δ (values f) + t) ≡ baseline)
+      → ((t : ℕ) → t < α (values f) → lawAt f qs (suc p * δ (values f) + t) ≡ Baseline)
       → In (vars (values f)) (recoveryBox (values f)) (x (suc p * δ (values f) + α (values f)))
 
 -- demand 3: if the sheet passed its recovery check (so it was accepted) and the first state is in the recovery box, every run is safe

@@ -185,8 +185,8 @@ impl<'a> Bases<'a> {
 
 fn law(example: &Example) -> String {
     match example.field("law") {
-        "0" => "baseline".into(),
-        _ => format!("(command ({}))", integer(example.field("command").parse().expect("a number"))),
+        "0" => "Baseline".into(),
+        _ => format!("(Command ({}))", integer(example.field("command").parse().expect("a number"))),
     }
 }
 
@@ -274,7 +274,7 @@ use Prim.Native.Nat.{ℕ}
 use lib.IntN.{ℤ, pos, negsuc}
 use lib.ListN.{take}
 use Rattle.sheet_spec.specs.SheetA.{fileA}
-use Rattle.machine_spec.specs.Machine.{baseline, command}
+use Rattle.machine_spec.specs.declared.Law.the-variants.{Baseline, Command}
 use Rattle.boxes_spec.specs.Reach.{Answer, refused, reachFile}
 use Rattle.boxes_spec.proofs.Everything.{everything}
 

@@ -2,10 +2,8 @@
 use mathlib.Core.Path.{sym, ap, _∙_, subst}
 use mathlib.Core.List.{List}
 use lib.IntN.{ℤ}
-use mir.Facts.{toZ-ofZ}
 use Rattle.sheet_spec.specs.Valid.{Valid}
 use Rattle.sheet_spec.proofs.Valid.{valid, zeros-are}
-use Rattle.machine_spec.specs.Machine.{lawOf}
 use Rattle.sheet_spec.proofs.FirstRefusal.{found-stops, found-none}
 use Rattle.boxes_spec.specs.Reach.{refused, reachOf, reachFile}
 use Rattle.boxes.proofs.reach.Statement.{statement}
@@ -29,8 +27,7 @@ returns-2 c =
     let r = e .before in
     let s = r .before .before .before in
     c .reach-of .ensures
-    ∙ ap (λ (u : ℤ). reachOf (r .read-zeroed .last .1 .0) (s .args .ticks) (s .args .width) (lawOf (s .args .baseline) u) (s .args .start .now)) (toZ-ofZ (s .fits .command))
-    ∙ ap (λ (v : List ℤ). reachOf v (s .args .ticks) (s .args .width) (lawOf (s .args .baseline) (s .args .command)) (s .args .start .now)) (r .read-zeroed .ensures .1)
+    ∙ ap (λ (v : List ℤ). reachOf v (s .args .ticks) (s .args .width) (s .args .law) (s .args .start .now)) (r .read-zeroed .ensures .1)
     ∙ found-none refused _ (r .read-zeroed .ensures .0) (e .if1 .left)
 
 pub reach-spec : {M : Type 1} → statement M

@@ -1,41 +1,37 @@
 -- `reach_of` answers what the definition does of an accepted sheet's value. Assumes nothing.
 use mathlib.Core.Path.{_≡_, sym, ap, _∙_, subst}
+use Prim.Native.Nat.{_≤_}
 use native.Mathlib.Omega.{arith}
-use lib.IntN.{ℤ}
-use mir.Facts.{toZ-ofZ}
 use borrow.Author.Needs.{needs}
-use Rattle.machine_spec.specs.Machine.{Law, Machine, machine, lawOf}
+use Rattle.sheet_spec.specs.Slots.{N}
 use Rattle.machine_spec.proofs.InPlace.{trim-trim, trim-as}
-use Rattle.boxes_rates.specs.Plant.{Usable, machineOf}
+use Rattle.boxes_rates.specs.Plant.{Describes}
 use Rattle.boxes_rates.proofs.Bounds.{wider}
-use Rattle.boxes_rates.proofs.Rates.{usable}
 use Rattle.boxes.proofs.Answer.{Refusal, reach-refused, reachable, reach-ended, reach-failed}
-use Rattle.boxes.proofs.Turn.{not-ended}
+use Rattle.boxes.proofs.Turn.{trimmed-by, not-ended}
 use Rattle.boxes.proofs.reach_of.Statement.{statement}
 use Rattle.boxes.proofs.reach_of.Tie as tie
-
-abbrev law : tie.Start → Law
-law s = lawOf (s .args .baseline) (s .args .command)
 
 module _ (at-plant : tie.After-plant) where
   abbrev at-start : tie.Start
   at-start = at-plant .before
 
-  plant-is : machineOf (at-plant .plant .result) (at-start .args .sheet .now) ≡ machine (at-start .args .sheet .now) (law at-start)
-  plant-is = at-plant .plant .ensures ∙ ap (λ (u : ℤ). machine (at-start .args .sheet .now) (lawOf (at-start .args .baseline) u)) (toZ-ofZ (at-start .fits .command))
+  law-is : at-plant .plant .result .law ≡ at-start .args .law
+  law-is = at-plant .plant .ensures .0
 
-  works : Usable (machineOf (at-plant .plant .result) (at-start .args .sheet .now))
-  works = subst Usable (sym plant-is) (usable (law at-start) (at-start .pre))
+  described : Describes (at-plant .plant .result) (at-start .args .sheet .now)
+  described = at-plant .plant .ensures .1
+
+  room : at-plant .plant .result .n ≤ N
+  room = omega (arith, described .n, at-start .pre .vars-high)
 
 -- the code's refusal is the definition's
 refusal-is : (at-refusal : tie.After-reach-refusal)
-    → let s = at-refusal .before .before in Refusal (s .args .sheet .now) (s .args .ticks) (s .args .width) (law s) (s .args .start .now) (at-refusal .reach-refusal .result)
-refusal-is at-refusal =
-    let s = at-refusal .before .before in
-    subst (λ (u : ℤ). Refusal (s .args .sheet .now) (s .args .ticks) (s .args .width) (lawOf (s .args .baseline) u) (s .args .start .now) (at-refusal .reach-refusal .result)) (toZ-ofZ (s .fits .command)) (record { is = at-refusal .reach-refusal .ensures })
+    → let s = at-refusal .before .before in Refusal (s .args .sheet .now) (s .args .ticks) (s .args .width) (s .args .law) (s .args .start .now) (at-refusal .reach-refusal .result)
+refusal-is at-refusal = record { is = at-refusal .reach-refusal .ensures }
 
 reach-refusal-requires : tie.Need-reach-refusal-requires
-reach-refusal-requires at-plant κs = (ap (λ (m : Machine). m .n) (plant-is at-plant), works at-plant .vars)
+reach-refusal-requires at-plant κs = (described at-plant .n, room at-plant)
 
 -- refused
 returns : tie.Need-returns
@@ -47,13 +43,13 @@ reach-requires c κs =
     let at-refusal = at-trim .before .before in
     let at-plant = at-refusal .before in
     let n = at-plant .plant .result .n in
-    let accepted = reachable (refusal-is at-refusal) (at-trim .before .if1 .left) (plant-is at-plant) (at-trim .trim .ensures) in
+    let accepted = reachable (refusal-is at-refusal) (at-trim .before .if1 .left) (law-is at-plant) (described at-plant .n) (at-trim .trim .ensures) in
     record {
-      plan = record { usable = works at-plant; boxes = omega arith; some = accepted .some; most = accepted .most };
+      plan = record { plant = described at-plant; boxes = omega arith; some = accepted .some; most = accepted .most };
       ticks = accepted .ticks;
       counts = omega (arith, accepted .ticks, accepted .most);
       start = wider (omega arith) (accepted .start);
-      trimmed = trim-as n (at-trim .trim .ensures) (trim-trim n (works at-plant .vars) (at-start at-plant .args .start .now));
+      trimmed = trimmed-by (described at-plant .n) (trim-as n (at-trim .trim .ensures) (trim-trim n (room at-plant) (at-start at-plant .args .start .now)));
     }
 
 -- what the reach came to is what the definition answers
@@ -69,14 +65,14 @@ returns-2 : tie.Need-returns-2
 returns-2 at-return =
     let r = at-return .before .before in
     at-return .refused2 .ensures
-    ∙ reach-failed (refusal-is (at-refusal r)) (at-trim r .before .if1 .left) (plant-is (at-refusal r .before)) (at-trim r .trim .ensures) (r .reach .result) _ _ (r .reach .ensures .same) (not-ended (at-return .before .match .keys2))
+    ∙ reach-failed (refusal-is (at-refusal r)) (at-trim r .before .if1 .left) (law-is (at-refusal r .before)) (described (at-refusal r .before) .n) (at-trim r .trim .ensures) (r .reach .result) _ _ (r .reach .ensures .same) (not-ended (at-return .before .match .keys2))
 
 -- it ended
 returns-3 : tie.Need-returns-3
 returns-3 at-return =
     let ended = at-return .before in
     let r = ended .before .before in
-    reach-ended (refusal-is (at-refusal r)) (at-trim r .before .if1 .left) (plant-is (at-refusal r .before)) (at-trim r .trim .ensures) (r .reach .result) _ _ (r .reach .ensures .same) (ended .r .given .0 .0) (ended .r .given .0 .1 .0) (ended .r .given .1)
+    reach-ended (refusal-is (at-refusal r)) (at-trim r .before .if1 .left) (law-is (at-refusal r .before)) (described (at-refusal r .before) .n) (at-trim r .trim .ensures) (r .reach .result) _ _ (r .reach .ensures .same) (ended .r .given .0 .0) (ended .r .given .0 .1 .0) (ended .r .given .1)
 
 pub reach-of-spec : {M : Type 1} → statement M
 reach-of-spec =
@@ -86,7 +82,7 @@ reach-of-spec =
     reach-refusal-requires
     (λ c κs. tt)
     returns
-    (λ c κs. works (c .before .before) .vars)
+    (λ c κs. room (c .before .before))
     reach-requires
     (λ c. search needs)
     (λ c κs. tt)

@@ -3,9 +3,7 @@ use mathlib.Core.Path.{_≡_, sym, ap, _∙_}
 use mathlib.Core.List.{List, [], _∷_}
 use Prim.Native.Nat.{ℕ}
 use lib.IntN.{ℤ}
-use mir.Facts.{toZ-ofZ}
 use borrow.Author.Needs.{needs}
-use Rattle.machine_spec.specs.Machine.{lawOf}
 use Rattle.sheet_spec.proofs.FirstRefusal.{first-fails, last-found}
 use Rattle.boxes_spec.specs.Reach.{ticksRefusal, lawRefusal, sidesRefusal, reachRefusal}
 use Rattle.boxes_refusals.proofs.reach_refusal.Statement.{statement}
@@ -20,7 +18,7 @@ module _ (at-start : tie.Start) where
   of-ticks = ticksRefusal (at-start .args .ticks) (at-start .args .width)
 
   abbrev of-law : ℕ
-  of-law = lawRefusal v (lawOf (at-start .args .baseline) (at-start .args .command))
+  of-law = lawRefusal v (at-start .args .law)
 
 -- after the test of the command
 module _ (at-law : tie.After-law-refusal) where
@@ -34,7 +32,7 @@ module _ (at-law : tie.After-law-refusal) where
   ticks-pass = sym (timed .before .ticks-refusal .ensures) ∙ timed .if1 .left
 
   law-is : at-law .law-refusal .result ≡ of-law asked
-  law-is = at-law .law-refusal .ensures ∙ ap (λ (u : ℤ). lawRefusal (v asked) (lawOf (asked .args .baseline) u)) (toZ-ofZ (asked .fits .command))
+  law-is = at-law .law-refusal .ensures
 
 -- the ticks or the width are refused
 returns : tie.Need-returns

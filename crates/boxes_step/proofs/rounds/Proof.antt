@@ -6,12 +6,13 @@ use mathlib.Core.List.{List}
 use Prim.Native.Nat.{ℕ, _≤_, _+_, _*_}
 use native.Mathlib.Omega.{arith}
 use lib.IntN.{ℤ}
+use Rattle.sheet_spec.specs.Limits.{maxCap}
+use Rattle.sheet_spec.specs.Slots.{vars}
 use Rattle.machine_spec.specs.Box.{trim}
-use Rattle.machine_spec.specs.Machine.{Machine}
+use Rattle.machine_spec.specs.Machine.{Machine, machine, varsOf}
 use Rattle.sheet_spec.proofs.Box.{differ}
 use Rattle.machine_spec.proofs.InPlace.{trim-as}
 use Rattle.boxes_arithmetic.specs.Limits.{SidesWithin}
-use Rattle.boxes_rates.specs.Plant.{machineOf}
 use Rattle.boxes_rates.proofs.Bounds.{wider, rates-bound}
 use Rattle.boxes_step.specs.declared.Budget.{Budget}
 use Rattle.boxes_step.specs.Limits.{stepLimit}
@@ -23,15 +24,15 @@ use Rattle.boxes_step.proofs.rounds.Tie as tie
 -- after d rounds, with `left` of eight left, the working box E and the rates R
 record Invariant (b : Budget) (m : Machine) (S : List ℤ) (k c : ℕ) (E R : List ℤ) (d left : ℕ) : Type 0 where
   counts : d + left ≤ c + 8
-  trimmed : trim (m .n) E ≡ E
-  rates : SidesWithin 1000 R
-  near : SidesWithin (stepLimit + k * 1000) E
+  trimmed : trim (varsOf m) E ≡ E
+  rates : SidesWithin maxCap R
+  near : SidesWithin (stepLimit + k * maxCap) E
   rounding : Rounding (b .limited) (b .allowance) m S k c left E d
   first : k ≡ 1 → E ≡ S
 
 abbrev Inv-loop : tie.InvT-loop
 Inv-loop budget plant sheet start ticks count work₀ rates₀ counted₀ left₀ work rates counted left =
-    Invariant budget (machineOf plant sheet) start ticks count work rates counted left
+    Invariant budget (machine sheet (plant .law)) start ticks count work rates counted left
 
 abbrev μ-loop : tie.MeasureT-loop
 μ-loop budget plant sheet start ticks count work₀ rates₀ counted₀ left₀ work rates counted left = left
@@ -42,9 +43,9 @@ loop-holds at-start =
     let a = at-start .args in
     record {
       counts = omega arith;
-      trimmed = trim-as (a .plant .n) (asked .work) (asked .trimmed);
+      trimmed = trim-as (vars (a .sheet .now)) (asked .work) (asked .trimmed);
       rates = asked .rates;
-      near = subst (SidesWithin (stepLimit + a .ticks * 1000)) (sym (asked .work)) (wider (omega arith) (asked .start));
+      near = subst (SidesWithin (stepLimit + a .ticks * maxCap)) (sym (asked .work)) (wider (omega arith) (asked .start));
       rounding = rounding-starts (a .budget .limited) (a .budget .allowance) _ (a .ticks) (a .count) (asked .work);
       first = λ one. asked .work;
     }
@@ -61,7 +62,7 @@ round-requires c κs =
     let asked = at-loop .before .pre in
     let inv = at-loop .loop .inv in
     record {
-      usable = asked .usable;
+      plant = asked .plant;
       some = asked .some;
       most = asked .most;
       start = wider (omega arith) (asked .start);
@@ -87,12 +88,11 @@ module _ (at-round : tie.After-round Inv-loop μ-loop) where
   abbrev k : ℕ
   k = at-start .args .ticks
 
-  -- a rate is at most 1,000
-  slow : SidesWithin 1000 (at-round .round .last .1 .1 .1 .1 .1 .0)
-  slow = rw (at-round .round .ensures .rated) (rates-bound (at-start .pre .usable) S k (at-loop .loop .work))
+  slow : SidesWithin maxCap (at-round .round .last .1 .1 .1 .1 .1 .0)
+  slow = rw (at-round .round .ensures .rated) (rates-bound (at-start .args .plant .law) (at-start .pre .plant .sheet) S k (at-loop .loop .work))
 
   one-tick : k ≡ 1 → at-round .round .result ≡ true
-  one-tick one = at-round .round .ensures .settled ∙ settles-first _ S k (at-start .pre .usable .vars) one (at-loop .loop .inv .first one)
+  one-tick one = at-round .round .ensures .settled ∙ settles-first _ S k (omega (arith, at-start .pre .plant .sheet .vars-high)) one (at-loop .loop .inv .first one)
 
 -- the round settled
 returns-2 : tie.Need-returns-2 Inv-loop μ-loop
@@ -118,7 +118,7 @@ loop-again c =
       counts = omega (arith, inv .counts);
       trimmed = done .trimmed;
       rates = slow at-round;
-      near = rw grew (grown-bound (asked .usable) (S at-round) (k at-round) stepLimit (asked .start) (at-loop at-round .loop .work) (inv .near));
+      near = rw grew (grown-bound _ (asked .plant .sheet) (S at-round) (k at-round) stepLimit (asked .start) (at-loop at-round .loop .work) (inv .near));
       rounding = rounding-on (inv .rounding) (omega arith) _ (due .before .is-exhausted .ensures) (due .if1 .left) _ (done .settled) _ grew (c .if2 .left);
       first = λ one. absurd (differ (one-tick at-round one) (c .if2 .left));
     }

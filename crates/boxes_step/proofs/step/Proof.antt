@@ -8,9 +8,9 @@ use native.Mathlib.Omega.{arith}
 use lib.IntN.{ℤ}
 use borrow.Author.Needs.{needs}
 use denote.Enum.Declared.{tagOf}
-use Rattle.machine_spec.specs.Machine.{Machine}
+use Rattle.machine_spec.specs.Machine.{Machine, machine}
+use Rattle.sheet_spec.specs.Limits.{maxCap}
 use Rattle.boxes_arithmetic.specs.Limits.{SidesWithin}
-use Rattle.boxes_rates.specs.Plant.{machineOf}
 use Rattle.boxes_step.specs.declared.Budget.{Budget}
 use Rattle.boxes_step.proofs.Bounds.{halving-count}
 use Rattle.boxes_step.proofs.Turn.{Halving, halving-starts, halving-ends, halving-finest, halving-on}
@@ -23,12 +23,12 @@ record Invariant (b : Budget) (m : Machine) (S : List ℤ) (w c : ℕ) (E R : Li
   shorter : k ≤ w
   counts : d + 8 * k ≤ c + 8 * w
   work : E ≡ S
-  rates : SidesWithin 1000 R
+  rates : SidesWithin maxCap R
   halving : Halving (b .limited) (b .allowance) m S w c k d
 
 abbrev Inv-loop : tie.InvT-loop
 Inv-loop budget plant sheet start width count work₀ rates₀ ticks₀ counted₀ work rates ticks counted =
-    Invariant budget (machineOf plant sheet) start width count work rates ticks counted
+    Invariant budget (machine sheet (plant .law)) start width count work rates ticks counted
 
 abbrev μ-loop : tie.MeasureT-loop
 μ-loop budget plant sheet start width count work₀ rates₀ ticks₀ counted₀ work rates ticks counted = ticks
@@ -51,7 +51,7 @@ rounds-requires c κs =
     let asked = at-loop .before .pre in
     let inv = at-loop .loop .inv in
     record {
-      usable = asked .usable;
+      plant = asked .plant;
       some = inv .halving .some;
       most = omega (arith, inv .shorter, asked .most);
       counts = omega (arith, inv .counts, inv .halving .some, asked .counts);

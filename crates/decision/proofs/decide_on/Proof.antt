@@ -9,10 +9,10 @@ use Rattle.sheet_spec.specs.Slots.{N, vars}
 use Rattle.sheet_spec.proofs.FirstRefusal.{found-stops, found-none}
 use Rattle.machine_spec.proofs.InPlace.{trim-as}
 use Rattle.boxes_arithmetic.specs.Limits.{SidesWithin}
-use Rattle.decision_spec.specs.Question.{Question, questionOf, measured, questionRefusal}
+use Rattle.decision_spec.specs.declared.Question.{Question}
+use Rattle.decision_spec.specs.Question.{questionOf, measured, questionRefusal}
 use Rattle.decision_spec.specs.Decision.{refused, decisionTo}
 use Rattle.decision_answers.specs.Decision.{replyOf}
-use Rattle.decision_question.specs.Question as read
 use Rattle.decision_question.proofs.Measured.{measured-near, measured-trimmed}
 use Rattle.decision.specs.Limits.{startLimit}
 use Rattle.decision.proofs.decide_on.Statement.{statement}
@@ -37,7 +37,7 @@ module _ (accepted : tie.Else1) where
   abbrev at-read : tie.After-read
   at-read = accepted .before
 
-  question-is : read.questionOf (at-read .read .result .question) ≡ questionOf (vars (v at-read)) (g at-read)
+  question-is : at-read .read .result .question ≡ questionOf (vars (v at-read)) (g at-read)
   question-is = at-read .read .ensures .question (accepted .if1 .left)
 
   passed : questionRefusal (v at-read) (g at-read) ≡ 0

@@ -3,9 +3,6 @@ use mathlib.Core.Path.{_∙_}
 use mathlib.Core.List.{List}
 use native.Mathlib.Omega.{arith}
 use lib.IntN.{ℤ}
-use mir.Facts.{toZ-ofZ}
-use mir.Syntax.{w32}
-use mir.Val.{SFits}
 use borrow.Author.Needs.{needs}
 use Rattle.decision.proofs.Answer.{plan-decides}
 use Rattle.decision.proofs.decision_to.Statement.{statement}
@@ -14,7 +11,7 @@ use Rattle.decision.proofs.decision_to.Tie as tie
 -- after the width was chosen
 module _ (at-width : tie.After-larger) where
   abbrev at-plain : tie.After-count2
-  at-plain = at-width .before .before .before
+  at-plain = at-width .before .before
 
   abbrev at-first : tie.After-count
   at-first = at-plain .before
@@ -47,9 +44,8 @@ returns : tie.Need-returns
 returns at-return =
     let at-width = at-return .before in
     let question = at-start at-width .args .question in
-    let fits : SFits w32 (question .head .command) = search needs in
     at-return .attempts .ensures
-    ∙ plan-decides (at-start at-width .args .sheet .now) (question .measured) (question .head .allowance) (toZ-ofZ fits) (at-first at-width .count .ensures) (at-plain at-width .count2 .ensures) (at-width .larger .ensures)
+    ∙ plan-decides (at-start at-width .args .sheet .now) (question .measured) (question .head .law) (question .head .allowance) (at-first at-width .count .ensures) (at-plain at-width .count2 .ensures) (at-width .larger .ensures)
 
 pub decision-to-spec : {M : Type 1} → statement M
 decision-to-spec = tie.close (tie.spec count-requires count-requires-2 (λ c κs. search needs) attempts-requires returns)

@@ -10,7 +10,7 @@ use Rattle.sheet_spec.specs.Slots.{vars}
 use Rattle.sheet_spec.proofs.FirstRefusal.{first-fails, last-found}
 use Rattle.boxes_spec.specs.Reach.{sidesRefusal}
 use Rattle.decision_spec.specs.Question.{questionLength, measured, headRefusal, questionRefusal}
-use Rattle.decision_spec.proofs.Question.{form-length, head-passes}
+use Rattle.decision_spec.proofs.Passes.{form-length, head-passes}
 use Rattle.decision_question.proofs.read.Statement.{statement}
 use Rattle.decision_question.proofs.read.Tie as tie
 

@@ -5,19 +5,16 @@ use Prim.Native.Nat.{ℕ, _≤_}
 use native.Mathlib.Omega.{arith}
 use lib.IntN.{ℤ}
 use lib.ListN.{length}
-use mir.Facts.{toZ-ofZ}
-use mir.Syntax.{w32}
-use mir.Val.{SFits}
 use borrow.Author.Needs.{needs}
 use borrow.Author.Tests.{le-leb, lt-leb}
 use Rattle.sheet_spec.specs.Limits.{maxAllowance}
 use Rattle.sheet_spec.specs.Refusals.{Cause, number}
 use Rattle.sheet_spec.proofs.FirstRefusal.{first-fails, last-found}
 use Rattle.sheet_spec.proofs.Laws.{number-is}
-use Rattle.machine_spec.specs.Machine.{command, lawOf}
 use Rattle.boxes_spec.specs.Reach.{lawRefusal}
-use Rattle.decision_spec.specs.Question.{QuestionHead, questionHead, allowanceOf, formRefusal, allowanceRefusal, headRefusal}
-use Rattle.decision_spec.proofs.Question.{form-length}
+use Rattle.decision_spec.specs.declared.QuestionHead.{QuestionHead}
+use Rattle.decision_spec.specs.Question.{allowanceOf, formRefusal, allowanceRefusal, headRefusal}
+use Rattle.decision_spec.proofs.Passes.{form-length}
 use Rattle.decision_question.proofs.read_head.Statement.{statement}
 use Rattle.decision_question.proofs.read_head.Tie as tie
 
@@ -71,15 +68,14 @@ returns-2 at-return =
 
 -- what is found of the command
 returns-3 : tie.Need-returns-3
-unfolding headRefusal allowanceRefusal lawOf
+unfolding headRefusal allowanceRefusal
 returns-3 at-return =
-    let allowed = at-return .before .before in
+    let allowed = at-return .before in
     let at-head = allowed .before .before in
     let q = formed at-head in
     let few = le-leb (allowanceOf (g q)) maxAllowance (omega (arith, allowed .if2 .left, allowance-is at-head)) in
     let passes : allowanceRefusal (g q) ≡ 0 = rw few refl in
-    let fits : SFits w32 (at-head .head .result .command) = search needs in
-    let is = at-return .law-refusal .ensures ∙ ap (λ (u : ℤ). lawRefusal (v q) (command u)) (toZ-ofZ fits) ∙ ap (λ (h : QuestionHead). lawRefusal (v q) (h .law)) (at-head .head .ensures) in
+    let is = at-return .law-refusal .ensures ∙ ap (λ (h : QuestionHead). lawRefusal (v q) (h .law)) (at-head .head .ensures) in
     record { refusal = last-found is (formRefusal (size q) (g q) ∷ allowanceRefusal (g q) ∷ []) (form-passes q, (passes, tt)); head = λ none. at-head .head .ensures }
 
 pub read-head-spec : {M : Type 1} → statement M

@@ -3,7 +3,6 @@ use mathlib.Core.Path.{_≡_, sym, ap, _∙_, subst}
 use mathlib.Core.List.{List, []}
 use Prim.Native.Nat.{ℕ}
 use native.Mathlib.Omega.{arith}
-use lib.Dec.{eqb}
 use lib.IntN.{ℤ}
 use mir.Facts.{toZ-ofZ}
 use borrow.Author.Needs.{needs}
@@ -13,11 +12,11 @@ use Rattle.sheet_spec.specs.Valid.{Valid}
 use Rattle.sheet_spec.proofs.FirstRefusal.{found-stops, first-fails}
 use Rattle.sheet_spec.proofs.Valid.{valid, zeros-are}
 use Rattle.boxes_arithmetic.specs.Limits.{SidesWithin}
-use Rattle.machine_spec.specs.Machine.{lawOf}
+use Rattle.machine_spec.specs.declared.Law.{Law}
 use Rattle.boxes_spec.specs.Reach.{Answer, reachOf}
 use Rattle.boxes.specs.ReachAnswer.{answerOf}
 use Rattle.decision_spec.specs.Call.{refusedCall}
-use Rattle.decision_spec.specs.ReachCall.{startBox, reachedRefusal, reachedCall, reachedOut, reachAnswer, reachCall, reachOut}
+use Rattle.decision_spec.specs.ReachCall.{startBox, lawOf, reachedRefusal, reachedCall, reachedOut, reachAnswer, reachCall, reachOut}
 use Rattle.guard_reach.proofs.ReachAnswer.{reach-far, file-refused, file-reached}
 use Rattle.guard_reach.proofs.reach_call.Statement.{statement}
 use Rattle.guard_reach.proofs.reach_call.Tie as tie
@@ -37,8 +36,11 @@ module _ (c : tie.Else1) where
 
 -- after the reach
 module _ (c : tie.After-reach-of) where
+  abbrev l : tie.After-law-of
+  l = c .before .before
+
   abbrev b : tie.After-start-box
-  b = c .before .before .before
+  b = l .before .before
 
   abbrev k : tie.After-count
   k = b .before
@@ -49,13 +51,16 @@ module _ (c : tie.After-reach-of) where
   abbrev r : tie.After-read-zeroed
   r = e .before
 
+  law-is : l .law-of .result ≡ lawOf (s r .args .law) (s r .args .command)
+  law-is = l .law-of .ensures ∙ ap (lawOf (s r .args .law)) (toZ-ofZ (s r .fits .command))
+
   n-is : k .count .result ≡ vars (values (s r .args .sheet .now))
   n-is = k .count .ensures ∙ ap vars (r .read-zeroed .ensures .1)
 
   answer-is : answerOf (c .reach-of .result) ≡ reachAnswer (s r .args .sheet .now) (s r .args .ticks) (s r .args .width) (s r .args .law) (s r .args .command) (s r .args .start .now)
   answer-is =
       c .reach-of .ensures
-      ∙ ap (λ (u : ℤ). reachOf (v r) (s r .args .ticks) (s r .args .width) (lawOf (eqb (s r .args .law) 0) u) (b .start-box .result)) (toZ-ofZ (s r .fits .command))
+      ∙ ap (λ (l : Law). reachOf (v r) (s r .args .ticks) (s r .args .width) l (b .start-box .result)) law-is
       ∙ file-reached (s r .args .sheet .now) (s r .args .ticks) (s r .args .width) (s r .args .law) (s r .args .command) (s r .args .start .now) (r .read-zeroed .ensures .0) (e .if1 .left)
       (r .read-zeroed .ensures .1) (b .start-box .ensures ∙ ap (λ (n : ℕ). startBox n (s r .args .start .now)) n-is)
 
@@ -76,7 +81,7 @@ start-box-requires : tie.Need-start-box-requires
 start-box-requires c κs = omega (arith, c .count .ensures, accepted (c .before .before) .vars-high)
 
 reach-of-requires : tie.Need-reach-of-requires
-reach-of-requires c κs = accepted (c .before .before .before .before .before)
+reach-of-requires c κs = accepted (c .before .before .before .before .before .before)
 
 give-reached-requires : tie.Need-give-reached-requires
 give-reached-requires c κs =
@@ -105,6 +110,7 @@ reach-call-spec =
     returns
     count-requires
     start-box-requires
+    (λ c κs. tt)
     reach-of-requires
     give-reached-requires
     (λ c. search needs)

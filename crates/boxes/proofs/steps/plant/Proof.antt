@@ -1,4 +1,5 @@
 -- `plant` has the sheet's machine: the counts of an accepted sheet are not negative. Assumes nothing.
+use mathlib.Core.Path.{refl, ap}
 use mathlib.Core.List.{List}
 use Prim.Native.Nat.{ℕ, _<_}
 use native.Mathlib.Omega.{arith}
@@ -18,6 +19,19 @@ use Rattle.boxes.proofs.steps.plant.Tie as tie
 counts : {v : List ℤ} → Valid v → (i : ℕ) → i < 7 → T (nonNeg (toZ w32 (ofZ w32 (v ! i)))) × Fits w64 (natAbs (toZ w32 (ofZ w32 (v ! i))))
 counts wf i h = let f = wf .fits i in rw (toZ-ofZ f) (yes-nonNeg (wf .head i h), fits-natAbs tt f)
 
+-- the plant's numbers are the sheet's
+returns : tie.Need-returns
+returns c =
+    let wf = c .before .before .before .pre in (
+      refl,
+      record {
+        sheet = wf;
+        n = ap natAbs (toZ-ofZ (wf .fits 0));
+        bands = ap natAbs (toZ-ofZ (wf .fits 1));
+        var = ap natAbs (toZ-ofZ (wf .fits 3));
+      },
+    )
+
 pub plant-spec : {M : Type 1} → statement M
 plant-spec =
     tie.close
@@ -28,4 +42,4 @@ plant-spec =
     (λ c. counts (c .before .before .pre) 1 (omega arith))
     (λ c. search needs)
     (λ c. counts (c .before .before .before .pre) 3 (omega arith))
-    (λ c. search needs))
+    returns)

@@ -1,12 +1,14 @@
 -- `reach` does what the definition's reach does. Invariant: what is left to do of the definition's steps, from the box, the ticks
 -- left and the count that the loop has; the working box is the end box so far. Measure: the ticks left. Assumes nothing.
-use mathlib.Core.Path.{_≡_, refl, ap}
+use mathlib.Core.Path.{_≡_, refl, sym, ap, _∙_}
 use mathlib.Core.List.{List}
 use Prim.Native.Nat.{ℕ, _≤_, _-_, _+_, _*_}
 use native.Mathlib.Omega.{arith}
 use lib.IntN.{ℤ}
 use borrow.Author.Needs.{needs}
-use Rattle.machine_spec.specs.Box.{trim}
+use Rattle.sheet_spec.specs.Limits.{maxCap}
+use Rattle.sheet_spec.specs.Slots.{N, vars}
+use Rattle.machine_spec.specs.Box.{trim, hull}
 use Rattle.machine_spec.proofs.InPlace.{trim-as-hull}
 use Rattle.boxes_arithmetic.specs.Limits.{SidesWithin}
 use Rattle.boxes_rates.proofs.Bounds.{wider}
@@ -15,7 +17,7 @@ use Rattle.boxes.specs.Limits.{reachLimit}
 use Rattle.boxes.specs.ReachPlan.{machineOn, clearOn}
 use Rattle.boxes.specs.ReachResult.{isEnded, ticksOf, Names, Arrived}
 use Rattle.boxes.proofs.Bounds.{StepBounds, tested-bounds}
-use Rattle.boxes.proofs.Turn.{Reaching, reaching-starts, reaching-ends, reaching-stops, reaching-on, not-ended, ended-not}
+use Rattle.boxes.proofs.Turn.{trimmed-by, Reaching, reaching-starts, reaching-ends, reaching-stops, reaching-on, not-ended, ended-not}
 use Rattle.boxes.proofs.steps.reach.Statement.{statement}
 use Rattle.boxes.proofs.steps.reach.Tie as tie
 
@@ -24,10 +26,10 @@ record Invariant (p : ReachPlan) (v : List ℤ) (T c : ℕ) (A E W F P : List �
   fewer : left ≤ T
   counts : d + 73 * left ≤ c + 73 * T
   work : F ≡ E
-  trimmed : trim (p .plant .n) E ≡ E
-  swept : trim (p .plant .n) W ≡ W
-  path : trim (p .plant .n) P ≡ P
-  near : SidesWithin (reachLimit + (T - left) * 1000) E
+  trimmed : trim (vars v) E ≡ E
+  swept : trim (vars v) W ≡ W
+  path : trim (vars v) P ≡ P
+  near : SidesWithin (reachLimit + (T - left) * maxCap) E
   reaching : Reaching (p .budget .limited) (p .budget .allowance) (machineOn p v) (clearOn p v) (p .width) A T c E W left d
 
 abbrev Inv-loop : tie.InvT-loop
@@ -45,9 +47,15 @@ module _ (at-step : tie.After-tested-step Inv-loop μ-loop) where
   abbrev at-start : tie.Start Inv-loop μ-loop
   at-start = at-loop .before .before .before .before .before
 
-  -- the number of variables
+  -- the number of variables, and the plant's is that
   abbrev n : ℕ
-  n = at-start .args .plan .plant .n
+  n = vars (at-start .args .sheet .now)
+
+  vars-are : at-start .args .plan .plant .n ≡ n
+  vars-are = at-start .pre .plan .plant .n
+
+  room : n ≤ N
+  room = omega (arith, at-start .pre .plan .plant .sheet .vars-high)
 
   -- the step's end box and swept box
   abbrev E : List ℤ
@@ -75,11 +83,11 @@ module _ (at-join : tie.After-join Inv-loop μ-loop) where
   unfolding isEnded
   arrived = at-step .tested-step .ensures .arrived (ap isEnded (ended .r .given .1))
 
-  bounds : StepBounds (reachLimit + (at-start at-step .args .ticks - at-loop at-step .loop .left) * 1000) (at-loop at-step .loop .left) t (E at-step) × (d ≤ at-loop at-step .loop .counted + 73)
+  bounds : StepBounds (reachLimit + (at-start at-step .args .ticks - at-loop at-step .loop .left) * maxCap) (at-loop at-step .loop .left) t (E at-step) × (d ≤ at-loop at-step .loop .counted + 73)
   bounds =
       let plan = at-start at-step .pre .plan in
       let inv = at-loop at-step .loop .inv in
-      tested-bounds (inv .reaching) (plan .usable) (plan .some) (plan .most) (inv .near) (omega arith) (at-step .tested-step .result) _ (P at-step) (at-step .tested-step .ensures .same) t d (ended .r .given .1)
+      tested-bounds (inv .reaching) (plan .plant .sheet) (plan .some) (plan .most) (inv .near) (omega arith) (at-step .tested-step .result) _ (P at-step) (at-step .tested-step .ensures .same) t d (ended .r .given .1)
 
 loop-holds : tie.Need-loop-holds Inv-loop μ-loop
 loop-holds c =
@@ -128,25 +136,25 @@ returns at-return =
 join-requires : tie.Need-join-requires Inv-loop μ-loop
 join-requires c κs =
     let at-step = c .before .before .before .before .before in
-    (at-start at-step .pre .plan .usable .vars, at-loop at-step .loop .inv .swept)
+    (omega (arith, vars-are at-step, room at-step), trimmed-by (sym (vars-are at-step)) (at-loop at-step .loop .inv .swept))
 
 loop-again : tie.Need-loop-again Inv-loop μ-loop
 loop-again c =
     let s = at-step c in
-    let room = at-start s .pre .plan .usable .vars in
     let at = at-loop s .loop in
     let inv = at .inv in
     let b = bounds c in
+    let joined = c .join .ensures ∙ ap (λ (n : ℕ). hull n (at .swept) (P s)) (vars-are s) in
     record {
       fewer = omega (arith, inv .fewer);
       counts = omega (arith, inv .counts, b .1, b .0 .some, b .0 .most);
       work = arrived c .work;
       trimmed = s .tested-step .ensures .trimmed;
-      swept = trim-as-hull (n s) (at .swept) (P s) room (c .join .ensures);
-      path = trim-as-hull (n s) (at .end) (E s) room (arrived c .swept);
+      swept = trim-as-hull (n s) (at .swept) (P s) (room s) joined;
+      path = trim-as-hull (n s) (at .end) (E s) (room s) (arrived c .swept);
       near = wider (omega (arith, b .0 .some, b .0 .most, inv .fewer)) (b .0 .sides);
       reaching =
-          reaching-on (inv .reaching) (s .tested-step .result) _ (P s) (omega arith) (s .tested-step .ensures .same) (t c) (d c) (ended c .r .given .1) (b .0 .some) (b .0 .most) (arrived c .swept) _ (c .join .ensures);
+          reaching-on (inv .reaching) (s .tested-step .result) _ (P s) (omega arith) (s .tested-step .ensures .same) (t c) (d c) (ended c .r .given .1) (b .0 .some) (b .0 .most) (arrived c .swept) _ joined;
     }
 
 -- no ticks are left

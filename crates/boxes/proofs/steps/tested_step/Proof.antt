@@ -1,21 +1,24 @@
 -- `tested_step` does what the definition's tested step does, and leaves the step's end box and swept box. Assumes nothing.
-use mathlib.Core.Path.{_≡_, refl, ap, _∙_}
+use mathlib.Core.Path.{_≡_, refl, sym, ap, _∙_, subst}
 use mathlib.Core.Bool.{Bool}
 use mathlib.Core.List.{List}
-use Prim.Native.Nat.{ℕ}
+use Prim.Native.Nat.{ℕ, _≤_}
 use native.Mathlib.Omega.{arith}
 use lib.IntN.{ℤ}
 use borrow.Author.Needs.{needs}
+use Rattle.sheet_spec.specs.Slots.{N, vars}
+use Rattle.sheet_spec.specs.Box.{lowestMet}
 use Rattle.machine_spec.specs.Box.{trim}
 use Rattle.sheet_spec.proofs.Box.{differ}
 use Rattle.machine_spec.proofs.InPlace.{trim-moved, trim-as}
 use Rattle.boxes_rates.proofs.Bounds.{wider}
+use Rattle.boxes_shape.specs.Limits.{ArriveDone}
 use Rattle.boxes_spec.specs.Step.{step}
 use Rattle.boxes.specs.declared.steps.ReachPlan.{ReachPlan}
-use Rattle.boxes.specs.ReachPlan.{machineOn, clearOn}
+use Rattle.boxes.specs.ReachPlan.{machineOn, clearOn, lowestOn}
 use Rattle.boxes.specs.ReachResult.{isEnded, Names}
 use Rattle.boxes.proofs.Bounds.{step-ticks, zero-bound}
-use Rattle.boxes.proofs.Turn.{Stepping, tested-unsettled, tested-exhausted, tested-clear, tested-unsafe, is-clear, is-not-clear}
+use Rattle.boxes.proofs.Turn.{trimmed-by, Stepping, tested-unsettled, tested-exhausted, tested-clear, tested-unsafe, is-clear, is-not-clear}
 use Rattle.boxes.proofs.steps.tested_step.Statement.{statement}
 use Rattle.boxes.proofs.steps.tested_step.Tie as tie
 
@@ -27,12 +30,15 @@ module _ (at-step : tie.After-step) where
   abbrev plan : ReachPlan
   plan = at-start .args .plan
 
-  -- the number of variables
-  abbrev n : ℕ
-  n = plan .plant .n
-
   abbrev v : List ℤ
   v = at-start .args .sheet .now
+
+  -- the plant's number of variables is the sheet's
+  vars-are : plan .plant .n ≡ vars v
+  vars-are = at-start .pre .plan .plant .n
+
+  room : vars v ≤ N
+  room = omega (arith, at-start .pre .plan .plant .sheet .vars-high)
 
   -- the start box
   abbrev S : List ℤ
@@ -73,15 +79,24 @@ module _ (at-arrival : tie.After-arrive) where
   abbrev P : List ℤ
   P = at-arrival .arrive .last .1 .1 .1 .1 .1 .0
 
-  trimmed : trim (n stepped) E ≡ E
-  trimmed = trim-as (n stepped) (at-arrival .arrive .ensures .end) (trim-moved (n stepped) (at-start stepped .pre .plan .usable .vars) (S stepped) t (R stepped))
+  arrived : ArriveDone (vars (v stepped)) (S stepped) t (R stepped) E (at-arrival .arrive .last .1 .1 .1 .0) P
+  arrived = subst (λ (n : ℕ). ArriveDone n (S stepped) t (R stepped) E (at-arrival .arrive .last .1 .1 .1 .0) P) (vars-are stepped) (at-arrival .arrive .ensures)
+
+  trimmed : trim (vars (v stepped)) E ≡ E
+  trimmed = trim-as (vars (v stepped)) (arrived .end) (trim-moved (vars (v stepped)) (room stepped) (S stepped) t (R stepped))
+
+-- what is known after the test
+number-is : (at-test : tie.After-lowest-met) → let a = at-test .before .before in at-test .lowest-met .result ≡ lowestOn (plan (stepped a)) (v (stepped a)) (P a)
+number-is at-test =
+    let a = at-test .before .before in
+    at-test .lowest-met .ensures ∙ ap (λ (n : ℕ). lowestMet n (v (stepped a)) (plan (stepped a) .boxes) (P a)) (vars-are (stepped a))
 
 step-requires : tie.Need-step-requires
 step-requires c κs =
     let asked = c .before .before .before .before .before .before .pre in
     let length = c .before .before .smaller .ensures in
     record {
-      usable = asked .plan .usable;
+      plant = asked .plan .plant;
       some = omega (arith, length, asked .plan .some, asked .due);
       most = omega (arith, length, asked .plan .most);
       counts = omega (arith, length, asked .counts);
@@ -98,9 +113,9 @@ arrive-requires c κs =
     let asked = at-start at-step .pre in
     let done = at-step .step .ensures in
     let plan = asked .plan in
-    let most = step-ticks (stepping at-step) (plan .usable .vars) (plan .some) (plan .most) (asked .due) (settled .r .given .0 .0) (settled .r .given .0 .1 .0) (settled .r .given .1) in (
-      record { room = plan .usable .vars; ticks = omega (arith, most, plan .most); start = wider (omega arith) (asked .start); rates = done .rates },
-      record { work = done .trimmed; at = asked .trimmed; path = asked .swept },
+    let most = step-ticks (stepping at-step) (room at-step) (plan .some) (plan .most) (asked .due) (settled .r .given .0 .0) (settled .r .given .0 .1 .0) (settled .r .given .1) in (
+      record { room = omega (arith, vars-are at-step, room at-step); ticks = omega (arith, most, plan .most); start = wider (omega arith) (asked .start); rates = done .rates },
+      let n = sym (vars-are at-step) in record { work = trimmed-by n (done .trimmed); at = trimmed-by n (asked .trimmed); path = trimmed-by n (asked .swept) },
     )
 
 -- the swept box is not clear
@@ -109,11 +124,9 @@ unfolding isEnded Names
 returns at-return =
     let at-test = at-return .before .before in
     let a = at-test .before .before in
-    let arrived = a .arrive .ensures in
-    let number-is = at-test .lowest-met .ensures in
     record {
-      same = tested-unsafe (stepping (stepped a)) (free (stepped a)) (t a) (d a) (settled a .r .given .1) (arrived .end) (arrived .path) _ (is-not-clear _ _ _ (P a) number-is (at-return .if1 .taken));
-      names = number-is;
+      same = tested-unsafe (stepping (stepped a)) (free (stepped a)) (t a) (d a) (settled a .r .given .1) (arrived a .end) (arrived a .path) _ (is-not-clear _ _ _ (P a) (number-is at-test) (at-return .if1 .taken));
+      names = number-is at-test;
       arrived = λ no. absurd (differ no refl);
       trimmed = trimmed a;
     }
@@ -124,11 +137,10 @@ unfolding Names
 returns-2 at-return =
     let at-test = at-return .before .before in
     let a = at-test .before .before in
-    let arrived = a .arrive .ensures in
     record {
-      same = tested-clear (stepping (stepped a)) (free (stepped a)) (t a) (d a) (settled a .r .given .1) (arrived .end) (arrived .path) (is-clear _ _ _ (P a) (at-test .lowest-met .ensures) (at-return .if1 .left));
+      same = tested-clear (stepping (stepped a)) (free (stepped a)) (t a) (d a) (settled a .r .given .1) (arrived a .end) (arrived a .path) (is-clear _ _ _ (P a) (number-is at-test) (at-return .if1 .left));
       names = tt;
-      arrived = λ yes. record { work = arrived .work; swept = arrived .path };
+      arrived = λ yes. record { work = arrived a .work; swept = arrived a .path };
       trimmed = trimmed a;
     }
 

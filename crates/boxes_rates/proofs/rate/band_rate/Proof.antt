@@ -2,15 +2,18 @@
 -- the outermost so far, which the neutral value leaves as it is. Assumes nothing.
 use mathlib.Core.Path.{_≡_, refl, sym, _∙_}
 use mathlib.Core.Bool.{Bool}
+use native.Mathlib.Omega.{arith}
 use mir.Facts.{toZ-ofZ}
 use mir.Syntax.{w64}
 use mir.Val.{SFits}
 use borrow.Author.Needs.{needs}
 use Rattle.integers.proofs.Z.{told}
+use Rattle.sheet_spec.specs.Slots.{bands, bandVar}
 use Rattle.sheet_spec.specs.Box.{lo, hi}
 use Rattle.machine_spec.specs.Machine.{bandMeets}
 use Rattle.machine_spec.specs.Rate.{bandRate}
 use Rattle.machine_spec.proofs.Sound.{outer-neutral}
+use Rattle.boxes_rates.proofs.Rates.{meets-described}
 use Rattle.boxes_rates.proofs.rate.band_rate.Statement.{statement}
 use Rattle.boxes_rates.proofs.rate.band_rate.Tie as tie
 
@@ -19,17 +22,25 @@ abbrev met : tie.Start → Bool
 met at-start =
     let a = at-start .args in
     let B = a .over .now in
-    bandMeets (a .sheet .now) (a .plant .bands) (a .band) (lo B (a .plant .var)) (hi B (a .plant .var))
+    let v = a .sheet .now in
+    bandMeets v (bands v) (a .band) (lo B (bandVar v)) (hi B (bandVar v))
 
 module _ (at-test : tie.After-band-meets) where
   abbrev at-start : tie.Start
   at-start = at-test .before .before .before
 
   met-is : at-test .band-meets .result ≡ met at-start
-  met-is = let at-upper = at-test .before in at-test .band-meets .ensures ∙ simp (told, at-upper .band-meets-arg2 .given, at-upper .before .band-meets-arg .given)
+  met-is =
+      let at-upper = at-test .before in
+      at-test .band-meets .ensures
+      ∙ simp (told, at-upper .band-meets-arg2 .given, at-upper .before .band-meets-arg .given)
+      (meets-described (at-start .pre .rate .plant) (at-start .args .band) (at-start .args .over .now))
 
 band-meets-requires : tie.Need-band-meets-requires
-band-meets-requires at-upper κs = let asked = at-upper .before .before .pre in (asked .among, asked .rate .usable .bands)
+band-meets-requires at-upper κs =
+    let asked = at-upper .before .before .pre in
+    let plant = asked .rate .plant in
+    (omega (arith, asked .among, plant .bands), omega (arith, plant .bands, plant .sheet .bands-high))
 
 row-rate-requires : tie.Need-row-rate-requires
 row-rate-requires in-band κs =

@@ -9,18 +9,17 @@ use borrow.Author.Needs.{needs}
 use Rattle.integers.specs.Bound.{Bound}
 use Rattle.integers.proofs.Z.{told, fits64}
 use Rattle.sheet_spec.specs.Slots.{rowAt}
-use Rattle.machine_spec.specs.Machine.{Machine, least, greatest}
+use Rattle.machine_spec.specs.Machine.{Machine, machine, least, greatest}
 use Rattle.machine_spec.specs.Rate.{outer}
 use Rattle.machine_spec.proofs.Face.{outer-one}
 use Rattle.boxes_rates.specs.Limits.{termLimit}
-use Rattle.boxes_rates.specs.Plant.{machineOf}
 use Rattle.boxes_rates.proofs.Rates.{least-plain, greatest-plain, least-one, greatest-one}
 use Rattle.boxes_rates.proofs.rate.command_term.Statement.{statement}
 use Rattle.boxes_rates.proofs.rate.command_term.Tie as tie
 
 module _ (at-start : tie.Start) where
   abbrev M : Machine
-  M = machineOf (at-start .args .plant) (at-start .args .sheet .now)
+  M = machine (at-start .args .sheet .now) (at-start .args .law)
 
   abbrev b : ℤ
   b = rowAt (at-start .args .sheet .now) (at-start .args .row) .b
@@ -32,41 +31,41 @@ module _ (at-start : tie.Start) where
   abbrev greatest-term : ℤ
   greatest-term = b *ℤ greatest M (at-start .args .band)
 
-  command-fits : SFits w32 (at-start .args .plant .command)
-  command-fits = search needs
-
 -- the plain law: b times the band's least command
 module _ (at-least : tie.After-product) where
-  abbrev plain : tie.Then1
+  abbrev plain : tie.After-enum-told
   plain = at-least .before .before
 
-  least-term-is : at-least .product .result ≡ least-term (plain .before .before)
+  abbrev at-coefficient : tie.After-coefficient
+  at-coefficient = plain .before .before
+
+  abbrev start : tie.Start
+  start = at-coefficient .before
+
+  least-term-is : at-least .product .result ≡ least-term start
   least-term-is =
-      let a = plain .before .before .args in
+      let a = start .args in
       at-least .product .ensures .0
-      ∙ simp (told, plain .before .coefficient .given, at-least .before .product-arg .given)
-      (ap (λ (z : ℤ). b (plain .before .before) *ℤ z) (sym (least-plain (a .plant .command) (a .sheet .now) (a .band) (plain .if1 .taken))))
+      ∙ simp (told, at-coefficient .coefficient .given, at-least .before .product-arg .given)
+      (ap (λ (z : ℤ). b start *ℤ z) (sym (least-plain (a .sheet .now) (a .band) (plain .enum-told .given .1))))
 
 -- and its greatest
 module _ (at-greatest : tie.After-product2) where
   abbrev at-least : tie.After-product
   at-least = at-greatest .before .before
 
-  abbrev law : tie.Then1
-  law = plain at-least
-
-  greatest-term-is : at-greatest .product2 .result ≡ greatest-term (law .before .before)
+  greatest-term-is : at-greatest .product2 .result ≡ greatest-term (start at-least)
   greatest-term-is =
-      let a = law .before .before .args in
+      let a = start at-least .args in
       at-greatest .product2 .ensures .0
-      ∙ simp (told, law .before .coefficient .given, at-greatest .before .product-arg2 .given)
-      (ap (λ (z : ℤ). b (law .before .before) *ℤ z) (sym (greatest-plain (a .plant .command) (a .sheet .now) (a .band) (law .if1 .taken))))
+      ∙ simp (told, at-coefficient at-least .coefficient .given, at-greatest .before .product-arg2 .given)
+      (ap (λ (z : ℤ). b (start at-least) *ℤ z) (sym (greatest-plain (a .sheet .now) (a .band) (plain at-least .enum-told .given .1))))
 
 -- the plain law
 returns : tie.Need-returns
 returns at-outer =
     let at-greatest = at-outer .before in
-    let up = law at-greatest .before .before .args .up in
+    let up = start (at-least at-greatest) .args .up in
     let least-near = at-least at-greatest .product .ensures .1 in
     let greatest-near = at-greatest .product2 .ensures .1 in
     let outer-fits : SFits w64 (at-outer .outer .result) = search needs in
@@ -81,20 +80,23 @@ returns at-outer =
 -- one command
 returns-2 : tie.Need-returns-2
 returns-2 at-product =
-    let one = at-product .before .before in
-    let at-coefficient = one .before in
+    let known = at-product .before in
+    let one = known .before in
+    let at-coefficient = one .before .before in
     let at-start = at-coefficient .before in
     let a = at-start .args in
-    let least-is = least-one (a .plant .command) (a .sheet .now) (a .band) (one .if1 .left) in
-    let greatest-is = greatest-one (a .plant .command) (a .sheet .now) (a .band) (one .if1 .left) in
+    let u = one .law .given .0 .0 in
+    let least-is = least-one (a .sheet .now) (a .band) (one .law .given .1) in
+    let greatest-is = greatest-one (a .sheet .now) (a .band) (one .law .given .1) in
     let near = at-product .product3 .ensures .1 in
-    let product-is : at-product .product3 .result ≡ b at-start *ℤ a .plant .command =
-    at-product .product3 .ensures .0 ∙ simp (told, at-coefficient .coefficient .given, toZ-ofZ, command-fits at-start) in
+    let command-fits : SFits w32 u = search needs in
+    let product-is : at-product .product3 .result ≡ b at-start *ℤ u =
+    at-product .product3 .ensures .0 ∙ simp (told, at-coefficient .coefficient .given, toZ-ofZ, command-fits) in
     rw (toZ-ofZ (fits64 near tt))
     (record {
       same =
           product-is
-          ∙ sym (outer-one (λ z. z ≡ b at-start *ℤ a .plant .command) (a .up) (ap (λ (u : ℤ). b at-start *ℤ u) least-is) (ap (λ (u : ℤ). b at-start *ℤ u) greatest-is));
+          ∙ sym (outer-one (λ z. z ≡ b at-start *ℤ u) (a .up) (ap (λ (z : ℤ). b at-start *ℤ z) least-is) (ap (λ (z : ℤ). b at-start *ℤ z) greatest-is));
       near = near;
     })
 
@@ -111,11 +113,13 @@ command-term-spec =
     (λ c. search needs)
     (λ c. search needs)
     (λ c. search needs)
+    (λ c. search needs)
     (λ c κs. search needs)
     (λ c. search needs)
     (λ c. search needs)
     (λ c κs. search needs)
+    (λ c κs. search needs)
+    (λ c. search needs)
     (λ c κs. search needs)
     returns
-    (λ c κs. search needs)
     returns-2)

@@ -12,11 +12,10 @@ use mir.Val.{SFits, toZ, ofZ}
 use borrow.Author.Needs.{needs}
 use Rattle.integers.specs.Bound.{Bound}
 use Rattle.integers.proofs.Z.{ints, told, up32, bound-lit, bound-less, bound-mul, fits64}
-use Rattle.sheet_spec.specs.Slots.{_!_, N, boxSize, cap}
-use Rattle.machine_spec.specs.Machine.{Machine}
+use Rattle.sheet_spec.specs.Slots.{_!_, N, boxSize, vars, cap}
+use Rattle.sheet_spec.specs.Limits.{maxTicks}
 use Rattle.machine_spec.specs.Rate.{neighborhood, faceRate}
-use Rattle.boxes_rates.specs.Limits.{RatesAsked}
-use Rattle.boxes_rates.specs.Plant.{machineOf}
+use Rattle.boxes_rates.specs.Limits.{reachLimit, RatesAsked}
 use Rattle.boxes_arithmetic.proofs.Bounds.{wide, times-low}
 use Rattle.boxes_rates.proofs.Cut.{cut-below, cut-back}
 use Rattle.boxes_rates.proofs.Bounds.{cap-bound, neighborhood-bound}
@@ -24,8 +23,8 @@ use Rattle.boxes_rates.proofs.rate.face_rate.Statement.{statement}
 use Rattle.boxes_rates.proofs.rate.face_rate.Tie as tie
 
 module _ (at-start : tie.Start) where
-  abbrev M : Machine
-  M = machineOf (at-start .args .plant) (at-start .args .sheet .now)
+  abbrev v : List ℤ
+  v = at-start .args .sheet .now
 
   abbrev S : List ℤ
   S = at-start .args .start .now
@@ -33,33 +32,33 @@ module _ (at-start : tie.Start) where
   abbrev E : List ℤ
   E = at-start .args .work .now
 
-  asked : RatesAsked M S (at-start .args .ticks) E
+  asked : RatesAsked (at-start .args .plant) v S (at-start .args .ticks) E
   asked = at-start .pre .0
 
-  var : at-start .args .i < M .n
+  var : at-start .args .i < vars v
   var = at-start .pre .1
 
   room : at-start .args .i < N
-  room = omega (arith, asked .usable .vars, var)
+  room = omega (arith, asked .plant .sheet .vars-high, var)
 
   -- one cap more than ticks
   abbrev reach : ℤ
-  reach = pos (at-start .args .ticks + 1) *ℤ cap (at-start .args .sheet .now) (at-start .args .i)
+  reach = pos (at-start .args .ticks + 1) *ℤ cap v (at-start .args .i)
 
-  reach-bound : Bound reach 1001000
-  reach-bound = bound-mul {B = 1001} (bound-less (bound-lit (pos (at-start .args .ticks + 1))) (omega (arith, asked .ticks))) (cap-bound (asked .usable) var)
+  reach-bound : Bound reach reachLimit
+  reach-bound = bound-mul {B = maxTicks + 1} (bound-less (bound-lit (pos (at-start .args .ticks + 1))) (omega (arith, asked .ticks))) (cap-bound (asked .plant .sheet) var)
 
   reach-fits : SFits w64 reach
   reach-fits = fits64 reach-bound tt
 
   reach-low : pos 0 ≤ℤ reach
-  reach-low = times-low (at-start .args .ticks + 1) (cap (at-start .args .sheet .now) (at-start .args .i)) (omega (ints, asked .usable .caps (at-start .args .i) var .low))
+  reach-low = times-low (at-start .args .ticks + 1) (cap v (at-start .args .i)) (omega (ints, asked .plant .sheet .caps (at-start .args .i) var .low))
 
   caps-are : toZ w64 (at-start .args .ticks + 1) ≡ pos (at-start .args .ticks + 1)
   caps-are = toZ-pos w64 (omega (arith, asked .ticks))
 
   -- as the code has it
-  reach-is : toZ w64 (ofZ w64 (toZ w64 (at-start .args .ticks + 1) *ℤ cap (at-start .args .sheet .now) (at-start .args .i))) ≡ reach
+  reach-is : toZ w64 (ofZ w64 (toZ w64 (at-start .args .ticks + 1) *ℤ cap v (at-start .args .i))) ≡ reach
   reach-is = rw caps-are (toZ-ofZ reach-fits)
 
 mul-reach-2 : tie.Need-mul-reach-2
@@ -107,7 +106,7 @@ rate-requires after-narrow κs =
     let at-narrow = after-narrow .before in
     let at-start = start at-narrow in
     record {
-      usable = asked at-start .usable;
+      plant = asked at-start .plant;
       sides = rw (narrowed at-narrow) (neighborhood-bound (at-start .args .up) (S at-start) _ (E at-start) (at-start .args .i) (reach-low at-start) (asked at-start .start) (asked at-start .work));
       var = var at-start;
     }

@@ -8,9 +8,9 @@ use mir.Syntax.{w64}
 use mir.Val.{SFits, toZ}
 use borrow.Author.Needs.{needs}
 use Rattle.integers.proofs.Z.{ints, up32}
-use Rattle.machine_spec.specs.Machine.{cap}
+use Rattle.sheet_spec.specs.Slots.{bands, cap}
+use Rattle.machine_spec.specs.Machine.{machine}
 use Rattle.machine_spec.specs.Rate.{outermost, neutral, bandRate, rate}
-use Rattle.boxes_rates.specs.Plant.{machineOf}
 use Rattle.boxes_arithmetic.proofs.Bounds.{wide}
 use Rattle.boxes_rates.proofs.Rates.{outermost-more}
 use Rattle.boxes_rates.proofs.Bounds.{cap-bound}
@@ -21,7 +21,7 @@ use Rattle.boxes_rates.proofs.rate.rate.Tie as tie
 -- z is the outermost so far
 abbrev Inv-loop : tie.InvT-loop
 Inv-loop up plant sheet over i slot z₀ band₀ z band =
-    (band ≤ plant .bands) × (toZ w64 z ≡ outermost up (neutral up (cap (machineOf plant sheet) i)) band (bandRate up (machineOf plant sheet) over i))
+    (band ≤ bands sheet) × (toZ w64 z ≡ outermost up (neutral up (cap sheet i)) band (bandRate up (machine sheet (plant .law)) over i))
 
 abbrev μ-loop : tie.MeasureT-loop
 μ-loop up plant sheet over i slot z₀ band₀ z band = plant .bands - band
@@ -29,7 +29,7 @@ abbrev μ-loop : tie.MeasureT-loop
 neutral-requires : tie.Need-neutral-requires Inv-loop μ-loop
 neutral-requires at-cap κs =
     let asked = at-cap .before .pre in
-    simp (wide, at-cap .neutral-arg .given) (cap-bound (asked .usable) (asked .var))
+    simp (wide, at-cap .neutral-arg .given) (cap-bound (asked .plant .sheet) (asked .var))
 
 loop-holds : tie.Need-loop-holds Inv-loop μ-loop
 unfolding outermost
@@ -43,21 +43,21 @@ band-rate-requires in-turn κs =
     let at-start = at-loop .before .before .before in
     let asked = at-start .pre in
     let a = at-start .args in
-    let within = outermost-within (a .up) (machineOf (a .plant) (a .sheet .now)) (a .over .now) (a .i) (at-loop .loop .band) (omega (ints, asked .usable .caps (a .i) (asked .var) .low)) in
-    record { rate = asked; among = omega arith; within = rw (at-loop .loop .inv .1) within }
+    let within = outermost-within (a .up) (machine (a .sheet .now) (a .plant .law)) (a .over .now) (a .i) (at-loop .loop .band) (omega (ints, asked .plant .sheet .caps (a .i) (asked .var) .low)) in
+    record { rate = asked; among = omega (arith, asked .plant .bands); within = rw (at-loop .loop .inv .1) within }
 
 loop-again : tie.Need-loop-again Inv-loop μ-loop
 loop-again at-band =
     let at-loop = at-band .before .before .before in
     let band-fits : SFits w64 (at-band .band-rate .result) = search needs in
-    (omega arith, rw outermost-more (toZ-ofZ band-fits ∙ (at-band .band-rate .ensures ∙ rw (at-loop .loop .inv .1) refl)))
+    (omega (arith, at-loop .before .before .before .pre .plant .bands), rw outermost-more (toZ-ofZ band-fits ∙ (at-band .band-rate .ensures ∙ rw (at-loop .loop .inv .1) refl)))
 
 returns : tie.Need-returns Inv-loop μ-loop
 unfolding rate
 returns at-return =
     let at-loop = at-return .before .before in
     let at-start = at-loop .before .before .before in
-    let all : at-loop .loop .band ≡ at-start .args .plant .bands = omega arith in
+    let all : at-loop .loop .band ≡ bands (at-start .args .sheet .now) = omega (arith, at-start .pre .plant .bands) in
     rw all at (at-loop .loop .inv .1)
 
 pub rate-spec : {M : Type 1} → statement M

@@ -10,39 +10,38 @@ use mir.Facts.{toZ-ofZ}
 use mir.Syntax.{w64}
 use mir.Val.{SFits}
 use borrow.Author.Needs.{needs}
-use Rattle.sheet_spec.specs.Slots.{N}
+use Rattle.sheet_spec.specs.Slots.{N, vars}
 use Rattle.machine_spec.specs.Box.{boxOf}
-use Rattle.machine_spec.specs.Machine.{Machine}
+use Rattle.machine_spec.specs.Machine.{Machine, machine, varsOf}
 use Rattle.machine_spec.specs.Rate.{faceRate, rates}
 use Rattle.boxes_rates.specs.Limits.{RatesAsked}
-use Rattle.boxes_rates.specs.Plant.{machineOf}
 use Rattle.machine_spec.proofs.Box.{sides-more}
 use Rattle.boxes_rates.proofs.rate.rates.Statement.{statement}
 use Rattle.boxes_rates.proofs.rate.rates.Tie as tie
 
 -- F is the working box, E at first, and R has the rates of the first i variables
 record Invariant (m : Machine) (S : List ℤ) (k : ℕ) (E F R : List ℤ) (i : ℕ) : Type 0 where
-  turns : i ≤ m .n
-  room : m .n ≤ N
+  turns : i ≤ varsOf m
+  room : varsOf m ≤ N
   work : F ≡ E
   rated : R ≡ boxOf i (faceRate false m S k E) (faceRate true m S k E)
 
 abbrev Inv-loop : tie.InvT-loop
-Inv-loop plant sheet start ticks work₀ rates₀ i₀ work rates i = Invariant (machineOf plant sheet) start ticks work₀ work rates i
+Inv-loop plant sheet start ticks work₀ rates₀ i₀ work rates i = Invariant (machine sheet (plant .law)) start ticks work₀ work rates i
 
 abbrev μ-loop : tie.MeasureT-loop
 μ-loop plant sheet start ticks work₀ rates₀ i₀ work rates i = plant .n - i
 
 loop-holds : tie.Need-loop-holds Inv-loop μ-loop
 unfolding boxOf
-loop-holds at-zeros = record { turns = omega arith; room = at-zeros .before .pre .usable .vars; work = refl; rated = refl }
+loop-holds at-zeros = record { turns = omega arith; room = omega (arith, at-zeros .before .pre .plant .sheet .vars-high); work = refl; rated = refl }
 
 module _ (at-loop : tie.At-loop Inv-loop μ-loop) where
   abbrev at-start : tie.Start Inv-loop μ-loop
   at-start = at-loop .before .before
 
   abbrev M : Machine
-  M = machineOf (at-start .args .plant) (at-start .args .sheet .now)
+  M = machine (at-start .args .sheet .now) (at-start .args .plant .law)
 
   abbrev E : List ℤ
   E = at-start .args .work .now
@@ -52,8 +51,8 @@ module _ (at-loop : tie.At-loop Inv-loop μ-loop) where
   face up F = faceRate up M (at-start .args .start .now) (at-start .args .ticks) F (at-loop .loop .i)
 
   -- it is asked for with the working box as it was
-  asked : {F : List ℤ} → F ≡ E → RatesAsked M (at-start .args .start .now) (at-start .args .ticks) F
-  asked same = let before = at-start .pre in record { usable = before .usable; ticks = before .ticks; start = before .start; work = rw same (before .work) }
+  asked : {F : List ℤ} → F ≡ E → RatesAsked (at-start .args .plant) (at-start .args .sheet .now) (at-start .args .start .now) (at-start .args .ticks) F
+  asked same = let before = at-start .pre in record { plant = before .plant; ticks = before .ticks; start = before .start; work = rw same (before .work) }
 
 -- after the lower face
 module _ (at-lower : tie.After-face-rate Inv-loop μ-loop) where
@@ -64,10 +63,10 @@ module _ (at-lower : tie.After-face-rate Inv-loop μ-loop) where
   same-work = at-lower .face-rate .ensures .1 ∙ loop .loop .inv .work
 
 face-rate-requires : tie.Need-face-rate-requires Inv-loop μ-loop
-face-rate-requires in-turn κs = let at-loop = in-turn .before .before .before in (asked at-loop (at-loop .loop .inv .work), omega arith)
+face-rate-requires in-turn κs = let at-loop = in-turn .before .before .before in (asked at-loop (at-loop .loop .inv .work), omega (arith, at-start at-loop .pre .plant .n))
 
 face-rate-requires-2 : tie.Need-face-rate-requires-2 Inv-loop μ-loop
-face-rate-requires-2 after-lower κs = let at-lower = after-lower .before in (asked (loop at-lower) (same-work at-lower), omega arith)
+face-rate-requires-2 after-lower κs = let at-lower = after-lower .before in (asked (loop at-lower) (same-work at-lower), omega (arith, at-start (loop at-lower) .pre .plant .n))
 
 loop-again : tie.Need-loop-again Inv-loop μ-loop
 loop-again at-upper =
@@ -76,7 +75,7 @@ loop-again at-upper =
     let upper-fits : SFits w64 (at-upper .face-rate2 .result) = search needs in
     let lower-fits : SFits w64 (at-lower .face-rate .result) = search needs in
     record {
-      turns = omega arith;
+      turns = omega (arith, at-start (loop at-lower) .pre .plant .n);
       room = inv .room;
       work = at-upper .face-rate2 .ensures .1 ∙ same-work at-lower;
       rated =
@@ -90,7 +89,7 @@ unfolding rates
 returns at-return =
     let at-loop = at-return .before .before in
     let inv = at-loop .loop .inv in
-    let all : at-loop .loop .i ≡ at-start at-loop .args .plant .n = omega (arith, inv .turns) in
+    let all : at-loop .loop .i ≡ vars (at-start at-loop .args .sheet .now) = omega (arith, inv .turns, at-start at-loop .pre .plant .n) in
     (rw all at (inv .rated), inv .work)
 
 pub rates-spec : {M : Type 1} → statement M

@@ -1,42 +1,46 @@
 -- `row_rate` gives the outer one of the outermost so far and of a band's share in a rate where the band is met: its row bounded,
 -- then the allowed change. Assumes nothing.
-use mathlib.Core.Path.{_∙_}
-use Prim.Native.Nat.{_+_, _≤_}
+use mathlib.Core.Path.{_≡_, ap, _∙_}
+use mathlib.Core.List.{List}
+use Prim.Native.Nat.{ℕ, _+_, _≤_}
 use native.Mathlib.Omega.{arith}
+use lib.IntN.{ℤ}
 use mir.Facts.{toZ-ofZ}
 use mir.Syntax.{w64}
 use mir.Val.{SFits}
 use borrow.Author.Needs.{needs}
 use Rattle.integers.proofs.Z.{up32, fits64}
-use Rattle.sheet_spec.specs.Slots.{rowSize, rowSlot, slots}
-use Rattle.machine_spec.specs.Machine.{Machine, least, greatest}
-use Rattle.machine_spec.specs.Rate.{bandRate}
+use Rattle.sheet_spec.specs.Slots.{rowSize, row, rowSlot, slots}
+use Rattle.machine_spec.specs.Machine.{Machine, machine, least, greatest}
+use Rattle.machine_spec.specs.Rate.{bound, bandRate}
 use Rattle.boxes_rates.specs.Limits.{BandAsked}
-use Rattle.boxes_rates.specs.Plant.{machineOf}
 use Rattle.boxes_arithmetic.proofs.Bounds.{wide}
 use Rattle.boxes_rates.proofs.Bounds.{cap-bound}
 use Rattle.boxes_rates.proofs.rate.row_rate.Statement.{statement}
 use Rattle.boxes_rates.proofs.rate.row_rate.Tie as tie
 
 module _ (at-start : tie.Start) where
-  abbrev M : Machine
-  M = machineOf (at-start .args .plant) (at-start .args .sheet .now)
+  abbrev v : List ℤ
+  v = at-start .args .sheet .now
 
-  asked : BandAsked M (at-start .args .over .now) (at-start .args .i) (at-start .args .band) (at-start .args .outermost)
+  abbrev M : Machine
+  M = machine v (at-start .args .plant .law)
+
+  asked : BandAsked (at-start .args .plant) v (at-start .args .over .now) (at-start .args .i) (at-start .args .band) (at-start .args .outermost)
   asked = at-start .pre .0
 
   place : rowSlot (at-start .args .band) (at-start .args .i) + rowSize ≤ slots
-  place = let usable = asked .rate .usable in omega (arith, usable .vars, usable .bands, asked .rate .var, asked .among)
+  place = let sheet = asked .rate .plant .sheet in omega (arith, sheet .vars-high, sheet .bands-high, asked .rate .var, asked .among)
 
 command-term-requires : tie.Need-command-term-requires
-command-term-requires at-start κs = (place at-start, omega (arith, asked at-start .rate .usable .bands, asked at-start .among))
+command-term-requires at-start κs = (place at-start, omega (arith, asked at-start .rate .plant .sheet .bands-high, asked at-start .among))
 
 bound-requires : tie.Need-bound-requires
 bound-requires at-term κs =
     let at-start = at-term .before in
     let rate = asked at-start .rate in
     let near = at-term .command-term .ensures .near in
-    (record { vars = rate .usable .vars; place = place at-start; sides = rate .sides }, rw (toZ-ofZ (fits64 near tt)) near)
+    (record { vars = omega (arith, rate .plant .n, rate .plant .sheet .vars-high); place = place at-start; sides = rate .sides }, rw (toZ-ofZ (fits64 near tt)) near)
 
 further-requires : tie.Need-further-requires
 further-requires at-cap κs =
@@ -46,9 +50,9 @@ further-requires at-cap κs =
     let near = at-bound .bound .ensures .near in
     record {
       place = place at-start;
-      divisor = rate .usable .divisors (at-start .args .band) (at-start .args .i) (asked at-start .among) (rate .var);
+      divisor = rate .plant .sheet .rows (at-start .args .band) (at-start .args .i) (asked at-start .among) (rate .var) .q .low;
       number = rw (toZ-ofZ (fits64 near tt)) near;
-      capped = simp (wide, at-cap .further-arg .given, toZ-ofZ, at-start .fits .outermost) (record { small = cap-bound (rate .usable) (rate .var); within = asked at-start .within });
+      capped = simp (wide, at-cap .further-arg .given, toZ-ofZ, at-start .fits .outermost) (record { small = cap-bound (rate .plant .sheet) (rate .var); within = asked at-start .within });
     }
 
 returns : tie.Need-returns
@@ -62,7 +66,9 @@ returns at-return =
     let term = at-term .command-term .ensures in
     let bounded = at-bound .bound .ensures in
     let further-fits : SFits w64 (at-return .further .result) = search needs in
-    let number-is = bounded .same (least (M at-start) band) (greatest (M at-start) band) (toZ-ofZ (fits64 (term .near) tt) ∙ term .same) in
+    let number-is =
+    bounded .same (least (M at-start) band) (greatest (M at-start) band) (toZ-ofZ (fits64 (term .near) tt) ∙ term .same)
+    ∙ ap (λ (n : ℕ). bound (at-start .args .up) n (row (v at-start) band (at-start .args .i)) (at-start .args .over .now) (least (M at-start) band) (greatest (M at-start) band)) (asked at-start .rate .plant .n) in
     toZ-ofZ further-fits
     ∙ (at-return .further .ensures
     ∙ rw (at-start .pre .1, toZ-ofZ (fits64 (bounded .near) tt), number-is) (simp (wide, at-cap .further-arg .given, toZ-ofZ, at-start .fits .outermost)))

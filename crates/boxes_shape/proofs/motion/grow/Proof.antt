@@ -2,7 +2,7 @@
 -- working box. Invariant: after i turns, of the first i variables. Measure: the variables left. Assumes nothing.
 use mathlib.Core.Path.{_≡_, refl, sym, ap₂, _∙_}
 use mathlib.Core.Logic.{⊎-elim}
-use mathlib.Core.Bool.{Bool, _&&_}
+use mathlib.Core.Bool.{Bool, true, false, _&&_}
 use mathlib.Core.List.{List}
 use Prim.Native.Nat.{ℕ, _≤_, _<_, _-_, _+_}
 use native.Mathlib.Omega.{arith}
@@ -19,7 +19,9 @@ use Rattle.sheet_spec.specs.Box.{lo, hi, all}
 use Rattle.machine_spec.specs.Box.{hull, moved, within}
 use Rattle.sheet_spec.proofs.Box.{all-last, all-false}
 use Rattle.machine_spec.proofs.Box.{swept-lo, swept-hi}
-use Rattle.machine_spec.proofs.InPlace.{filled, filled-none, filled-more, turn-lo, turn-hi, turn-hi-set, filled-sides}
+use Rattle.machine_spec.proofs.InPlace.{filled, filled-none, filled-more, turn-lo, turn-hi, filled-sides}
+use Rattle.machine_spec.specs.Rate.{outer}
+use Rattle.boxes_shape.specs.Limits.{TookIn}
 use Rattle.boxes_shape.proofs.Sides.{side-movable}
 use Rattle.boxes_shape.proofs.motion.grow.Statement.{statement}
 use Rattle.boxes_shape.proofs.motion.grow.Tie as tie
@@ -29,6 +31,28 @@ record Invariant (n : ℕ) (M E F : List ℤ) (inside : Bool) (i : ℕ) : Type 0
   turns : i ≤ n
   test : inside ≡ within i M E
   joined : F ≡ filled i (λ j. minZ (lo E j) (lo M j)) (λ j. maxZ (hi E j) (hi M j)) E
+
+-- a turn: the sides of variable i are taken in
+module _ {n : ℕ} {M E F : List ℤ} {inside : Bool} {i : ℕ} (inv : Invariant n M E F inside i) (more : i < n) (room : i < N) {low high : ℤ} (low-is : low ≡ lo M i) (high-is : high ≡ hi M i) {right : Bool} {G : List ℤ} (took : TookIn i low high F right G) where
+  low-was : lo F i ≡ lo E i
+  low-was = turn-lo _ _ i _ (inv .joined) room
+
+  high-was : hi F i ≡ hi E i
+  high-was = turn-hi _ _ i _ (inv .joined)
+
+  right-is : right ≡ (leZ (lo E i) (lo M i) && leZ (hi M i) (hi E i))
+  right-is = took .test ∙ ap₂ _&&_ (ap₂ leZ low-was low-is) (ap₂ leZ high-is high-was)
+
+  passed : inside ≡ true → within (i + 1) M E ≡ right
+  unfolding within
+  passed yes-so = all-last i _ (sym (inv .test) ∙ yes-so) ∙ sym right-is
+
+  failed : inside ≡ false → within (i + 1) M E ≡ false
+  unfolding within
+  failed not-so = all-false i _ (sym (inv .test) ∙ not-so)
+
+  turn : {new : Bool} → new ≡ within (i + 1) M E → Invariant n M E G new (i + 1)
+  turn test = record { turns = omega (arith, more); test = test; joined = took .joined ∙ filled-more _ _ i _ (inv .joined) (ap₂ minZ low-was low-is) (ap₂ maxZ high-was high-is) }
 
 abbrev Inv-loop : tie.InvT-loop
 Inv-loop n start ticks rates work₀ inside₀ i₀ work inside i = Invariant n (hull n start (moved n start ticks rates)) work₀ work inside i
@@ -40,156 +64,90 @@ loop-holds : tie.Need-loop-holds Inv-loop μ-loop
 unfolding within all
 loop-holds at-start = record { turns = omega arith; test = refl; joined = filled-none _ _ _ }
 
--- ---- a turn
-
 module _ (at-loop : tie.At-loop Inv-loop μ-loop) where
-  abbrev at-start : tie.Start Inv-loop μ-loop
-  at-start = at-loop .before
-
-  abbrev i : ℕ
-  i = at-loop .loop .i
+  abbrev start : List ℤ
+  start = at-loop .before .args .start .now
 
   -- the hull of the start box and of the start box moved
   abbrev M : List ℤ
-  M = let a = at-start .args in hull (a .n) (a .start .now) (moved (a .n) (a .start .now) (a .ticks) (a .rates .now))
+  M = let a = at-loop .before .args in hull (a .n) start (moved (a .n) start (a .ticks) (a .rates .now))
 
-  -- the working box at first
-  abbrev E : List ℤ
-  E = at-start .args .work .now
-
-along-requires : tie.Need-along-requires Inv-loop μ-loop
-along-requires at-rate κs =
+lower-requires : tie.Need-swept-side-requires Inv-loop μ-loop
+lower-requires at-rate κs =
     let at-side = at-rate .before in
-    let at-loop = at-side .before .before .before in
-    side-movable (at-start at-loop .pre .0) (i at-loop) (told w64 _ (at-side .along-arg .given)) (told w64 _ (at-rate .along-arg2 .given))
+    let at-loop = at-side .before .before in
+    side-movable (at-loop .before .pre .0) (at-loop .loop .i) (told w64 _ (at-side .swept-side-arg .given)) (told w64 _ (at-rate .swept-side-arg2 .given))
 
-module _ (at-min : tie.After-min Inv-loop μ-loop) where
-  -- the lower side of the start box, read twice, its rate, and the side moved
-  abbrev low-along : tie.After-along Inv-loop μ-loop
-  low-along = at-min .before
-
-  abbrev low-rate : tie.After-along-arg2 Inv-loop μ-loop
-  low-rate = low-along .before
-
-  abbrev low-side : tie.After-along-arg Inv-loop μ-loop
-  low-side = low-rate .before
-
-  abbrev low-first : tie.After-min-arg Inv-loop μ-loop
-  low-first = low-side .before
-
-  abbrev at-loop : tie.At-loop Inv-loop μ-loop
-  at-loop = low-first .before .before
-
-  more : i at-loop < at-start at-loop .args .n
-  more = omega arith
-
-  low-is : toZ w64 (ofZ w64 (at-min .min .result)) ≡ lo (M at-loop) (i at-loop)
-  low-is =
-      let a = at-start at-loop .args in
-      let min-fits : SFits w64 (at-min .min .result) = search needs in
-      let along-fits : SFits w64 (low-along .along .result) = search needs in
-      toZ-ofZ min-fits
-      ∙ (at-min .min .ensures
-      ∙ (ap₂ minZ
-      (simp (told, low-first .min-arg .given))
-      (toZ-ofZ along-fits ∙ (low-along .along .ensures ∙ simp (told, low-rate .along-arg2 .given, low-side .along-arg .given)))
-      ∙ sym (swept-lo (a .n) (i at-loop) (at-start at-loop .pre .0 .room) more (a .start .now) (a .ticks) (a .rates .now))))
-
-along-requires-2 : tie.Need-along-requires-2 Inv-loop μ-loop
-along-requires-2 at-rate κs =
+upper-requires : tie.Need-swept-side-requires-2 Inv-loop μ-loop
+upper-requires at-rate κs =
     let at-side = at-rate .before in
-    let loop = at-loop (at-side .before .before) in
-    side-movable (at-start loop .pre .0) (i loop + N) (told w64 _ (at-side .along-arg3 .given)) (told w64 _ (at-rate .along-arg4 .given))
+    let at-loop = at-side .before .before .before .before .before in
+    side-movable (at-loop .before .pre .0) (at-loop .loop .i + N) (told w64 _ (at-side .swept-side-arg3 .given)) (told w64 _ (at-rate .swept-side-arg4 .given))
 
-module _ (at-max : tie.After-max Inv-loop μ-loop) where
-  abbrev high-along : tie.After-along2 Inv-loop μ-loop
-  high-along = at-max .before
+module _ (at-upper : tie.After-swept-side2 Inv-loop μ-loop) where
+  abbrev upper-rate : tie.After-swept-side-arg4 Inv-loop μ-loop
+  upper-rate = at-upper .before
 
-  abbrev high-rate : tie.After-along-arg4 Inv-loop μ-loop
-  high-rate = high-along .before
+  abbrev upper-side : tie.After-swept-side-arg3 Inv-loop μ-loop
+  upper-side = upper-rate .before
 
-  abbrev high-side : tie.After-along-arg3 Inv-loop μ-loop
-  high-side = high-rate .before
+  abbrev at-lower : tie.After-swept-side Inv-loop μ-loop
+  at-lower = upper-side .before
 
-  abbrev high-first : tie.After-max-arg Inv-loop μ-loop
-  high-first = high-side .before
+  abbrev lower-rate : tie.After-swept-side-arg2 Inv-loop μ-loop
+  lower-rate = at-lower .before
 
-  abbrev at-min : tie.After-min Inv-loop μ-loop
-  at-min = high-first .before
+  abbrev lower-side : tie.After-swept-side-arg Inv-loop μ-loop
+  lower-side = lower-rate .before
+
+  abbrev in-loop : tie.In-loop Inv-loop μ-loop
+  in-loop = lower-side .before
 
   abbrev loop : tie.At-loop Inv-loop μ-loop
-  loop = at-loop at-min
+  loop = in-loop .before
 
-  high-is : toZ w64 (ofZ w64 (at-max .max .result)) ≡ hi (M loop) (i loop)
+  more : loop .loop .i < loop .before .args .n
+  more = in-loop .loop-test .taken
+
+  room : loop .loop .i < N
+  room = omega (arith, more, loop .before .pre .0 .room)
+
+  low-is : toZ w64 (ofZ w64 (at-lower .swept-side .result)) ≡ lo (M loop) (loop .loop .i)
+  unfolding outer
+  low-is =
+      let a = loop .before .args in
+      let side-fits : SFits w64 (at-lower .swept-side .result) = search needs in
+      toZ-ofZ side-fits
+      ∙ (at-lower .swept-side .ensures
+      ∙ ((simp (told, lower-rate .swept-side-arg2 .given, lower-side .swept-side-arg .given))
+      ∙ sym (swept-lo (a .n) (loop .loop .i) (loop .before .pre .0 .room) more (a .start .now) (a .ticks) (a .rates .now))))
+
+  high-is : toZ w64 (ofZ w64 (at-upper .swept-side2 .result)) ≡ hi (M loop) (loop .loop .i)
+  unfolding outer
   high-is =
-      let a = at-start loop .args in
-      let max-fits : SFits w64 (at-max .max .result) = search needs in
-      let along-fits : SFits w64 (high-along .along2 .result) = search needs in
-      toZ-ofZ max-fits
-      ∙ (at-max .max .ensures
-      ∙ (ap₂ maxZ
-      (simp (told, high-first .max-arg .given))
-      (toZ-ofZ along-fits ∙ (high-along .along2 .ensures ∙ simp (told, high-rate .along-arg4 .given, high-side .along-arg3 .given)))
-      ∙ sym (swept-hi (a .n) (i loop) (at-start loop .pre .0 .room) (more at-min) (a .start .now) (a .ticks) (a .rates .now))))
+      let a = loop .before .args in
+      let side-fits : SFits w64 (at-upper .swept-side2 .result) = search needs in
+      toZ-ofZ side-fits
+      ∙ (at-upper .swept-side2 .ensures
+      ∙ ((simp (told, upper-rate .swept-side-arg4 .given, upper-side .swept-side-arg3 .given))
+      ∙ sym (swept-hi (a .n) (loop .loop .i) (loop .before .pre .0 .room) more (a .start .now) (a .ticks) (a .rates .now))))
 
-  -- the working box's lower side as it was
-  low-was : lo (loop .loop .work) (i loop) ≡ lo (E loop) (i loop)
-  low-was = turn-lo _ _ (i loop) _ (loop .loop .inv .joined) (omega arith)
-
--- the test of variable i
-module _ (at-test : tie.After-both-le Inv-loop μ-loop) where
-  abbrev at-upper : tie.After-both-le-arg2 Inv-loop μ-loop
-  at-upper = at-test .before
-
-  abbrev at-lower : tie.After-both-le-arg Inv-loop μ-loop
-  at-lower = at-upper .before
-
-  abbrev at-max : tie.After-max Inv-loop μ-loop
-  at-max = at-lower .before .before
-
-  test-is : let turn = loop at-max in at-test .both-le .result ≡ (leZ (lo (E turn) (i turn)) (lo (M turn) (i turn)) && leZ (hi (M turn) (i turn)) (hi (E turn) (i turn)))
-  test-is =
-      let turn = loop at-max in
-      at-test .both-le .ensures
-      ∙ ap₂ _&&_
-      (ap₂ leZ (told w64 _ (at-lower .both-le-arg .given) ∙ low-was at-max) (low-is (at-min at-max)))
-      (ap₂ leZ (high-is at-max) (told w64 _ (at-upper .both-le-arg2 .given) ∙ turn-hi _ _ (i turn) (E turn) (turn .loop .inv .joined)))
-
--- the test of the first variables, up to i: it was made only if those before passed
-inside-is : (at-joined : tie.Joined1 Inv-loop μ-loop) → let turn = loop (at-joined .before) in at-joined .if1 .inside ≡ within (i turn + 1) (M turn) (E turn)
-unfolding within
-inside-is at-joined =
-    let turn = loop (at-joined .before) in
-    let passed = turn .loop .inv .test in
-    ⊎-elim
-    (λ w. let at-test : tie.After-both-le Inv-loop μ-loop = record {
-      before = record { before = record { before = record { before = at-joined .before; if1 = w .0 }; both-le-arg = w .1 }; both-le-arg2 = w .2 };
-      both-le = w .3;
-    } in
-    w .4 ∙ (test-is at-test ∙ sym (all-last (i turn) _ (sym passed ∙ w .0 .taken))))
-    (λ w. w .1 ∙ (w .0 .left ∙ sym (all-false (i turn) _ (sym passed ∙ w .0 .left))))
-    (at-joined .if1 .came)
+take-in-requires : tie.Need-take-in-requires Inv-loop μ-loop
+take-in-requires at-call κs = room (at-call .before)
 
 loop-again : tie.Need-loop-again Inv-loop μ-loop
-loop-again at-upper =
-    let upper-read = at-upper .before in
-    let at-lower = upper-read .before in
-    let lower-read = at-lower .before in
-    let at-joined = lower-read .before in
-    let at-max = at-joined .before in
-    let turn = loop at-max in
-    let inv = turn .loop .inv in
-    let max-fits : SFits w64 (at-upper .max2 .result) = search needs in
-    let min-fits : SFits w64 (at-lower .min2 .result) = search needs in
-    let high-was = turn-hi-set _ _ (i turn) (E turn) (inv .joined) (toZ w64 (ofZ w64 (at-lower .min2 .result))) in
-    record {
-      turns = omega (arith, more (at-min at-max));
-      test = inside-is at-joined;
-      joined =
-          filled-more _ _ (i turn) (E turn) (inv .joined)
-          (toZ-ofZ min-fits ∙ (at-lower .min2 .ensures ∙ ap₂ minZ (told w64 _ (lower-read .min-arg2 .given) ∙ low-was at-max) (low-is (at-min at-max))))
-          (toZ-ofZ max-fits ∙ (at-upper .max2 .ensures ∙ ap₂ maxZ (told w64 _ (upper-read .max-arg2 .given) ∙ high-was) (high-is at-max)));
-    }
+loop-again at-joined =
+    let at-took = at-joined .before in
+    let at-upper = at-took .before .before in
+    let inv = loop at-upper .loop .inv in
+    let low = low-is at-upper in
+    let high = high-is at-upper in
+    let took = at-took .take-in .ensures in
+    turn inv (more at-upper) (room at-upper) low high took
+    (⊎-elim
+    (λ w. w .1 ∙ sym (passed inv (more at-upper) (room at-upper) low high took (w .0 .taken)))
+    (λ w. w .1 ∙ (w .0 .left ∙ sym (failed inv (more at-upper) (room at-upper) low high took (w .0 .left))))
+    (at-joined .if1 .came))
 
 returns : tie.Need-returns Inv-loop μ-loop
 unfolding hull
@@ -213,33 +171,13 @@ grow-spec =
     (λ c. omega arith)
     (λ c. omega arith)
     (λ c. omega arith)
-    (λ c. omega arith)
-    (λ c. omega arith)
-    along-requires
-    (λ c κs. tt)
+    lower-requires
     (λ c. omega arith)
     (λ c. omega arith)
     (λ c. omega arith)
     (λ c. omega arith)
-    (λ c. omega arith)
-    (λ c. omega arith)
-    along-requires-2
-    (λ c κs. tt)
-    (λ c. omega arith)
-    (λ c. omega arith)
-    (λ c. omega arith)
-    (λ c. omega arith)
-    (λ c κs. tt)
-    (λ c. omega arith)
-    (λ c. omega arith)
-    (λ c κs. tt)
-    (λ c. omega arith)
-    (λ c. omega arith)
-    (λ c. omega arith)
-    (λ c. omega arith)
-    (λ c κs. tt)
-    (λ c. omega arith)
-    (λ c. omega arith)
+    upper-requires
+    take-in-requires
     (λ c. omega arith)
     (λ c. omega arith)
     loop-again

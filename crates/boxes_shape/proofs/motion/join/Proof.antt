@@ -1,18 +1,15 @@
 -- `join` makes the hull in place. Invariant: after i turns, that of the first i variables. Measure: the variables left.
 -- Assumes nothing.
-use mathlib.Core.Path.{_≡_, refl, _∙_}
-use Prim.Native.Nat.{_≤_, _<_, _-_}
+use mathlib.Core.Path.{_≡_, ap₂, _∙_}
+use Prim.Native.Nat.{ℕ, _≤_, _<_, _-_}
 use native.Mathlib.Omega.{arith}
-use mir.Facts.{toZ-ofZ}
 use mir.Syntax.{w64}
-use mir.Val.{SFits, ofZ, toZ}
-use borrow.Author.Needs.{needs}
 use Rattle.integers.specs.Order.{minZ, maxZ}
 use Rattle.integers.proofs.Z.{told}
 use Rattle.sheet_spec.specs.Slots.{N}
 use Rattle.sheet_spec.specs.Box.{lo, hi}
 use Rattle.machine_spec.specs.Box.{hull}
-use Rattle.machine_spec.proofs.InPlace.{filled, filled-none, filled-more, turn-lo, turn-hi-set, filled-sides}
+use Rattle.machine_spec.proofs.InPlace.{filled, filled-none, filled-more, turn-lo, turn-hi, filled-sides}
 use Rattle.boxes_shape.proofs.motion.join.Statement.{statement}
 use Rattle.boxes_shape.proofs.motion.join.Tie as tie
 
@@ -25,24 +22,30 @@ abbrev μ-loop : tie.MeasureT-loop
 loop-holds : tie.Need-loop-holds Inv-loop μ-loop
 loop-holds at-start = (omega arith, filled-none _ _ _)
 
+module _ (in-loop : tie.In-loop Inv-loop μ-loop) where
+  abbrev at-loop : tie.At-loop Inv-loop μ-loop
+  at-loop = in-loop .before
+
+  abbrev i : ℕ
+  i = at-loop .loop .i
+
+  room : i < N
+  room = omega (arith, in-loop .loop-test .taken, at-loop .before .pre .0)
+
+take-in-requires : tie.Need-take-in-requires Inv-loop μ-loop
+take-in-requires at-call κs = room (at-call .before .before .before)
+
 loop-again : tie.Need-loop-again Inv-loop μ-loop
-loop-again at-max =
-    let upper-other = at-max .before in
-    let upper-out = upper-other .before in
-    let at-min = upper-out .before in
-    let lower-other = at-min .before in
-    let lower-out = lower-other .before in
-    let at-loop = lower-out .before .before in
-    let i = at-loop .loop .i in
-    let min-fits : SFits w64 (at-min .min .result) = search needs in
-    let max-fits : SFits w64 (at-max .max .result) = search needs in
-    let room : i < N = omega arith in
-    let low = turn-lo _ _ i _ (at-loop .loop .inv .1) room in
-    let high = turn-hi-set _ _ i _ (at-loop .loop .inv .1) (toZ w64 (ofZ w64 (at-min .min .result))) in (
-      omega arith,
-      filled-more _ _ i _ (at-loop .loop .inv .1)
-          (toZ-ofZ min-fits ∙ (at-min .min .ensures ∙ simp (told, lower-other .min-arg2 .given, lower-out .min-arg .given) (rw low refl)))
-          (toZ-ofZ max-fits ∙ (at-max .max .ensures ∙ simp (told, upper-other .max-arg2 .given, upper-out .max-arg .given) (rw high refl))),
+loop-again at-took =
+    let upper-read = at-took .before .before in
+    let lower-read = upper-read .before in
+    let in-loop = lower-read .before in
+    let inv = at-loop in-loop .loop .inv in (
+      omega (arith, in-loop .loop-test .taken),
+      at-took .take-in .ensures .joined
+          ∙ filled-more _ _ (i in-loop) _ (inv .1)
+          (ap₂ minZ (turn-lo _ _ (i in-loop) _ (inv .1) (room in-loop)) (told w64 _ (lower-read .take-in-arg .given)))
+          (ap₂ maxZ (turn-hi _ _ (i in-loop) _ (inv .1)) (told w64 _ (upper-read .take-in-arg2 .given))),
     )
 
 returns : tie.Need-returns Inv-loop μ-loop
@@ -65,16 +68,7 @@ join-spec =
     (λ c. omega arith)
     (λ c. omega arith)
     (λ c. omega arith)
-    (λ c κs. tt)
-    (λ c. omega arith)
-    (λ c. omega arith)
-    (λ c. omega arith)
-    (λ c. omega arith)
-    (λ c. omega arith)
-    (λ c. omega arith)
-    (λ c κs. tt)
-    (λ c. omega arith)
-    (λ c. omega arith)
+    take-in-requires
     (λ c. omega arith)
     (λ c. omega arith)
     loop-again

@@ -5,15 +5,13 @@ use mathlib.Core.List.{List, [], _∷_}
 use Prim.Native.Nat.{ℕ, _+_, _*_, _≤_}
 use native.Mathlib.Omega.{arith}
 use lib.IntN.{ℤ}
-use mir.Syntax.{w32}
-use mir.Val.{SFits}
-use mir.Facts.{toZ-ofZ}
 use borrow.Author.Needs.{needs}
+use Rattle.sheet_spec.specs.Limits.{maxCap}
 use Rattle.sheet_spec.specs.Slots.{vars, recoveryBox}
 use Rattle.machine_spec.specs.Box.{trim, within}
-use Rattle.machine_spec.specs.Machine.{baseline, command, machine, lawOf}
+use Rattle.machine_spec.specs.declared.Law.the-variants.{Baseline}
 use Rattle.boxes_arithmetic.specs.Limits.{SidesWithin}
-use Rattle.boxes_rates.specs.Plant.{machineOf}
+use Rattle.boxes_rates.specs.Plant.{Describes}
 use Rattle.boxes_rates.proofs.Bounds.{wider}
 use Rattle.boxes_spec.specs.Step.{Result}
 use Rattle.boxes_spec.specs.Reach.{Reached}
@@ -23,14 +21,14 @@ use Rattle.decision_spec.specs.Decision.{Phase, phase, attempt}
 use Rattle.decision.specs.declared.attempt.AttemptPlan.{AttemptPlan}
 use Rattle.decision.specs.AttemptResult.{summary}
 use Rattle.decision.specs.Limits.{startLimit}
-use Rattle.decision.proofs.Turn.{reached, plant-usable, plant-vars, plant-trimmed, vars-trimmed, plant-names, plant-reach, phase-near, phase-on, phase-stops, attempt-succeeds, attempt-fails, within-trim}
+use Rattle.decision.proofs.Turn.{reached, plant-reach, names-all, phase-near, phase-on, phase-stops, attempt-succeeds, attempt-fails, within-trim}
 use Rattle.decision.proofs.attempt.attempt.Statement.{statement}
 use Rattle.decision.proofs.attempt.attempt.Tie as tie
 
 -- after the plant
 module _ (at-plant : tie.After-plant) where
   abbrev at-start : tie.Start
-  at-start = at-plant .before .before .before
+  at-start = at-plant .before .before
 
   abbrev plan : AttemptPlan
   plan = at-start .args .plan
@@ -43,10 +41,10 @@ module _ (at-plant : tie.After-plant) where
 
   -- the two phases
   abbrev commanded : Phase
-  commanded = phase (command (plan .command)) (plan .first)
+  commanded = phase (plan .law) (plan .first)
 
   abbrev plain : Phase
-  plain = phase baseline (plan .then)
+  plain = phase Baseline (plan .then)
 
   -- a phase's reach, and an attempt of some phases, within the plan's budget
   abbrev reaches : Phase → List ℤ → ℕ → Result Reached
@@ -55,10 +53,12 @@ module _ (at-plant : tie.After-plant) where
   abbrev attempted : List Phase → List ℤ → ℕ → Result (List ℤ)
   attempted = attempt (plan .budget .limited) (plan .budget .allowance) v w
 
-  -- the machine under the command
-  under : machineOf (at-plant .plant .result) v ≡ machine v (commanded .law)
-  unfolding lawOf
-  under = let f : SFits w32 (plan .command) = search needs in at-plant .plant .ensures ∙ ap (λ (u : ℤ). machine v (command u)) (toZ-ofZ f)
+  -- the plant's law is the plan's
+  under : at-plant .plant .result .law ≡ commanded .law
+  under = at-plant .plant .ensures .0
+
+  described : Describes (at-plant .plant .result) v
+  described = at-plant .plant .ensures .1
 
 -- after the reach under the command
 module _ (at-reach : tie.After-reach) where
@@ -76,10 +76,10 @@ module _ (at-reach : tie.After-reach) where
   W = at-reach .reach .last .1 .1 .1 .1 .1 .0
 
   first-reach : reachedOf E W (at-reach .reach .result) ≡ reaches at-plant (commanded at-plant) (at-start at-plant .args .start .now) (at-start at-plant .args .count)
-  first-reach = at-reach .reach .ensures .same ∙ plant-reach (at-plant .plant .result) _ (under at-plant) _ _ _ _ _ _ _ (at-count .count .ensures)
+  first-reach = at-reach .reach .ensures .same ∙ plant-reach (v at-plant) (under at-plant) _ _ _ _ _ _ _ (at-count .count .ensures)
 
   trimmed : trim (vars (v at-plant)) E ≡ E
-  trimmed = vars-trimmed (at-plant .plant .result) _ (under at-plant) (at-reach .reach .ensures .trimmed)
+  trimmed = at-reach .reach .ensures .trimmed
 
 -- if it ended: the start of the next phase
 module _ (first-ended : tie.After-r) where
@@ -96,7 +96,7 @@ module _ (first-ended : tie.After-r) where
   abbrev d : ℕ
   d = first-ended .r .given .0 .1 .0
 
-  near : SidesWithin (startLimit + plan before-first .first * 1000) (E at-reach) × (d ≤ asked .args .count + 73 * plan before-first .first)
+  near : SidesWithin (startLimit + plan before-first .first * maxCap) (E at-reach) × (d ≤ asked .args .count + 73 * plan before-first .first)
   near =
       let p = asked .pre .attempts in
       phase-near _ _ _ _ (commanded before-first) [] _ _ _ (E at-reach) (W at-reach) (first-reach at-reach) (first-ended .r .given .0 .0) d (first-ended .r .given .1) (p .sheet) (p .some) (p .most) (p .start)
@@ -110,7 +110,7 @@ module _ (at-last : tie.After-reach2) where
   at-plain = at-last .before .before .before
 
   abbrev first-ended : tie.After-r
-  first-ended = at-plain .before .before .before
+  first-ended = at-plain .before .before
 
   abbrev before : tie.After-plant
   before = before-first first-ended
@@ -122,8 +122,7 @@ module _ (at-last : tie.After-reach2) where
   X = at-last .reach2 .last .1 .1 .1 .1 .1 .0
 
   last-reach : reachedOf F X (at-last .reach2 .result) ≡ reaches before (plain before) (E (at-reach first-ended)) (d first-ended)
-  unfolding lawOf
-  last-reach = at-last .reach2 .ensures .same ∙ plant-reach (at-plain .plant2 .result) _ (at-plain .plant2 .ensures) _ _ _ _ _ _ _ (at-count (at-reach first-ended) .count .ensures)
+  last-reach = at-last .reach2 .ensures .same ∙ plant-reach (v before) (at-plain .plant2 .ensures .0) _ _ _ _ _ _ _ (at-count (at-reach first-ended) .count .ensures)
 
 -- if it ended
 module _ (last-ended : tie.After-q) where
@@ -148,7 +147,7 @@ module _ (at-test : tie.After-within) where
   recovered : at-test .within .result ≡ within (vars (v p)) (F (at-last ended)) (recoveryBox (v p))
   recovered =
       let E = F (at-last ended) in
-      let same = plant-vars (p .plant .result) _ (under p) in
+      let same = described p .n in
       at-test .within .ensures ∙ ap (within (p .plant .result .n) E) (at-test .before .before .before .box-at .ensures)
       ∙ within-trim _ E (recoveryBox (v p)) (omega (arith, same, at-start p .pre .attempts .sheet .vars-high)) ∙ ap (λ (n : ℕ). within n E (recoveryBox (v p))) same
 
@@ -162,11 +161,11 @@ reach-requires c κs =
     let asked = at-start at-plant .pre in
     let all = asked .attempts in
     record {
-      plan = record { usable = plant-usable (at-plant .plant .result) _ (under at-plant) (all .sheet); boxes = omega (arith, at-count .count .ensures, all .sheet .boxes-high); some = all .some; most = all .most };
+      plan = record { plant = described at-plant; boxes = omega (arith, at-count .count .ensures, all .sheet .boxes-high); some = all .some; most = all .most };
       ticks = omega (arith, all .ticks);
       counts = omega (arith, asked .counts);
       start = wider (omega arith) (all .start);
-      trimmed = plant-trimmed (at-plant .plant .result) _ (under at-plant) (all .trimmed);
+      trimmed = all .trimmed;
     }
 
 -- the reach under the command did not end
@@ -174,20 +173,20 @@ returns : tie.Need-returns
 returns at-return =
     let r = at-return .before .before in
     let p = at-plant r in
-    at-return .summary-of .ensures (v p) (E r) (W r) (plant-names (p .plant .result) _ (under p) (W r) _ (at-count r .count .ensures) (r .reach .ensures .names))
+    at-return .summary-of .ensures (v p) (E r) (W r) (names-all (v p) (W r) _ (at-count r .count .ensures) (r .reach .ensures .names))
     ∙ phase-stops _ _ _ _ (commanded p) (plain p ∷ []) _ _ _ (E r) (W r) (first-reach r) (not-ended (at-return .before .match .keys2))
 
 reach-requires-2 : tie.Need-reach-requires-2
 reach-requires-2 c κs =
     let at-plain = c .before .before in
-    let ended = at-plain .before .before .before in
+    let ended = at-plain .before .before in
     let r = at-reach ended in
     let asked = at-start (before-first ended) .pre in
     let all = asked .attempts in
     let n = near ended in
     record {
       plan = record {
-        usable = plant-usable (at-plain .plant2 .result) _ (at-plain .plant2 .ensures) (all .sheet);
+        plant = at-plain .plant2 .ensures .1;
         boxes = omega (arith, at-count r .count .ensures, all .sheet .boxes-high);
         some = all .some;
         most = all .most;
@@ -195,23 +194,23 @@ reach-requires-2 c κs =
       ticks = omega (arith, all .ticks);
       counts = omega (arith, asked .counts, all .ticks, n .1);
       start = wider (omega (arith, all .ticks)) (n .0);
-      trimmed = plant-trimmed (at-plain .plant2 .result) _ (at-plain .plant2 .ensures) (trimmed r);
+      trimmed = trimmed r;
     }
 
 -- the reach under the plain law did not end
 returns-2 : tie.Need-returns-2
 returns-2 at-return =
     let q = at-return .before .before in
-    let named = plant-names (at-plain q .plant2 .result) _ (at-plain q .plant2 .ensures) (X q) _ (at-count (at-reach (first-ended q)) .count .ensures) (q .reach2 .ensures .names) in
+    let named = names-all (v (before q)) (X q) _ (at-count (at-reach (first-ended q)) .count .ensures) (q .reach2 .ensures .names) in
     at-return .summary-of2 .ensures (v (before q)) (F q) (X q) named
     ∙ phase-stops _ _ _ _ (plain (before q)) [] _ _ _ (F q) (X q) (last-reach q) (not-ended (at-return .before .match2 .keys2))
     ∙ ap (summary {A = List ℤ} _) (sym (first-on (first-ended q)))
 
 box-at-requires : tie.Need-box-at-requires
-box-at-requires c κs = let p = before (at-last (c .before)) in (omega (arith, plant-vars (p .plant .result) _ (under p), at-start p .pre .attempts .sheet .vars-high), omega arith)
+box-at-requires c κs = let p = before (at-last (c .before)) in (omega (arith, described p .n, at-start p .pre .attempts .sheet .vars-high), omega arith)
 
 within-requires : tie.Need-within-requires
-within-requires c κs = let p = before (at-last (c .before .before .before .before)) in omega (arith, plant-vars (p .plant .result) _ (under p), at-start p .pre .attempts .sheet .vars-high)
+within-requires c κs = let p = before (at-last (c .before .before .before .before)) in omega (arith, described p .n, at-start p .pre .attempts .sheet .vars-high)
 
 -- in the recovery box
 returns-3 : tie.Need-returns-3
