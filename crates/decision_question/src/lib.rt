@@ -36,9 +36,10 @@ const ALLOWANCE_AT: usize = LETTERS;
 
 const COMMAND_AT: usize = ALLOWANCE_AT + I32;
 
-pub const SIDES_AT: usize = COMMAND_AT + I32;
+const SIDES_AT: usize = COMMAND_AT + I32;
 
-pub const PAIR: usize = PAIR_BYTES;
+// The most bytes of a question.
+pub const LONGEST: usize = SIDES_AT + PAIR_BYTES * N;
 
 // What reading gives: a refusal, or 0 and the head.
 pub struct HeadRead {

@@ -1,2 +1,5 @@
 pub mod LongFile
+pub mod Steps
 pub mod Vars
+mod Moved
+mod NextLength

@@ -11,7 +11,7 @@ use lib.IntN.{ℤ}
 use lib.ListN.{length, take, drop, set, length-take}
 use lib.Seq.{take-all, take-take, take-nil, getD-take}
 use borrow.Author.Tests.{le-leb}
-use Rattle.sheet_spec.specs.Slots.{headSize, vars}
+use Rattle.sheet_spec.specs.Slots.{headSize}
 use Rattle.sheet_spec.specs.Fields.{Field, width, numberOf, decoded, offset, filled, bad}
 use Rattle.sheet_spec.specs.Layout.{head, headFields}
 use Rattle.sheet_spec.specs.File.{Shape, records, start, marked}
@@ -23,10 +23,9 @@ use Rattle.sheet_spec.proofs.Places.{Small}
 use Rattle.sheet_spec.proofs.Ranges.{small}
 use Rattle.sheet_spec.proofs.Length.{cap-offset, file-length}
 use Rattle.sheet_spec.proofs.Answers.{refused-beginning, refused-head, refused-size}
-use Rattle.decision_spec.specs.Question.{questionLength}
 use Rattle.decision_spec.specs.Decision.{Reply, recoveryOf, checkRecovery, isKeep}
 use Rattle.decision_spec.specs.Listing.{_␣_, newline, sheetWord, checkWord, replyText, sheetLine, questionLines, listing}
-use Rattle.listing.specs.Limits.{longest}
+use Rattle.listing.specs.Limits.{longestSheet}
 
 -- the length grows with the counts
 grows : {n m b c g k : ℕ} → n ≤ m → b ≤ c → g ≤ k
@@ -37,14 +36,14 @@ grows {n} {m} {b} {c} {g} {k} p q r =
     let side : (2 + 8 * n) * (g + 1) ≤ (2 + 8 * m) * (k + 1) = mul-le-mul (omega arith) (omega arith) in
     omega arith
 
-fits : (s : Shape) → Small s → start s (records s) ≤ longest
+fits : (s : Shape) → Small s → start s (records s) ≤ longestSheet
 fits s m = rw file-length (grows (m .vars) (m .bands) (m .boxes))
 
 -- how a file that is longer is refused
 abbrev tooLong : Bool → List ℤ → ℕ
 tooLong begun h = elim begun [ true ↦ elim (bad headFields h headSize) [ zero ↦ 5 | suc c ↦ suc c ] | false ↦ 1 ]
 
-refused : (f : List ℕ) → longest < length f → tooLong (marked f 0 head) (headOf f) ≡ refusal f
+refused : (f : List ℕ) → longestSheet < length f → tooLong (marked f 0 head) (headOf f) ≡ refusal f
 unfolding shapeOf
 refused f l = go (marked f 0 head) refl (bad headFields (headOf f) headSize) refl
   where
@@ -81,7 +80,7 @@ never-none b h = go b (bad headFields h headSize)
     go true (suc c) z = omega arith
     go false c z = omega arith
 
-module _ (f : List ℕ) (k : ℕ) (l : longest < k) where
+module _ (f : List ℕ) (k : ℕ) (l : longestSheet < k) where
   head-cut : headOf (take k f) ≡ headOf f
   unfolding headOf
   head-cut = filled-cut headFields f k 2 headSize zeros (omega (arith, cap-offset 0))
@@ -107,9 +106,9 @@ refused-listing : (f g : List ℕ) (c : ℕ) → refusal f ≡ suc c → listing
 unfolding listing sheetLine checkRecovery unlessRefused isKeep
 refused-listing f g c e =
     ap (λ (r : ℕ). let a = unlessRefused r Reply.refused (recoveryOf (values f)) in
-    ((sheetWord ␣ replyText checkWord a) ++ (newline ∷ [])) ++ (elim (isKeep a) [ true ↦ questionLines f (questionLength (vars (values f))) (length g) 1 g | false ↦ [] ])) e
+    ((sheetWord ␣ replyText checkWord a) ++ (newline ∷ [])) ++ (elim (isKeep a) [ true ↦ questionLines f (length g) 1 g | false ↦ [] ])) e
 
-pub listing-cut : (f g : List ℕ) (k : ℕ) → longest < k → listing (take k f) g ≡ listing f g
+pub listing-cut : (f g : List ℕ) (k : ℕ) → longestSheet < k → listing (take k f) g ≡ listing f g
 listing-cut f g k l = ⊎-elim (λ (h : k < length f). long h (refusal f) refl) (λ (h : length f ≤ k). ap (λ (x : List ℕ). listing x g) (take-all k f h)) (lt-or-le k (length f))
   where
     long : k < length f → (c : ℕ) → refusal f ≡ c → listing (take k f) g ≡ listing f g

@@ -1,5 +1,5 @@
 -- Text put into a buffer piece by piece. Assumes nothing.
-use mathlib.Core.Path.{refl, ap, _∙_}
+use mathlib.Core.Path.{_≡_, refl, ap, subst, _∙_}
 use mathlib.Core.List.{List, [], _++_}
 use Prim.Native.Nat.{ℕ, _+_, _<_}
 use native.Mathlib.Numerals.{add-one}
@@ -18,6 +18,10 @@ then {s} {t} {l} {m} {r} {at} {k} {e} p q =
       ends = rw length-append (omega (arith, p .ends, q .ends));
       is = q .is ∙ ap (λ (x : List ℕ). sets x k t) (p .is) ∙ ap (λ (x : ℕ). sets (sets l at s) x t) (p .ends) ∙ sets-append l at s t;
     }
+
+-- an equal text
+pub put-as : {s t l m : List ℕ} {at e : ℕ} → s ≡ t → Put s l at m e → Put t l at m e
+put-as {s} {t} {l} {m} {at} {e} = subst (λ (text : List ℕ). Put text l at m e)
 
 -- a turn of the loop that puts a text
 pub next : (s : List ℕ) (i : ℕ) {l m : List ℕ} {at : ℕ} → i < length s → Put (take i s) l at m (at + i)
