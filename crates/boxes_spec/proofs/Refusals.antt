@@ -13,8 +13,7 @@ use Rattle.sheet_spec.specs.Refusals.{Cause, greatestNumber}
 use Rattle.sheet_spec.specs.Slots.{vars, leastCommand, greatestCommand}
 use Rattle.sheet_spec.specs.Box.{all}
 use Rattle.sheet_spec.proofs.Box.{and-both}
-use Rattle.sheet_spec.proofs.Laws.{unless-zero}
-use Rattle.sheet_spec.proofs.Causes.{unless-most}
+use Rattle.sheet_spec.proofs.Laws.{unless-zero, unless-most}
 use Rattle.sheet_spec.proofs.FirstRefusal.{all-pass}
 use Rattle.machine_spec.specs.declared.Law.{Law}
 use Rattle.machine_spec.specs.declared.Law.the-variants.{Baseline, Command}

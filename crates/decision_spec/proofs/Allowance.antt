@@ -15,7 +15,9 @@ use Rattle.sheet_spec.specs.Refusals.{Cause, greatestNumber, unlessRefused}
 use Rattle.sheet_spec.specs.Sheet.{refusal, values}
 use Rattle.sheet_spec.specs.Valid.{Valid}
 use Rattle.sheet_spec.proofs.Valid.{valid}
-use Rattle.sheet_spec.proofs.Causes.{refusal-most, unless-most, first-of-most}
+use Rattle.sheet_spec.proofs.Causes.{refusal-most}
+use Rattle.sheet_spec.proofs.Laws.{unless-most}
+use Rattle.sheet_spec.proofs.FirstRefusal.{first-of-most}
 use Rattle.machine_spec.specs.Box.{within}
 use Rattle.machine_spec.specs.declared.Law.{Law}
 use Rattle.machine_spec.specs.Machine.{machine}

@@ -13,13 +13,14 @@ use lib.Seq.{take-all, take-take, take-nil, getD-take}
 use borrow.Author.Tests.{le-leb}
 use Rattle.sheet_spec.specs.Slots.{headSize}
 use Rattle.sheet_spec.specs.Fields.{Field, width, numberOf, decoded, offset, filled, bad}
-use Rattle.sheet_spec.specs.Layout.{head, headFields}
-use Rattle.sheet_spec.specs.File.{Shape, records, start, marked}
+use Rattle.sheet_spec.specs.declared.Shape.{Shape}
+use Rattle.sheet_spec.specs.declared.Record.the-variants.{Head}
+use Rattle.sheet_spec.specs.Layout.{headFields}
+use Rattle.sheet_spec.specs.File.{Small, records, start, marked}
 use Rattle.sheet_spec.specs.Refusals.{unlessRefused}
 use Rattle.sheet_spec.specs.Sheet.{headOf, shapeOf, refusal, values, zeros}
-use Rattle.sheet_spec.proofs.Laws.{bad-ranges}
+use Rattle.sheet_spec.proofs.Tests.{bad-ranges}
 use Rattle.sheet_spec.proofs.Streams.{lt-or-le}
-use Rattle.sheet_spec.proofs.Places.{Small}
 use Rattle.sheet_spec.proofs.Ranges.{small}
 use Rattle.sheet_spec.proofs.Length.{cap-offset, file-length}
 use Rattle.sheet_spec.proofs.Answers.{refused-beginning, refused-head, refused-size}
@@ -43,14 +44,14 @@ fits s m = rw file-length (grows (m .vars) (m .bands) (m .boxes))
 abbrev tooLong : Bool → List ℤ → ℕ
 tooLong begun h = elim begun [ true ↦ elim (bad headFields h headSize) [ zero ↦ 5 | suc c ↦ suc c ] | false ↦ 1 ]
 
-refused : (f : List ℕ) → longestSheet < length f → tooLong (marked f 0 head) (headOf f) ≡ refusal f
+refused : (f : List ℕ) → longestSheet < length f → tooLong (marked f 0 Head) (headOf f) ≡ refusal f
 unfolding shapeOf
-refused f l = go (marked f 0 head) refl (bad headFields (headOf f) headSize) refl
+refused f l = go (marked f 0 Head) refl (bad headFields (headOf f) headSize) refl
   where
-    begins : (b : Bool) → marked f 0 head ≡ b → leb 20 (length f) && marked f 0 head ≡ b
+    begins : (b : Bool) → marked f 0 Head ≡ b → leb 20 (length f) && marked f 0 Head ≡ b
     begins b e = rw (le-leb 20 (length f) (omega arith)) e
 
-    go : (b : Bool) → marked f 0 head ≡ b → (c : ℕ) → bad headFields (headOf f) headSize ≡ c → tooLong b (headOf f) ≡ refusal f
+    go : (b : Bool) → marked f 0 Head ≡ b → (c : ℕ) → bad headFields (headOf f) headSize ≡ c → tooLong b (headOf f) ≡ refusal f
     go false e c q = refused-beginning f (begins false e)
     go true e zero q =
         let m = small (headOf f) (bad-ranges headFields (headOf f) headSize q) in
@@ -85,7 +86,7 @@ module _ (f : List ℕ) (k : ℕ) (l : longestSheet < k) where
   unfolding headOf
   head-cut = filled-cut headFields f k 2 headSize zeros (omega (arith, cap-offset 0))
 
-  mark-cut : marked (take k f) 0 head ≡ marked f 0 head
+  mark-cut : marked (take k f) 0 Head ≡ marked f 0 Head
   unfolding marked
   mark-cut = rw (getD-take k f 0 0 (omega arith), getD-take k f 1 0 (omega arith))
 
@@ -94,11 +95,11 @@ module _ (f : List ℕ) (k : ℕ) (l : longestSheet < k) where
     refusal-cut =
         sym (refused (take k f) (simp length-take (omega arith)))
         ∙ ap (λ (b : Bool). tooLong b (headOf (take k f))) mark-cut
-        ∙ ap (tooLong (marked f 0 head)) head-cut
+        ∙ ap (tooLong (marked f 0 Head)) head-cut
         ∙ refused f (omega arith)
 
     refuses : refusal f ≡ 0 → ⊥
-    refuses e = never-none (marked f 0 head) (headOf f) (refused f (omega arith) ∙ e)
+    refuses e = never-none (marked f 0 Head) (headOf f) (refused f (omega arith) ∙ e)
 
 -- ---- the listing
 

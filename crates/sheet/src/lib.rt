@@ -8,22 +8,21 @@ ghost use lib.ListN.{length};
 ghost use Rattle.sheet_spec.specs.Slots.{headSize, slots};
 ghost use Rattle.sheet_spec.specs.Fields.{bad};
 ghost use Rattle.sheet_spec.specs.Sizes.{capsAt};
-ghost use Rattle.sheet_spec.specs.Layout.{head, headFields};
+ghost use Rattle.sheet_spec.specs.Layout.{headFields};
+ghost use Rattle.sheet_spec.specs.declared.Record.the-variants.{Head};
 ghost use Rattle.sheet_spec.specs.File.{marked};
 ghost use Rattle.sheet_spec.specs.Sheet.{zeros, headOf, contents, refusal, values};
 ghost use Rattle.sheet_spec.specs.Written.{Wrote};
-use sheet_encoding::count;
 use sheet_encoding::marks;
+use sheet_encoding::records;
+use sheet_spec::Record;
 pub use sheet_spec::Written;
 pub use sheet_spec::refusals;
 use sheet_spec::refusals::HEAD;
 use sheet_spec::refusals::LENGTH;
 use sheet_spec::sizes;
 pub use sheet_spec::slots;
-use sheet_spec::slots::BANDS;
-use sheet_spec::slots::BOXES;
 use sheet_spec::slots::SLOTS;
-use sheet_spec::slots::VARS;
 
 // A refusal, or 0 and a sheet's numbers.
 pub struct Parsed {
@@ -39,18 +38,16 @@ fn clear(v: &mut [i32; SLOTS])
 
 // What follows the head's numbers, once they were read and tested.
 fn read_rest(f: &[u8], v: &mut [i32; SLOTS]) -> u8
-    requires { ⌜ leb capsAt (length (now f)) && marked (now f) 0 head ≡ true ⌝ }
+    requires { ⌜ leb capsAt (length (now f)) && marked (now f) 0 Head ≡ true ⌝ }
     requires { ⌜ (now v ≡ headOf (now f)) × (0 ≡ bad headFields (now v) headSize) ⌝ }
     ensures { λ r. ⌜ (r ≡ refusal (now (f .entry))) × (r ≡ 0 → now (v .exit) ≡ contents (now (f .entry))) ⌝ }
 {
-    let n = count(v, VARS);
-    let bands = count(v, BANDS);
-    let boxes = count(v, BOXES);
-    if f.len() != marks::file_length(n, bands, boxes) {
+    let shape = records::shape_of(v);
+    if f.len() != records::file_length(shape) {
         return LENGTH;
     }
-    sheet_reader::read_records(f, n, bands, boxes, v);
-    sheet_reader::bad_file(f, n, bands, boxes, v)
+    sheet_reader::read_records(f, shape, v);
+    sheet_reader::bad_file(f, shape, v)
 }
 
 fn read_cleared(f: &[u8], v: &mut [i32; SLOTS]) -> u8
@@ -60,11 +57,11 @@ fn read_cleared(f: &[u8], v: &mut [i32; SLOTS]) -> u8
     if f.len() < sizes::CAPS_AT {
         return HEAD;
     }
-    let right = marks::marked(f, 0, marks::mark_of(0, 0, 0));
+    let right = marks::marked(f, 0, Record::Head);
     if !right {
         return HEAD;
     }
-    sheet_reader::read_head(f, v);
+    sheet_reader::read_head(f, 0, v);
     let x = sheet_validation::bad_head(v);
     if x != 0 {
         return x;

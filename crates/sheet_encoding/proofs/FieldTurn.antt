@@ -7,7 +7,7 @@ use native.Mathlib.Nat.{add-zero, mul-le-mul-right}
 use lib.IntN.{ℤ}
 use lib.ListN.{set, drop}
 use Rattle.sheet_spec.specs.Slots.{headSize, bandSlot, firstRow, safetyLeastSlot, safetyGreatestSlot, pairSize}
-use Rattle.sheet_spec.specs.Refusals.{orElse}
+use Rattle.sheet_spec.specs.Refusals.{unlessRefused}
 use Rattle.sheet_spec.specs.Fields.{i32, decoded, test, offset, filled, bad}
 use Rattle.sheet_spec.specs.Sizes.{capBytes, safetyLeastAt, safetyGreatestAt, rowBytes, upperAt, boxBytes, coefficientBytes}
 use Rattle.sheet_spec.specs.Layout.{_▸_, capField, headFields, edgeField, rowFields, bandFields, sideFields, boxFields, rowRest}
@@ -28,7 +28,7 @@ pub filled-rest : (n s q : ℕ) (f : List ℕ) (at : ℕ) (v : List ℤ) (a : �
 filled-rest n s q f at v a hi hz ha =
     filled-next (rowFields n s) (n + q) (n + suc q) (omega arith) _ (rest-at n s q) f at v a hi hz (omega (arith, rest-offset n s q))
 
-pub bad-rest : (n s q : ℕ) (v : List ℤ) {y z : ℕ} → y ≡ orElse z (test v (rowRest s q)) → z ≡ bad (rowFields n s) v (n + q) → y ≡ bad (rowFields n s) v (n + suc q)
+pub bad-rest : (n s q : ℕ) (v : List ℤ) {y z : ℕ} → y ≡ unlessRefused z (λ c. c) (test v (rowRest s q)) → z ≡ bad (rowFields n s) v (n + q) → y ≡ bad (rowFields n s) v (n + suc q)
 bad-rest n s q v = bad-next (rowFields n s) (n + q) (n + suc q) (omega arith) (rowRest s q) (rest-at n s q) v
 
 -- a band's edge and safety range

@@ -10,38 +10,36 @@ use lib.ListN.{length}
 use lib.Signed.{_≤ℤ_}
 use borrow.Author.Tests.{le-leb, lt-leb}
 use Rattle.integers.proofs.Z.{ints}
-use Rattle.sheet_spec.specs.Limits.{maxBands, maxBoxes}
-use Rattle.sheet_spec.specs.Slots.{_!_, N, headSize, vars, bands, boxes, varsSlot, bandsSlot, boxesSlot}
+use Rattle.sheet_spec.specs.Slots.{_!_, headSize, varsSlot, bandsSlot, boxesSlot}
 use Rattle.sheet_spec.specs.Refusals.{Cause, number}
-use Rattle.sheet_spec.specs.File.{sized, Shape, shape, records, recordAt, fieldsAt, countAt, start, filledAll, marked, markedAt, badAll}
+use Rattle.sheet_spec.specs.declared.Shape.{Shape}
+use Rattle.sheet_spec.specs.declared.Record.the-variants.{Head}
+use Rattle.sheet_spec.specs.File.{shape, Small, records, recordAt, fieldsAt, countAt, start, filledAll, marked, markedAt, badAll}
 use Rattle.sheet_spec.specs.Fields.{offset, filled, bad}
 use Rattle.sheet_spec.specs.Sizes.{letters, capsAt}
-use Rattle.sheet_spec.specs.Layout.{_▸_, capField, head, headFields, fields}
+use Rattle.sheet_spec.specs.Layout.{_▸_, capField, headFields, fields}
 use Rattle.sheet_spec.specs.Sheet.{zeros, headOf, shapeOf, contents, refusal}
-use Rattle.sheet_spec.proofs.Laws.{bad-ranges}
+use Rattle.sheet_spec.proofs.Tests.{bad-ranges}
 use Rattle.sheet_spec.proofs.Ranges.{small}
 use Rattle.sheet_spec.proofs.Answers.{refused-beginning, refused-size, answer}
 use Rattle.sheet_spec.proofs.FieldRuns.{filled-part}
 use Rattle.sheet_encoding.proofs.FieldTurn.{cap-run}
 
--- the counts of a head whose numbers are in range
+-- the counts of a head whose numbers are in range are not below 0, and there is room for them
 pub record Counts (v : List ℤ) : Type 0 where
-  pub vars-low : pos 0 ≤ℤ v ! varsSlot
-  pub bands-low : pos 0 ≤ℤ v ! bandsSlot
-  pub boxes-low : pos 0 ≤ℤ v ! boxesSlot
-  pub vars-high : vars v ≤ N
-  pub bands-high : bands v ≤ maxBands
-  pub boxes-high : boxes v ≤ maxBoxes
+  pub vars : pos 0 ≤ℤ v ! varsSlot
+  pub bands : pos 0 ≤ℤ v ! bandsSlot
+  pub boxes : pos 0 ≤ℤ v ! boxesSlot
+  pub small : Small (shape v)
 
 pub counts : (v : List ℤ) → 0 ≡ bad headFields v headSize → Counts v
 unfolding headFields _▸_
 counts v e =
     let r = bad-ranges headFields v headSize (sym e) in
-    let s = small v r in
     let n = r .at varsSlot (omega arith) .low in
     let b = r .at bandsSlot (omega arith) .low in
     let g = r .at boxesSlot (omega arith) .low in
-    record { vars-low = omega (ints, n); bands-low = omega (ints, b); boxes-low = omega (ints, g); vars-high = omega (arith, s .vars); bands-high = s .bands; boxes-high = s .boxes }
+    record { vars = omega (ints, n); bands = omega (ints, b); boxes = omega (ints, g); small = small v r }
 
 -- reading the head again changes nothing
 head-again : (f : List ℕ) → filled headFields f letters headSize (headOf f) ≡ headOf f
@@ -56,34 +54,34 @@ all-again s f zero =
     ∙ sym (filled-part headFields capField headSize (s .vars) (cap-run (s .vars)) f letters zeros)
 all-again s f (suc r) = ap (filled (fieldsAt s (suc r)) f (start s (suc r) + letters) (countAt s (suc r))) (all-again s f r)
 
--- where h is the head as read, its numbers are in range, and n, b and g are its counts
-module _ (f : List ℕ) (h : List ℤ) (n b g : ℕ) (begun : leb capsAt (length f) && marked f 0 head ≡ true) (hh : h ≡ headOf f)
-    (in-range : 0 ≡ bad headFields h headSize) (hn : n ≡ vars h) (hb : b ≡ bands h) (hg : g ≡ boxes h) where
+-- where h is the head as read, its numbers are in range, and s has its counts
+module _ (f : List ℕ) (h : List ℤ) (s : Shape) (begun : leb capsAt (length f) && marked f 0 Head ≡ true) (hh : h ≡ headOf f)
+    (in-range : 0 ≡ bad headFields h headSize) (hs : s ≡ shape h) where
   headed : 0 ≡ bad headFields (headOf f) headSize
   headed = in-range ∙ ap (λ (u : List ℤ). bad headFields u headSize) hh
 
-  same : sized n b g ≡ shapeOf f
+  same : s ≡ shapeOf f
   unfolding shapeOf
-  same = ap (λ (k : ℕ). sized k b g) hn ∙ ap₂ (sized (vars h)) hb hg ∙ ap (λ (u : List ℤ). shape u) hh
+  same = hs ∙ ap (λ (u : List ℤ). shape u) hh
 
-  size-is : start (sized n b g) (records (sized n b g)) ≡ start (shapeOf f) (records (shapeOf f))
+  size-is : start s (records s) ≡ start (shapeOf f) (records (shapeOf f))
   size-is = ap (λ (s : Shape). start s (records s)) same
 
-  pub rest-short : {l : ℕ} → l ≡ start (sized n b g) (records (sized n b g)) → (length f ≡ l → ⊥) → number Cause.length ≡ refusal f
+  pub rest-short : {l : ℕ} → l ≡ start s (records s) → (length f ≡ l → ⊥) → number Cause.length ≡ refusal f
   rest-short e q = refused-size f begun headed (λ p. q (p ∙ sym (e ∙ size-is)))
 
-  module _ {l x : ℕ} {w : List ℤ} (e : l ≡ start (sized n b g) (records (sized n b g))) (q : length f ≡ l)
-      (hw : w ≡ filledAll (sized n b g) f (records (sized n b g)) h) (hx : x ≡ badAll (markedAt (sized n b g) f) (sized n b g) w (records (sized n b g))) where
+  module _ {l x : ℕ} {w : List ℤ} (e : l ≡ start s (records s)) (q : length f ≡ l)
+      (hw : w ≡ filledAll s f (records s) h) (hx : x ≡ badAll (markedAt s f) s w (records s)) where
     rest-contents : w ≡ contents f
     unfolding contents
     rest-contents =
-        let c : records (sized n b g) ≡ suc (b + g + 1) = omega arith in
-        hw ∙ ap₂ (λ (k : ℕ) (u : List ℤ). filledAll (sized n b g) f k u) c hh ∙ all-again (sized n b g) f (b + g + 1)
-        ∙ ap (λ (k : ℕ). filledAll (sized n b g) f k zeros) (sym c) ∙ ap (λ (s : Shape). filledAll s f (records s) zeros) same
+        let c : records s ≡ suc (s .bands + s .boxes + 1) = omega arith in
+        hw ∙ ap₂ (λ (k : ℕ) (u : List ℤ). filledAll s f k u) c hh ∙ all-again s f (s .bands + s .boxes + 1)
+        ∙ ap (λ (k : ℕ). filledAll s f k zeros) (sym c) ∙ ap (λ (s : Shape). filledAll s f (records s) zeros) same
 
     rest-refusal : x ≡ refusal f
     rest-refusal =
-        hx ∙ ap (λ (u : List ℤ). badAll (markedAt (sized n b g) f) (sized n b g) u (records (sized n b g))) rest-contents
+        hx ∙ ap (λ (u : List ℤ). badAll (markedAt s f) s u (records s)) rest-contents
         ∙ ap (λ (s : Shape). badAll (markedAt s f) s (contents f) (records s)) same ∙ answer f begun headed (q ∙ e ∙ size-is)
 
     pub rest-read : (x ≡ refusal f) × (x ≡ 0 → w ≡ contents f)
@@ -95,8 +93,8 @@ module _ (f : List ℕ) where
   pub begins-short : length f < capsAt → number Cause.head ≡ refusal f
   begins-short l = refused-beginning f (rw (lt-leb capsAt (length f) l))
 
-  pub begins-wrong : {t : Bool} → capsAt ≤ length f → t ≡ marked f 0 head → t ≡ false → number Cause.head ≡ refusal f
+  pub begins-wrong : {t : Bool} → capsAt ≤ length f → t ≡ marked f 0 Head → t ≡ false → number Cause.head ≡ refusal f
   begins-wrong l e h = refused-beginning f (rw (le-leb capsAt (length f) l) (sym e ∙ h))
 
-  pub begins : {t : Bool} → capsAt ≤ length f → t ≡ marked f 0 head → t ≡ true → leb capsAt (length f) && marked f 0 head ≡ true
+  pub begins : {t : Bool} → capsAt ≤ length f → t ≡ marked f 0 Head → t ≡ true → leb capsAt (length f) && marked f 0 Head ≡ true
   begins l e h = rw (le-leb capsAt (length f) l) (sym e ∙ h)

@@ -1,16 +1,11 @@
-// The records of a file: their marks and their lengths.
+// The marks of a file's records.
 ghost use mathlib.Core.Path.{_≡_};
-ghost use mathlib.Core.Bool.{_&&_};
-ghost use Prim.Native.Nat.{ℕ, _+_, _≤_, _<_};
-ghost use lib.Dec.{eqb};
-ghost use lib.ListN.{length, getD};
-ghost use Rattle.sheet_spec.specs.Limits.{maxBands, maxBoxes};
-ghost use Rattle.sheet_spec.specs.Slots.{N};
-ghost use Rattle.sheet_spec.specs.File.{sized, records, recordAt, fieldsAt, countAt, start};
-ghost use Rattle.sheet_spec.specs.Fields.{offset};
+ghost use Prim.Native.Nat.{_+_, _≤_};
+ghost use lib.ListN.{length};
 ghost use Rattle.sheet_spec.specs.Sizes.{letters};
 ghost use Rattle.sheet_spec.specs.Layout.{mark};
-use sheet_spec::sizes::*;
+ghost use Rattle.sheet_spec.specs.File.{marked};
+use sheet_spec::Record;
 
 // The letters that a record starts with.
 pub struct Mark {
@@ -18,67 +13,39 @@ pub struct Mark {
     pub second: u8,
 }
 
-pub fn mark_of(bands: usize, boxes: usize, r: usize) -> Mark
-    requires { ⌜ (bands ≤ maxBands) × ((boxes ≤ maxBoxes) × (r < bands + boxes + 2)) ⌝ }
-    ensures { λ m. ⌜ ((n : ℕ) → (m .first ≡ mark (recordAt (sized n bands boxes) r) .0) × (m .second ≡ mark (recordAt (sized n bands boxes) r) .1)) ⌝ }
+pub fn mark_of(record: Record) -> Mark
+    ensures { λ m. ⌜ (m .first ≡ mark «record» .0) × (m .second ≡ mark «record» .1) ⌝ }
 {
-    if r == 0 {
-        return Mark {
+    match record {
+        Record::Head => Mark {
             first: b'S',
             second: b'H',
-        };
-    }
-    if r <= bands {
-        return Mark {
+        },
+        Record::Band(_) => Mark {
             first: b'B',
             second: b'D',
-        };
-    }
-    if r <= bands + boxes {
-        return Mark {
+        },
+        Record::Unsafe(_) => Mark {
             first: b'N',
             second: b'G',
-        };
-    }
-    Mark {
-        first: b'R',
-        second: b'C',
+        },
+        Record::Recovery => Mark {
+            first: b'R',
+            second: b'C',
+        },
     }
 }
 
-pub fn marked(f: &[u8], at: usize, m: Mark) -> bool
+// The record's mark is at a place.
+pub fn marked(f: &[u8], at: usize, record: Record) -> bool
     requires { ⌜ at + letters ≤ length (now f) ⌝ }
-    ensures { λ r. ⌜ r ≡ eqb (getD (now (f .entry)) at 0) (m .first) && eqb (getD (now (f .entry)) (at + 1) 0) (m .second) ⌝ }
+    ensures { λ r. ⌜ r ≡ marked (now (f .entry)) at «record» ⌝ }
 {
+    let m = mark_of(record);
     let first = m.first;
     let second = m.second;
     if f[at] != first {
         return false;
     }
     f[at + 1] == second
-}
-
-// The bytes of a record.
-pub fn record_length(n: usize, bands: usize, boxes: usize, r: usize) -> usize
-    requires { ⌜ (n ≤ N) × ((bands ≤ maxBands) × ((boxes ≤ maxBoxes) × (r < records (sized n bands boxes)))) ⌝ }
-    ensures { λ l. ⌜ l ≡ letters + offset (fieldsAt (sized n bands boxes) r) (countAt (sized n bands boxes) r) ⌝ }
-{
-    if r == 0 {
-        return CAPS_AT + U16 * n;
-    }
-    if r <= bands {
-        return BAND_HEAD + n * (I16 * n + REST_BYTES);
-    }
-    LETTERS + PAIR_BYTES * n
-}
-
-// The bytes of a sheet.
-pub fn file_length(n: usize, bands: usize, boxes: usize) -> usize
-    requires { ⌜ (n ≤ N) × ((bands ≤ maxBands) × (boxes ≤ maxBoxes)) ⌝ }
-    ensures { λ l. ⌜ l ≡ start (sized n bands boxes) (records (sized n bands boxes)) ⌝ }
-{
-    CAPS_AT
-        + U16 * n
-        + bands * (BAND_HEAD + n * (I16 * n + REST_BYTES))
-        + (LETTERS + PAIR_BYTES * n) * (boxes + 1)
 }

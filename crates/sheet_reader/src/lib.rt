@@ -2,51 +2,56 @@
 // fields in the file's order. `sheet::read_zeroed` puts them together; what is read is equal to `filledAll` in
 // sheet_spec/specs/File.
 ghost use mathlib.Core.Path.{_≡_};
-ghost use mathlib.Core.Bool.{true, false};
 ghost use Prim.Native.Nat.{ℕ, _+_, _≤_, _<_};
 ghost use lib.ListN.{length};
-ghost use Rattle.sheet_spec.specs.Limits.{maxBands, maxBoxes};
+ghost use Rattle.sheet_spec.specs.Limits.{maxBands};
 ghost use Rattle.sheet_spec.specs.Slots.{N, headSize, rowSize, boxSize, slots};
-ghost use Rattle.sheet_spec.specs.Refusals.{Cause, number};
-ghost use Rattle.sheet_spec.specs.File.{sized, records, fieldsAt, countAt, start, filledAll, markedAt, badAll};
-ghost use Rattle.sheet_spec.specs.Fields.{offset, filled};
+ghost use Rattle.sheet_spec.specs.Refusals.{Cause, refuseUnless, unlessRefused};
+ghost use Rattle.sheet_spec.specs.File.{Small, HasRoom, records, recordLength, start, filledAll, markedAt, badAll};
+ghost use Rattle.sheet_spec.specs.Fields.{filled};
 ghost use Rattle.sheet_spec.specs.Sizes.{letters, capsAt, capBytes, rowBytes, bandBytes, boxBytes};
-ghost use Rattle.sheet_spec.specs.Layout.{headFields, rowFields, rowCount, bandFields, bandCount, boxFields, boxCount};
+ghost use Rattle.sheet_spec.specs.Layout.{headFields, rowFields, rowCount, bandFields, bandCount, boxFields, boxCount, fields, count};
 use sheet_encoding::bytes::get_i16;
 use sheet_encoding::bytes::get_i32;
 use sheet_encoding::bytes::get_u8;
 use sheet_encoding::bytes::get_u16;
-use sheet_encoding::marks::*;
+use sheet_encoding::marks::marked;
+use sheet_encoding::records::record_at;
+use sheet_encoding::records::record_count;
+use sheet_encoding::records::record_length;
+use sheet_spec::Record;
+use sheet_spec::Shape;
 use sheet_spec::refusals::MARK;
 use sheet_spec::sizes::*;
 use sheet_spec::slots::*;
 use sheet_validation::bad_record;
 use sheet_validation::first;
 
-// The head's numbers but for the caps.
-pub fn read_head(f: &[u8], v: &mut [i32; SLOTS])
-    requires { ⌜ capsAt ≤ length (now f) ⌝ }
-    ensures { λ _. ⌜ now (v .exit) ≡ filled headFields (now (f .entry)) letters headSize (now (v .entry)) ⌝ }
+// The head's numbers but for the caps. The head starts at a place.
+pub fn read_head(f: &[u8], at: usize, v: &mut [i32; SLOTS])
+    requires { ⌜ at + capsAt ≤ length (now f) ⌝ }
+    ensures { λ _. ⌜ now (v .exit) ≡ filled headFields (now (f .entry)) (at + letters) headSize (now (v .entry)) ⌝ }
 {
-    v[VARS] = get_u8(f, VARS_AT);
-    v[BANDS] = get_u8(f, BANDS_AT);
-    v[BOXES] = get_u8(f, BOXES_AT);
-    v[BAND_VAR] = get_u8(f, BAND_VAR_AT);
-    v[DELTA] = get_u16(f, DELTA_AT);
-    v[ALPHA] = get_u16(f, ALPHA_AT);
-    v[RHO] = get_u16(f, RHO_AT);
-    v[LEAST] = get_i32(f, LEAST_AT);
-    v[GREATEST] = get_i32(f, GREATEST_AT);
+    v[VARS] = get_u8(f, at + VARS_AT);
+    v[BANDS] = get_u8(f, at + BANDS_AT);
+    v[BOXES] = get_u8(f, at + BOXES_AT);
+    v[BAND_VAR] = get_u8(f, at + BAND_VAR_AT);
+    v[DELTA] = get_u16(f, at + DELTA_AT);
+    v[ALPHA] = get_u16(f, at + ALPHA_AT);
+    v[RHO] = get_u16(f, at + RHO_AT);
+    v[LEAST] = get_i32(f, at + LEAST_AT);
+    v[GREATEST] = get_i32(f, at + GREATEST_AT);
 }
 
-fn read_caps(f: &[u8], n: usize, v: &mut [i32; SLOTS])
-    requires { ⌜ (n ≤ N) × (capsAt + capBytes n ≤ length (now f)) ⌝ }
-    ensures { λ _. ⌜ now (v .exit) ≡ filled headFields (now (f .entry)) letters (headSize + n) (now (v .entry)) ⌝ }
+fn read_caps(f: &[u8], at: usize, n: usize, v: &mut [i32; SLOTS])
+    requires { ⌜ (n ≤ N) × (at + (capsAt + capBytes n) ≤ length (now f)) ⌝ }
+    ensures { λ _. ⌜ now (v .exit) ≡ filled headFields (now (f .entry)) (at + letters) (headSize + n) (now (v .entry)) ⌝ }
 {
-    read_head(f, v);
+    read_head(f, at, v);
+    let caps = at + CAPS_AT;
     let mut i: usize = 0;
     while i < n {
-        v[FIRST_CAP + i] = get_u16(f, CAPS_AT + U16 * i);
+        v[FIRST_CAP + i] = get_u16(f, caps + U16 * i);
         i = i + 1;
     }
 }
@@ -100,66 +105,60 @@ fn read_box(f: &[u8], at: usize, n: usize, slot: usize, v: &mut [i32; SLOTS])
     }
 }
 
-// The numbers of the r-th record, which starts at a place.
-fn read_record(
-    f: &[u8],
-    at: usize,
-    n: usize,
-    bands: usize,
-    boxes: usize,
-    r: usize,
-    v: &mut [i32; SLOTS],
-)
-    requires { ⌜ (n ≤ N) × ((bands ≤ maxBands) × ((boxes ≤ maxBoxes) × (r < records (sized n bands boxes)))) ⌝ }
-    requires { ⌜ (at ≡ start (sized n bands boxes) r) × (at + (letters + offset (fieldsAt (sized n bands boxes) r) (countAt (sized n bands boxes) r)) ≤ length (now f)) ⌝ }
-    ensures { λ _. ⌜ now (v .exit) ≡ filled (fieldsAt (sized n bands boxes) r) (now (f .entry)) (at + letters) (countAt (sized n bands boxes) r) (now (v .entry)) ⌝ }
+// The numbers of a record, which starts at a place.
+fn read_record(f: &[u8], at: usize, shape: Shape, record: Record, v: &mut [i32; SLOTS])
+    requires { ⌜ Small shape × HasRoom «record» ⌝ }
+    requires { ⌜ at + recordLength (shape .vars) «record» ≤ length (now f) ⌝ }
+    ensures { λ _. ⌜ now (v .exit) ≡ filled (fields (shape .vars) «record») (now (f .entry)) (at + letters) (count (shape .vars) «record») (now (v .entry)) ⌝ }
 {
+    let n = shape.vars;
     let body = at + LETTERS;
-    if r == 0 {
-        read_caps(f, n, v);
-    } else if r <= bands {
-        read_band(f, body, n, r - 1, v);
-    } else if r <= bands + boxes {
-        read_box(f, body, n, FIRST_UNSAFE + (r - 1 - bands) * BOX_SIZE, v);
-    } else {
-        read_box(f, body, n, RECOVERY, v);
+    match record {
+        Record::Head => read_caps(f, at, n, v),
+        Record::Band(k) => read_band(f, body, n, k, v),
+        Record::Unsafe(j) => read_box(f, body, n, FIRST_UNSAFE + j * BOX_SIZE, v),
+        Record::Recovery => read_box(f, body, n, RECOVERY, v),
     }
 }
 
-pub fn read_records(f: &[u8], n: usize, bands: usize, boxes: usize, v: &mut [i32; SLOTS])
-    requires { ⌜ (n ≤ N) × ((bands ≤ maxBands) × (boxes ≤ maxBoxes)) ⌝ }
-    requires { ⌜ start (sized n bands boxes) (records (sized n bands boxes)) ≤ length (now f) ⌝ }
-    ensures { λ _. ⌜ now (v .exit) ≡ filledAll (sized n bands boxes) (now (f .entry)) (records (sized n bands boxes)) (now (v .entry)) ⌝ }
+pub fn read_records(f: &[u8], shape: Shape, v: &mut [i32; SLOTS])
+    requires { ⌜ Small shape × (start shape (records shape) ≤ length (now f)) ⌝ }
+    ensures { λ _. ⌜ now (v .exit) ≡ filledAll shape (now (f .entry)) (records shape) (now (v .entry)) ⌝ }
 {
+    let count = record_count(shape);
     let mut at: usize = 0;
     let mut r: usize = 0;
-    while r < bands + boxes + 2 {
-        read_record(f, at, n, bands, boxes, r, v);
-        at = at + record_length(n, bands, boxes, r);
+    while r < count {
+        let record = record_at(shape, r);
+        read_record(f, at, shape, record, v);
+        at = at + record_length(shape, record);
         r = r + 1;
     }
 }
 
 // A wrong mark comes before the record's numbers.
 fn wrong(right: bool, x: u8) -> u8
-    ensures { λ r. ⌜ r ≡ elim right [ true ↦ x | false ↦ number Cause.mark ] ⌝ }
+    ensures { λ r. ⌜ r ≡ unlessRefused (refuseUnless right Cause.mark) (λ c. c) x ⌝ }
 {
     if right { x } else { MARK }
 }
 
 // The marks and the numbers of every record, once they were read.
-pub fn bad_file(f: &[u8], n: usize, bands: usize, boxes: usize, v: &[i32; SLOTS]) -> u8
-    requires { ⌜ (n ≤ N) × ((bands ≤ maxBands) × (boxes ≤ maxBoxes)) ⌝ }
-    requires { ⌜ start (sized n bands boxes) (records (sized n bands boxes)) ≤ length (now f) ⌝ }
-    ensures { λ x. ⌜ x ≡ badAll (markedAt (sized n bands boxes) (now (f .entry))) (sized n bands boxes) (now (v .entry)) (records (sized n bands boxes)) ⌝ }
+pub fn bad_file(f: &[u8], shape: Shape, v: &[i32; SLOTS]) -> u8
+    requires { ⌜ Small shape × (start shape (records shape) ≤ length (now f)) ⌝ }
+    ensures { λ x. ⌜ x ≡ badAll (markedAt shape (now (f .entry))) shape (now (v .entry)) (records shape) ⌝ }
 {
+    let count = record_count(shape);
     let mut x: u8 = 0;
     let mut at: usize = 0;
     let mut r: usize = 0;
-    while r < bands + boxes + 2 {
-        let right = marked(f, at, mark_of(bands, boxes, r));
-        x = first(x, wrong(right, bad_record(v, n, bands, boxes, r)));
-        at = at + record_length(n, bands, boxes, r);
+    while r < count {
+        let record = record_at(shape, r);
+        let numbers = bad_record(v, shape, record);
+        let length = record_length(shape, record);
+        let right = marked(f, at, record);
+        x = first(x, wrong(right, numbers));
+        at = at + length;
         r = r + 1;
     }
     x

@@ -13,14 +13,18 @@ use Rattle.sheet_spec.specs.Slots.{_!_, slots, headSize, vars, varsSlot,
 use Rattle.sheet_spec.specs.Fields.{decoded, offset}
 use Rattle.sheet_spec.specs.Refusals.{Cause}
 use Rattle.sheet_spec.specs.Sizes.{letters, capsAt}
-use Rattle.sheet_spec.specs.Layout.{_▸_, Record, headFields, fields, count, head}
-use Rattle.sheet_spec.specs.File.{shape, records, fieldsAt, countAt, start, marked, markedAt}
-use Rattle.sheet_spec.specs.Sheet.{zeros, headOf, shapeOf, contents, stage, refusal, values}
-use Rattle.sheet_spec.proofs.Streams.{lt-or-le}
+use Rattle.sheet_spec.specs.declared.Record.{Record}
+use Rattle.sheet_spec.specs.declared.Record.the-variants.{Head}
+use Rattle.sheet_spec.specs.Layout.{_▸_, headFields, fields, count}
+use Rattle.sheet_spec.specs.declared.Shape.{Shape}
+use Rattle.sheet_spec.specs.File.{shape, Small, records, recordAt, fieldsAt, countAt, start, marked, markedAt}
+use Rattle.sheet_spec.specs.Sheet.{zeros, headOf, shapeOf, contents, stage, stages, refusal, values}
+use Rattle.sheet_spec.proofs.Streams.{Each, lt-or-le}
 use Rattle.sheet_spec.proofs.Box.{and-both}
-use Rattle.sheet_spec.proofs.Laws.{InRange, AllGood, first-none, unless-zero, bad-ranges, all-marks, all-good}
-use Rattle.sheet_spec.proofs.Records.{EachField, head-at}
-use Rattle.sheet_spec.proofs.Places.{Small, head-slot}
+use Rattle.sheet_spec.proofs.Laws.{goes-on, first-none, unless-zero}
+use Rattle.sheet_spec.proofs.Tests.{Good, AllGood, bad-ranges, mark-right, all-good}
+use Rattle.sheet_spec.proofs.Records.{head-at}
+use Rattle.sheet_spec.proofs.Places.{head-slot}
 use Rattle.sheet_spec.proofs.Filled.{filled-at, all-at}
 use Rattle.sheet_spec.proofs.Ranges.{small}
 
@@ -39,21 +43,21 @@ pub record Accepted (f : List ℕ) : Type 0 where
   pub small : Small (shapeOf f)
   pub size : length f ≡ start (shapeOf f) (records (shapeOf f))
   pub marks : (r : ℕ) → r < records (shapeOf f) → markedAt (shapeOf f) f r ≡ true
-  pub good : EachField (InRange (contents f)) (shapeOf f)
+  pub good : Each (Good (contents f) (shapeOf f)) (recordAt (shapeOf f)) (records (shapeOf f))
   pub values : values f ≡ contents f
 
 pub accepted : (f : List ℕ) → refusal f ≡ 0 → Accepted f
 unfolding refusal stage values shapeOf
 accepted f e =
     let s = shapeOf f in
-    let t = first-none (stage f) 4 e in
+    let t = first-none (stage f) stages e in
     record {
-      least = leb-true _ _ (and-both _ _ (unless-zero (leb capsAt (length f) && marked f 0 head) Cause.head (t .at 0 (omega arith))) .0);
+      least = leb-true _ _ (and-both _ _ (unless-zero (leb capsAt (length f) && marked f 0 Head) Cause.head (t .at 0 (omega arith))) .0);
       small = small (headOf f) (bad-ranges headFields (headOf f) headSize (t .at 1 (omega arith)));
       size = eqb-true _ _ (unless-zero (eqb (length f) (start s (records s))) Cause.length (t .at 2 (omega arith)));
-      marks = all-marks (markedAt s f) s (contents f) (records s) (t .at 3 (omega arith));
+      marks = mark-right (markedAt s f) s (contents f) (records s) (t .at 3 (omega arith));
       good = all-good (markedAt s f) s (contents f) (records s) (t .at 3 (omega arith));
-      values = rw (e, values);
+      values = goes-on (λ c. zeros) (contents f) e;
     }
 
 -- ---- an accepted file's values pass the writer's tests: the counts are those that the head names
@@ -85,4 +89,4 @@ module _ (f : List ℕ) (m : Small (shapeOf f)) where
   same-shape = shape-same (contents f) (headOf f) (same-head varsSlot (omega arith)) (same-head bandsSlot (omega arith)) (same-head boxesSlot (omega arith))
 
 pub contents-good : (f : List ℕ) → Accepted f → AllGood (contents f)
-contents-good f a = subst (EachField (InRange (contents f))) (sym (same-shape f (a .small))) (a .good)
+contents-good f a = subst (λ (s : Shape). Each (Good (contents f) s) (recordAt s) (records s)) (sym (same-shape f (a .small))) (a .good)

@@ -1,8 +1,8 @@
 -- What the reader and the writer answer, test by test. Assumes nothing.
-use mathlib.Core.Path.{_≡_, refl, sym, ap}
+use mathlib.Core.Path.{_≡_, refl, sym, ap, _∙_}
 use mathlib.Core.Bool.{Bool, true, false, _&&_}
 use mathlib.Core.List.{List}
-use Prim.Native.Nat.{ℕ, zero, suc, _+_, _≤_, _<_}
+use Prim.Native.Nat.{ℕ, _+_, _≤_, _<_}
 use native.Mathlib.Omega.{arith}
 use lib.Dec.{leb}
 use lib.IntN.{ℤ}
@@ -10,27 +10,28 @@ use lib.ListN.{length}
 use lib.Seq.{sets}
 use borrow.Author.Tests.{eq-eqb, ne-eqb, le-leb, lt-leb}
 use Rattle.sheet_spec.specs.Slots.{headSize, vars}
-use Rattle.sheet_spec.specs.Refusals.{Cause, number, refuseUnless, firstRefusal}
+use Rattle.sheet_spec.specs.Refusals.{Cause, number, refuseUnless, unlessRefused, firstRefusal}
 use Rattle.sheet_spec.specs.Fields.{bad, test}
 use Rattle.sheet_spec.specs.Sizes.{capsAt}
-use Rattle.sheet_spec.specs.Layout.{_▸_, head, headFields, fields}
+use Rattle.sheet_spec.specs.declared.Record.the-variants.{Head}
+use Rattle.sheet_spec.specs.Layout.{_▸_, headFields, fields}
 use Rattle.sheet_spec.specs.File.{shape, records, recordAt, start, marked, markedAt, badRecord, badAll}
-use Rattle.sheet_spec.specs.Sheet.{headOf, shapeOf, contents, stage, refusal, valueRefusal, length-of, bytesOf, writeRefusal, written}
-use Rattle.sheet_spec.proofs.Laws.{first-next, first-keep, number-is}
+use Rattle.sheet_spec.specs.Sheet.{headOf, shapeOf, contents, stage, stages, refusal, valueRefusal, length-of, bytesOf, writeRefusal, written}
+use Rattle.sheet_spec.proofs.Laws.{goes-on, stops, first-next, first-keep, number-is}
 
 -- ---- reading
 
 module _ (f : List ℕ) where
   -- the test that refuses first decides
-  at-stage : (i c : ℕ) → i < 4 → firstRefusal (stage f) i ≡ 0 → c ≡ stage f i → (c ≡ 0 → ⊥) → c ≡ refusal f
+  at-stage : (i c : ℕ) → i < stages → firstRefusal (stage f) i ≡ 0 → c ≡ stage f i → (c ≡ 0 → ⊥) → c ≡ refusal f
   unfolding refusal
-  at-stage i c l z e n = first-keep (stage f) (i + 1) 4 c (omega arith) n (first-next (stage f) i c z e)
+  at-stage i c l z e n = first-keep (stage f) (i + 1) stages c (omega arith) n (first-next (stage f) i c z e)
 
-  pub refused-beginning : leb capsAt (length f) && marked f 0 head ≡ false → number Cause.head ≡ refusal f
+  pub refused-beginning : leb capsAt (length f) && marked f 0 Head ≡ false → number Cause.head ≡ refusal f
   unfolding stage firstRefusal
-  refused-beginning e = at-stage 0 1 (omega arith) refl (ap (λ (b : Bool). refuseUnless b Cause.head) (sym e)) (number-is Cause.head)
+  refused-beginning e = at-stage 0 (number Cause.head) (omega arith) refl (ap (λ (b : Bool). refuseUnless b Cause.head) (sym e)) (number-is Cause.head)
 
-  module _ (begun : leb capsAt (length f) && marked f 0 head ≡ true) where
+  module _ (begun : leb capsAt (length f) && marked f 0 Head ≡ true) where
     one : firstRefusal (stage f) 1 ≡ 0
     unfolding stage firstRefusal
     one = first-next (stage f) 0 0 refl (ap (λ (b : Bool). refuseUnless b Cause.head) (sym begun))
@@ -47,7 +48,7 @@ module _ (f : List ℕ) where
       pub refused-size : (length f ≡ start (shapeOf f) (records (shapeOf f)) → ⊥) → number Cause.length ≡ refusal f
       unfolding stage
       refused-size n =
-          at-stage 2 5 (omega arith) two (ap (λ (b : Bool). refuseUnless b Cause.length) (sym (ne-eqb (length f) (start (shapeOf f) (records (shapeOf f))) n))) (number-is Cause.length)
+          at-stage 2 (number Cause.length) (omega arith) two (ap (λ (b : Bool). refuseUnless b Cause.length) (sym (ne-eqb (length f) (start (shapeOf f) (records (shapeOf f))) n))) (number-is Cause.length)
 
       pub answer : length f ≡ start (shapeOf f) (records (shapeOf f)) → badAll (markedAt (shapeOf f) f) (shapeOf f) (contents f) (records (shapeOf f)) ≡ refusal f
       unfolding stage refusal
@@ -58,11 +59,11 @@ module _ (f : List ℕ) where
 
 -- a bad number of the head decides before the counts count
 pub value-head : (v : List ℤ) (c : ℕ) → c ≡ bad headFields v headSize → (c ≡ 0 → ⊥) → c ≡ valueRefusal v
-unfolding valueRefusal badAll bad fields recordAt _▸_ firstRefusal
+unfolding valueRefusal badAll bad fields recordAt _▸_ firstRefusal unlessRefused
 value-head v c e n =
     let s = shape v in
     let d = first-keep (λ j. test v (headFields j)) headSize (headSize + vars v) c (omega arith) n (sym e) in
-    first-keep (badRecord (λ r. true) s v) 1 (records s) c (omega arith) n (first-next (badRecord (λ r. true) s v) 0 c refl d)
+    first-keep (badRecord (λ r. true) s v) 1 (records s) c (omega arith) n (first-next (badRecord (λ r. true) s v) 0 c refl (d ∙ sym (stops (λ c. c) _ (λ z. n (d ∙ z)))))
 
 -- a buffer of k bytes has no room for n, or has room
 no-room : (n k : ℕ) → k < n → number Cause.room ≡ refuseUnless (leb n k) Cause.room
@@ -78,20 +79,18 @@ module _ (v : List ℤ) (buffer : List ℕ) (place : ℕ) where
 
   refused : (c : ℕ) → c ≡ writeRefusal v buffer place → (c ≡ 0 → ⊥) → Answer c buffer
   unfolding written
-  refused zero e n = absurd (n refl)
-  refused (suc c) e n = record { refusal = e; left = rw (← e, written) }
+  refused c e n = record { refusal = e; left = sym (stops (λ c. buffer) _ (λ z. n (e ∙ z))) }
 
   pub write-bad : (c : ℕ) → c ≡ valueRefusal v → (c ≡ 0 → ⊥) → Answer c buffer
   unfolding writeRefusal
-  write-bad zero e n = absurd (n refl)
-  write-bad (suc c) e n = refused (suc c) (rw (← e, writeRefusal)) n
+  write-bad c e n = refused c (e ∙ sym (stops (λ c. c) _ (λ z. n (e ∙ z)))) n
 
   pub write-short : 0 ≡ valueRefusal v → length buffer < place + length-of v → Answer (number Cause.room) buffer
   unfolding writeRefusal
-  write-short e l = refused 17 (rw (← e, writeRefusal) (no-room (place + length-of v) (length buffer) l)) (number-is Cause.room)
+  write-short e l = refused (number Cause.room) (no-room (place + length-of v) (length buffer) l ∙ sym (goes-on (λ c. c) _ (sym e))) (number-is Cause.room)
 
   pub write-done : 0 ≡ valueRefusal v → place + length-of v ≤ length buffer → Answer 0 (sets buffer place (bytesOf v))
   unfolding writeRefusal written
   write-done e l =
-      let q : 0 ≡ writeRefusal v buffer place = rw (← e, writeRefusal) (some-room (place + length-of v) (length buffer) l) in
-      record { refusal = q; left = rw (← q, written) }
+      let q : 0 ≡ writeRefusal v buffer place = some-room (place + length-of v) (length buffer) l ∙ sym (goes-on (λ c. c) _ (sym e)) in
+      record { refusal = q; left = sym (goes-on (λ c. buffer) _ (sym q)) }

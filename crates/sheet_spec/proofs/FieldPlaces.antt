@@ -3,6 +3,7 @@ use mathlib.Core.Path.{_≡_, ap}
 use Prim.Native.Nat.{ℕ, suc, _+_, _*_, _<_}
 use native.Mathlib.Omega.{arith}
 use Rattle.sheet_spec.specs.Slots.{headSize, rowSlot, firstRow, pairSize}
+use Rattle.sheet_spec.specs.Limits.{maxCoefficient}
 use Rattle.sheet_spec.specs.Refusals.{Cause}
 use Rattle.sheet_spec.specs.Fields.{i16, Field}
 use Rattle.sheet_spec.specs.Layout.{_▸_, plusMinus, capField, headFields, rowRest, rowFields, bandFields, sideFields, boxFields, rowCount}
@@ -15,7 +16,7 @@ cap-at i = let e : headSize + i ≡ suc (suc (suc (suc (suc (suc (suc (suc (suc 
 
 -- a row's coefficient a, and the numbers after the coefficients
 abbrev pub coefficient : ℕ → ℕ → Field
-coefficient s j = plusMinus i16 (s + j) 1000 Cause.row
+coefficient s j = plusMinus i16 (s + j) maxCoefficient Cause.row
 
 pub coefficient-at : (n s j : ℕ) → j < n → rowFields n s j ≡ coefficient s j
 unfolding rowFields

@@ -7,20 +7,9 @@ use native.Mathlib.Nat.{add-zero, add-suc}
 use lib.IntN.{ℤ}
 use lib.ListN.{set, drop}
 use Rattle.sheet_spec.specs.Slots.{_!_}
-use Rattle.sheet_spec.specs.Refusals.{firstRefusal, orElse}
+use Rattle.sheet_spec.specs.Refusals.{firstRefusal, unlessRefused}
+use Rattle.sheet_spec.proofs.Laws.{stops-either, either-none}
 use Rattle.sheet_spec.specs.Fields.{Field, width, decoded, encoded, test, offset, filled, coded, bad}
-
-pub orElse-some : (x y : ℕ) → (x ≡ 0 → ⊥) → x ≡ orElse x y
-orElse-some zero y n = absurd (n refl)
-orElse-some (suc c) y n = refl
-
-pub orElse-none : (x : ℕ) → x ≡ orElse x 0
-orElse-none zero = refl
-orElse-none (suc c) = refl
-
-pub orElse-assoc : (x y z : ℕ) → orElse (orElse x y) z ≡ orElse x (orElse y z)
-orElse-assoc zero y z = refl
-orElse-assoc (suc c) y z = refl
 
 module _ (p q : ℕ → Field) (k : ℕ) where
   -- the m fields of p after the first k are those of q
@@ -59,15 +48,15 @@ module _ (p q : ℕ → Field) (k : ℕ) where
       (ap₂ (λ (w : List ℕ) (x : Field). w ++ encoded (x .kind) (v ! x .slot)) (coded-part m (less h) v) (last h)
       ∙ append-assoc (coded p v k) (coded q v m) (encoded (q m .kind) (v ! q m .slot)))
 
-  pub bad-part : (m : ℕ) → Run m → (v : List ℤ) → bad p v (k + m) ≡ orElse (bad p v k) (bad q v m)
+  pub bad-part : (m : ℕ) → Run m → (v : List ℤ) → bad p v (k + m) ≡ unlessRefused (bad p v k) (λ c. c) (bad q v m)
   unfolding bad firstRefusal
-  bad-part zero h v = rw (add-zero k) (orElse-none (bad p v k))
+  bad-part zero h v = rw (add-zero k) (sym (either-none (bad p v k)))
   bad-part (suc m) h v =
       rw (add-suc k m, firstRefusal)
-      (ap₂ (λ (x : ℕ) (y : Field). orElse x (test v y)) (bad-part m (less h) v) (last h) ∙ orElse-assoc (bad p v k) (bad q v m) (test v (q m)))
+      (ap₂ (λ (x : ℕ) (y : Field). unlessRefused x (λ c. c) (test v y)) (bad-part m (less h) v) (last h) ∙ stops-either (λ c. c) (test v (q m)) (bad p v k) (bad q v m))
 
-  pub bad-run : (m : ℕ) → Run m → (v : List ℤ) {x y z : ℕ} → y ≡ orElse z x → z ≡ bad p v k → x ≡ bad q v m → y ≡ bad p v (k + m)
-  bad-run m h v hy hz hx = hy ∙ ap₂ orElse hz hx ∙ sym (bad-part m h v)
+  pub bad-run : (m : ℕ) → Run m → (v : List ℤ) {x y z : ℕ} → y ≡ unlessRefused z (λ c. c) x → z ≡ bad p v k → x ≡ bad q v m → y ≡ bad p v (k + m)
+  bad-run m h v hy hz hx = hy ∙ ap₂ (λ (z x : ℕ). unlessRefused z (λ c. c) x) hz hx ∙ sym (bad-part m h v)
 
 pub offset-mono : (p : ℕ → Field) (j k : ℕ) → j ≤ k → offset p j ≤ offset p k
 offset-mono p j k l =
@@ -92,11 +81,11 @@ module _ (p : ℕ → Field) (k m : ℕ) (l : m ≡ k + 1) (x : Field) (e : p k 
       ∙ ap₂ (λ (u : List ℤ) (b : ℕ). set u (x .slot) (decoded (x .kind) (drop b f))) hw ha
       ∙ ap (λ (y : Field). set (filled p f at k v) (y .slot) (decoded (y .kind) (drop (at + offset p k) f))) (sym e))
 
-  pub bad-next : (v : List ℤ) {y z : ℕ} → y ≡ orElse z (test v x) → z ≡ bad p v k → y ≡ bad p v m
+  pub bad-next : (v : List ℤ) {y z : ℕ} → y ≡ unlessRefused z (λ c. c) (test v x) → z ≡ bad p v k → y ≡ bad p v m
   unfolding bad firstRefusal
   bad-next v h i =
-      rw (is-suc, firstRefusal) (h ∙ ap₂ (λ (z : ℕ) (y : Field). orElse z (test v y)) i (sym e))
+      rw (is-suc, firstRefusal) (h ∙ ap₂ (λ (z : ℕ) (y : Field). unlessRefused z (λ c. c) (test v y)) i (sym e))
 
 -- field k of p
-pub bad-field : (p : ℕ → Field) (v : List ℤ) (k : ℕ) {y z : ℕ} → y ≡ orElse z (test v (p k)) → z ≡ bad p v k → y ≡ bad p v (suc k)
+pub bad-field : (p : ℕ → Field) (v : List ℤ) (k : ℕ) {y z : ℕ} → y ≡ unlessRefused z (λ c. c) (test v (p k)) → z ≡ bad p v k → y ≡ bad p v (suc k)
 bad-field p v k h i = bad-next p k (suc k) (omega arith) (p k) refl v h i

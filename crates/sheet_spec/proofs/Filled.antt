@@ -12,8 +12,9 @@ use lib.Seq.{getD-set-same, getD-set-other}
 use Rattle.sheet_spec.specs.Slots.{_!_, slots}
 use Rattle.sheet_spec.specs.Fields.{Field, decoded, offset, filled}
 use Rattle.sheet_spec.specs.Sizes.{letters}
-use Rattle.sheet_spec.specs.File.{Shape, records, fieldsAt, countAt, start, filledAll}
-use Rattle.sheet_spec.proofs.Places.{Small, field-apart, record-apart, slot-lt}
+use Rattle.sheet_spec.specs.declared.Shape.{Shape}
+use Rattle.sheet_spec.specs.File.{Small, records, fieldsAt, countAt, start, filledAll}
+use Rattle.sheet_spec.proofs.Places.{field-apart, record-apart, slot-lt}
 
 -- slot i is that of one of the first k fields
 pub record Taken (p : ℕ → Field) (k i : ℕ) : Type 0 where

@@ -9,8 +9,11 @@ use Rattle.sheet_spec.specs.Slots.{headSize, rowSlot, recoverySlot, unsa
 use Rattle.sheet_spec.specs.Fields.{u16, i16, Field, width, offset}
 use Rattle.sheet_spec.specs.Sizes.{letters, capsAt, capBytes, rowsAt, coefficientBytes, rowBytes, pairBytes, boxBytes, bandHead}
 use Rattle.sheet_spec.specs.Limits.{maxUnsafeSide, maxRecoverySide}
-use Rattle.sheet_spec.specs.Layout.{_▸_, capField, headFields, edgeField, rowRest, rowFields, bandFields, sideFields, boxFields, fields, count, Record, head, band, unsafe, recovery, rowCount}
-use Rattle.sheet_spec.specs.File.{Shape, shape, records, recordAt, start}
+use Rattle.sheet_spec.specs.declared.Record.{Record}
+use Rattle.sheet_spec.specs.declared.Record.the-variants.{Head, Band, Unsafe, Recovery}
+use Rattle.sheet_spec.specs.Layout.{_▸_, capField, headFields, edgeField, rowRest, rowFields, bandFields, sideFields, boxFields, fields, count, rowCount}
+use Rattle.sheet_spec.specs.declared.Shape.{Shape}
+use Rattle.sheet_spec.specs.File.{shape, records, recordAt, start}
 use Rattle.sheet_spec.specs.Sheet.{length-of}
 use Rattle.sheet_spec.proofs.Records.{head-at, band-at, unsafe-at, recovery-at}
 use Rattle.sheet_spec.proofs.FieldRuns.{Run, offset-part}
@@ -67,17 +70,17 @@ side-offset h s i =
 
 -- the number of bytes of a record
 abbrev pub recordSize : ℕ → Record → ℕ
-recordSize n head = capsAt + capBytes n
-recordSize n (band k) = bandHead + n * rowBytes n
-recordSize n (unsafe j) = letters + boxBytes n
-recordSize n recovery = letters + boxBytes n
+recordSize n Head = capsAt + capBytes n
+recordSize n (Band k) = bandHead + n * rowBytes n
+recordSize n (Unsafe j) = letters + boxBytes n
+recordSize n Recovery = letters + boxBytes n
 
 pub record-size : (n : ℕ) (x : Record) → letters + offset (fields n x) (count n x) ≡ recordSize n x
 unfolding fields
-record-size n head = cap-offset n
-record-size n (band k) = omega (arith, row-offset n k n)
-record-size n (unsafe j) = ap (λ (a : ℕ). letters + a) (side-offset maxUnsafeSide (unsafeSlot j) n)
-record-size n recovery = ap (λ (a : ℕ). letters + a) (side-offset maxRecoverySide recoverySlot n)
+record-size n Head = cap-offset n
+record-size n (Band k) = omega (arith, row-offset n k n)
+record-size n (Unsafe j) = ap (λ (a : ℕ). letters + a) (side-offset maxUnsafeSide (unsafeSlot j) n)
+record-size n Recovery = ap (λ (a : ℕ). letters + a) (side-offset maxRecoverySide recoverySlot n)
 
 module _ (s : Shape) where
   pub start-next : (r : ℕ) {x : Record} → recordAt s r ≡ x → start s (suc r) ≡ start s r + recordSize (s .vars) x

@@ -1,8 +1,9 @@
 pub mod Box
 pub mod Streams
-pub mod Records
 pub mod Laws
 pub mod FirstRefusal
+pub mod Records
+pub mod Tests
 pub mod Causes
 pub mod Places
 pub mod Filled

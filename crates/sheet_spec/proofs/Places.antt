@@ -6,9 +6,12 @@ use native.Mathlib.Omega.{arith}
 use native.Mathlib.Nat.{mod-lt, div-add-mod', div-lt-iff-lt-mul, mul-le-mul-right}
 use Rattle.sheet_spec.specs.Slots.{N, rowSize, bandSize, boxSize, bandSlot, rowSlot, recoverySlot, unsafeSlot, slots, bSlot, cSlot, dSlot, qSlot, restSize, safetyLeastSlot, safetyGreatestSlot, pairSize, firstRow}
 use Rattle.sheet_spec.specs.Fields.{Field}
-use Rattle.sheet_spec.specs.Limits.{maxBands, maxBoxes, maxUnsafeSide, maxRecoverySide, maxVars}
-use Rattle.sheet_spec.specs.Layout.{_▸_, first, groups, always, headFields, edgeField, rowRest, rowFields, bandFields, sideFields, boxFields, fields, count, Record, head, band, unsafe, recovery, rowCount, bandCount, boxCount}
-use Rattle.sheet_spec.specs.File.{Shape, records, recordAt, fieldsAt, countAt}
+use Rattle.sheet_spec.specs.Limits.{maxBands, maxUnsafeSide, maxRecoverySide}
+use Rattle.sheet_spec.specs.declared.Record.{Record}
+use Rattle.sheet_spec.specs.declared.Record.the-variants.{Head, Band, Unsafe, Recovery}
+use Rattle.sheet_spec.specs.Layout.{_▸_, first, groups, always, headFields, edgeField, rowRest, rowFields, bandFields, sideFields, boxFields, fields, count, rowCount, bandCount, boxCount}
+use Rattle.sheet_spec.specs.declared.Shape.{Shape}
+use Rattle.sheet_spec.specs.File.{Small, records, recordAt, fieldsAt, countAt}
 use Rattle.sheet_spec.proofs.Streams.{each-first, first-low, first-high, lt-or-le, rows-more}
 use Rattle.sheet_spec.proofs.Records.{record-cases}
 
@@ -98,16 +101,16 @@ module _ (n m w lo : ℕ) (g : ℕ → ℕ → Field) (z : 0 < m) (s : (i : ℕ)
 
 -- the slots of a record start here, and the next record's here
 abbrev base : Record → ℕ
-base head = 0
-base (band k) = bandSlot k
-base (unsafe j) = unsafeSlot j
-base recovery = recoverySlot
+base Head = 0
+base (Band k) = bandSlot k
+base (Unsafe j) = unsafeSlot j
+base Recovery = recoverySlot
 
 abbrev limit : Record → ℕ
-limit head = bandSlot 0
-limit (band k) = bandSlot (suc k)
-limit (unsafe j) = unsafeSlot (suc j)
-limit recovery = unsafeSlot 0
+limit Head = bandSlot 0
+limit (Band k) = bandSlot (suc k)
+limit (Unsafe j) = unsafeSlot (suc j)
+limit Recovery = unsafeSlot 0
 
 -- fields whose slots follow one another
 spread-run : {p : ℕ → Field} (lo : ℕ) {k hi : ℕ} → ((j : ℕ) → p j .slot ≡ lo + j) → lo + k ≤ hi → Spread p k lo hi
@@ -170,10 +173,10 @@ module _ (n : ℕ) (l : n ≤ N) where
 
   spread-record : (x : Record) → Spread (fields n x) (count n x) (base x) (limit x)
   unfolding fields
-  spread-record head = spread-run 0 head-slot (omega arith)
-  spread-record (band k) = spread-band k
-  spread-record (unsafe j) = spread-most (omega arith) (spread-box maxUnsafeSide (unsafeSlot j))
-  spread-record recovery = spread-box maxRecoverySide recoverySlot
+  spread-record Head = spread-run 0 head-slot (omega arith)
+  spread-record (Band k) = spread-band k
+  spread-record (Unsafe j) = spread-most (omega arith) (spread-box maxUnsafeSide (unsafeSlot j))
+  spread-record Recovery = spread-box maxRecoverySide recoverySlot
 
 -- ---- the file's records
 
@@ -203,12 +206,6 @@ same-variable x y a b h k e =
     ⊎-elim (λ (l : a < b). absurd (let z : ⊥ = omega arith in z))
     (λ (m : b ≤ a). ⊎-elim (λ (l : b < a). absurd (let z : ⊥ = omega arith in z)) (λ (l : a ≤ b). omega arith) (lt-or-le b a)) (lt-or-le a b)
 
--- the counts are such that there is room
-pub record Small (s : Shape) : Type 0 where
-  pub vars : s .vars ≤ maxVars
-  pub bands : s .bands ≤ maxBands
-  pub boxes : s .boxes ≤ maxBoxes
-
 module _ (s : Shape) (l : Small s) where
   spread-at : (r : ℕ) → Spread (fieldsAt s r) (countAt s r) (base (recordAt s r)) (limit (recordAt s r))
   spread-at r = spread-record (s .vars) (omega (arith, l .vars)) (recordAt s r)
@@ -234,9 +231,9 @@ module _ (s : Shape) (l : Small s) where
   recovery-free i q b h k =
       let room : s .vars ≤ N = omega (arith, l .vars) in
       record-cases s (λ r x. (j : ℕ) → j < count (s .vars) x → fields (s .vars) x j .slot ≡ recoverySlot + i + q * N → ⊥)
-      (λ j c e. omega (arith, spread-record (s .vars) room head .high j c))
-      (λ m d j c e. omega (arith, spread-record (s .vars) room (band m) .high j c, l .bands))
-      (λ m d j c e. omega (arith, spread-record (s .vars) room (unsafe m) .low j c))
+      (λ j c e. omega (arith, spread-record (s .vars) room Head .high j c))
+      (λ m d j c e. omega (arith, spread-record (s .vars) room (Band m) .high j c, l .bands))
+      (λ m d j c e. omega (arith, spread-record (s .vars) room (Unsafe m) .low j c))
       (λ j c e.
       let z : j / pairSize ≡ i = same-variable (j / pairSize) i (j % pairSize) q (omega arith) h (omega (arith, side-slot (s .vars) room maxRecoverySide recoverySlot j)) in
       omega arith)

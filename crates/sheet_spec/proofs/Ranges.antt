@@ -12,13 +12,12 @@ use Rattle.integers.proofs.Z.{ints, flat}
 use Rattle.sheet_spec.specs.Slots.{_!_, headSize, bandSlot, rowSlot, recoverySlot, unsafeSlot, vars, bands, boxes, varsSlot, bandsSlot, boxesSlot, bandVarSlot, δSlot, αSlot, ρSlot, leastSlot, greatestSlot, restSize, pairSize, bInRest, cInRest, dInRest, qInRest, edgeInBand, leastInBand, greatestInBand}
 use Rattle.sheet_spec.specs.Valid.{Between}
 use Rattle.sheet_spec.specs.Fields.{Kind, u8, u16, i16, i32, Field}
-use Rattle.sheet_spec.specs.Limits.{maxUnsafeSide, maxRecoverySide}
+use Rattle.sheet_spec.specs.Limits.{maxEdge, maxUnsafeSide, maxRecoverySide}
 use Rattle.sheet_spec.specs.Layout.{_▸_, headFields, edgeField, rowRest, rowFields, bandFields, sideFields, boxFields, rowCount, bandCount, boxCount}
-use Rattle.sheet_spec.specs.File.{shape}
+use Rattle.sheet_spec.specs.File.{shape, Small}
 use Rattle.sheet_spec.proofs.Streams.{Each, each-next, each-first, each-groups, each-low, each-high, rows-more, caps-more}
-use Rattle.sheet_spec.proofs.Laws.{InRange, AllGood}
+use Rattle.sheet_spec.proofs.Tests.{InRange, AllInRange}
 use Rattle.sheet_spec.proofs.Records.{EachField, each-field, each-head, each-band, each-unsafe, each-recovery, each-cap, each-row, each-side}
-use Rattle.sheet_spec.proofs.Places.{Small}
 
 pub abs-in : {l h : ℕ} (z : ℤ) → Between (pos l) (pos h) z → (l ≤ natAbs z) × (natAbs z ≤ h)
 abs-in (pos n) r = (omega (ints, r .low), omega (ints, r .high))
@@ -103,8 +102,8 @@ module _ (v : List ℤ) (n : ℕ) where
       let lower = between (p .at 0 (omega arith)) e f in
       each-next _ _ lower (record { at = λ j l. between (p .at 1 (omega arith)) lower f }))
 
-module _ (v : List ℤ) (g : AllGood v) where
-  edge-in : (k : ℕ) → k < bands v → Between (negℤ (pos 2000000)) (pos 2000000) (v ! bandSlot k)
+module _ (v : List ℤ) (g : AllInRange v) where
+  edge-in : (k : ℕ) → k < bands v → Between (negℤ (pos maxEdge)) (pos maxEdge) (v ! bandSlot k)
   unfolding bandFields edgeField _▸_
   edge-in zero l = known (each-band (shape v) g 0 l .at edgeInBand (omega arith)) tt tt
   edge-in (suc k) l =

@@ -10,7 +10,8 @@ use Rattle.integers.specs.Bytes.{Bytes}
 use Rattle.sheet_spec.specs.Sheet.{refusal, values, valueRefusal, length-of, bytesOf, writeRefusal, written}
 use Rattle.sheet_spec.specs.Written.{writtenLength}
 use Rattle.sheet_spec.specs.ReadWrite.{SameOutside, ReadThenWrite, WriteThenRead}
-use Rattle.sheet_spec.proofs.Laws.{AllGood, good-value}
+use Rattle.sheet_spec.proofs.Laws.{goes-on}
+use Rattle.sheet_spec.proofs.Tests.{AllGood, good-value}
 use Rattle.sheet_spec.proofs.Accepted.{accepted, contents-good}
 use Rattle.sheet_spec.proofs.Answers.{write-done}
 use Rattle.sheet_spec.proofs.RoundTrip.{write-read, length-bytesOf, passed, written-is, read-written}
@@ -18,7 +19,7 @@ use Rattle.sheet_spec.proofs.RoundTrip.{write-read, length-bytesOf, pas
 -- the length of a sheet is answered if it is written
 pub answers-length : (v : List ℤ) (buffer : List ℕ) (place : ℕ) → writeRefusal v buffer place ≡ 0 → writtenLength v buffer place ≡ length-of v
 unfolding writtenLength
-answers-length v buffer place e = rw (e, writtenLength)
+answers-length v buffer place = goes-on (λ c. 0) (length-of v)
 
 -- the values of an accepted file are in range, and have its length
 pub values-in-range : (f : List ℕ) → refusal f ≡ 0 → valueRefusal (values f) ≡ 0
@@ -48,7 +49,7 @@ module _ (v : List ℤ) (buffer : List ℕ) (place : ℕ) (e : writeRefusal v bu
   pub same-outside : SameOutside buffer (written v buffer place) place (length-of v)
   unfolding written
   same-outside = record {
-    size = rw (e, written) (length-sets buffer place (bytesOf v));
+    size = ap length (goes-on (λ c. buffer) (sets buffer place (bytesOf v)) e) ∙ length-sets buffer place (bytesOf v);
     before = ap (take place) (written-is v buffer place e) ∙ take-at (take place buffer) _ place length-before;
     beyond =
         ap (drop (place + length-of v)) (written-is v buffer place e ∙ sym (append-assoc (take place buffer) (bytesOf v) _))

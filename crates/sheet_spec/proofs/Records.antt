@@ -6,35 +6,41 @@ use native.Mathlib.Omega.{arith}
 use Rattle.sheet_spec.specs.Slots.{headSize, rowSlot, recoverySlot, unsafeSlot, pairSize}
 use Rattle.sheet_spec.specs.Fields.{Field}
 use Rattle.sheet_spec.specs.Limits.{maxUnsafeSide, maxRecoverySide}
-use Rattle.sheet_spec.specs.Layout.{_▸_, capField, headFields, rowFields, bandFields, sideFields, boxFields, fields, count, Record, head, band, unsafe, recovery, rowCount, bandCount, boxCount}
-use Rattle.sheet_spec.specs.File.{Shape, records, recordAt}
+use Rattle.sheet_spec.specs.declared.Record.{Record}
+use Rattle.sheet_spec.specs.declared.Record.the-variants.{Head, Band, Unsafe, Recovery}
+use Rattle.sheet_spec.specs.Layout.{_▸_, capField, headFields, rowFields, bandFields, sideFields, boxFields, fields, count, rowCount, bandCount, boxCount}
+use Rattle.sheet_spec.specs.declared.Shape.{Shape}
+use Rattle.sheet_spec.specs.File.{Small, HasRoom, records, recordAt}
 use Rattle.sheet_spec.proofs.Streams.{Each, each-rest, each-group, next, first-low, first-high, first-after, lt-or-le, rows-more}
 use Rattle.sheet_spec.proofs.FieldPlaces.{cap-at}
 
 module _ (s : Shape) where
-  pub head-at : recordAt s 0 ≡ head
+  pub head-at : recordAt s 0 ≡ Head
   unfolding recordAt _▸_
   head-at = refl
 
-  pub band-at : (k : ℕ) → k < s .bands → recordAt s (1 + k) ≡ band k
+  pub band-at : (k : ℕ) → k < s .bands → recordAt s (1 + k) ≡ Band k
   unfolding recordAt
   band-at k l = next _ _ k ∙ first-low (s .bands) _ _ k l
 
-  pub unsafe-at : (j : ℕ) → j < s .boxes → recordAt s (1 + (s .bands + j)) ≡ unsafe j
+  pub unsafe-at : (j : ℕ) → j < s .boxes → recordAt s (1 + (s .bands + j)) ≡ Unsafe j
   unfolding recordAt
   unsafe-at j l = next _ _ (s .bands + j) ∙ first-after (s .bands) _ _ j ∙ first-low (s .boxes) _ _ j l
 
-  pub recovery-at : recordAt s (1 + (s .bands + s .boxes)) ≡ recovery
+  pub beyond-at : (j : ℕ) → s .boxes ≤ j → recordAt s (1 + (s .bands + j)) ≡ Recovery
   unfolding recordAt
-  recovery-at = next _ _ (s .bands + s .boxes) ∙ first-after (s .bands) _ _ (s .boxes) ∙ first-high (s .boxes) _ _ (s .boxes) (omega arith)
+  beyond-at j l = next _ _ (s .bands + j) ∙ first-after (s .bands) _ _ j ∙ first-high (s .boxes) _ _ j l
+
+  pub recovery-at : recordAt s (1 + (s .bands + s .boxes)) ≡ Recovery
+  recovery-at = beyond-at (s .boxes) (omega arith)
 
   -- what holds of the four kinds holds of each record
   module _ (P : ℕ → Record → Type 0) where
     put : (m r : ℕ) {x : Record} → m ≡ r → recordAt s m ≡ x → P m x → P r (recordAt s r)
     put m r e q a = subst (λ (r : ℕ). P r (recordAt s r)) e (subst (P m) (sym q) a)
 
-    pub record-cases : P 0 head → ((k : ℕ) → k < s .bands → P (1 + k) (band k)) → ((j : ℕ) → j < s .boxes → P (1 + (s .bands + j)) (unsafe j))
-        → P (1 + (s .bands + s .boxes)) recovery → (r : ℕ) → r < records s → P r (recordAt s r)
+    pub record-cases : P 0 Head → ((k : ℕ) → k < s .bands → P (1 + k) (Band k)) → ((j : ℕ) → j < s .boxes → P (1 + (s .bands + j)) (Unsafe j))
+        → P (1 + (s .bands + s .boxes)) Recovery → (r : ℕ) → r < records s → P r (recordAt s r)
     record-cases a b c d r l =
         ⊎-elim (λ (q : r < 1). put 0 r (omega arith) head-at a)
         (λ (p : 1 ≤ r).
@@ -47,6 +53,10 @@ module _ (s : Shape) where
         (lt-or-le j (s .boxes)))
         (lt-or-le k (s .bands)))
         (lt-or-le r 1)
+
+  -- there is room for each record of a sheet for which there is
+  pub room-at : Small s → (r : ℕ) → r < records s → HasRoom (recordAt s r)
+  room-at l = record-cases (λ r. HasRoom) tt (λ k h. omega (arith, l .bands)) (λ j h. omega (arith, l .boxes)) tt
 
 -- ---- fields
 

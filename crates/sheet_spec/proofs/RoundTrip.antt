@@ -1,5 +1,5 @@
 -- The round trips: what was read is written to the same bytes, and what was written is read as the same sheet. Assumes nothing.
-use mathlib.Core.Path.{_≡_, refl, sym, ap, _∙_, subst}
+use mathlib.Core.Path.{_≡_, sym, ap, _∙_, subst}
 use mathlib.Core.Bool.{true}
 use mathlib.Core.List.{List, [], _++_, append-assoc, append-nil}
 use Prim.Native.Nat.{ℕ, zero, suc, _+_, _≤_, _<_}
@@ -7,19 +7,23 @@ use native.Mathlib.Omega.{arith}
 use lib.Dec.{leb}
 use lib.IntN.{ℤ}
 use lib.ListN.{length, take, drop}
-use lib.Seq.{take-all, take-at, drop-at, length-take-le, sets-eq}
+use lib.Seq.{sets, take-all, take-at, drop-at, length-take-le, sets-eq}
 use borrow.Author.Tests.{eq-eqb, le-leb, leb-true}
 use Rattle.integers.specs.Bytes.{Bytes}
 use Rattle.sheet_spec.specs.Slots.{_!_, headSize, varsSlot, bandsSlot, boxesSlot}
-use Rattle.sheet_spec.specs.Refusals.{Cause, refuseUnless}
+use Rattle.sheet_spec.specs.Refusals.{Cause}
 use Rattle.sheet_spec.specs.Fields.{decoded, offset}
 use Rattle.sheet_spec.specs.Sizes.{letters, capsAt}
-use Rattle.sheet_spec.specs.Layout.{_▸_, Record, head, headFields, fields, count}
-use Rattle.sheet_spec.specs.File.{Shape, shape, records, fieldsAt, start, filledAll, codedAll, marked, markedAt, badAll}
-use Rattle.sheet_spec.specs.Sheet.{zeros, headOf, shapeOf, contents, stage, refusal, values, valueRefusal, length-of, bytesOf, writeRefusal, written, Same}
+use Rattle.sheet_spec.specs.declared.Record.{Record}
+use Rattle.sheet_spec.specs.declared.Record.the-variants.{Head}
+use Rattle.sheet_spec.specs.Layout.{_▸_, headFields, fields, count}
+use Rattle.sheet_spec.specs.declared.Shape.{Shape}
+use Rattle.sheet_spec.specs.File.{shape, records, fieldsAt, start, filledAll, codedAll, marked, markedAt, badAll}
+use Rattle.sheet_spec.specs.Sheet.{zeros, headOf, shapeOf, contents, stage, stages, refusal, values, valueRefusal, length-of, bytesOf, writeRefusal, written, Same}
 use Rattle.sheet_spec.proofs.Streams.{Each}
 use Rattle.sheet_spec.proofs.Records.{EachField, each-head, head-at}
-use Rattle.sheet_spec.proofs.Laws.{InRange, AllGood, unless-zero, value-good, none-first, ranges-bad, good-all}
+use Rattle.sheet_spec.proofs.Laws.{goes-on, none-either, none-first, unless-zero}
+use Rattle.sheet_spec.proofs.Tests.{InRange, AllGood, good-ranges, value-good, ranges-bad, good-all}
 use Rattle.sheet_spec.proofs.Filled.{all-at}
 use Rattle.sheet_spec.proofs.Ranges.{small, all-fit}
 use Rattle.sheet_spec.proofs.Accepted.{accepted, head-number, number-at, shape-same, same-shape, length-zeros}
@@ -39,7 +43,7 @@ write-read f b e =
 -- a file of the right length that says a sheet whose numbers are in range is accepted, and is read as that sheet
 module _ (v : List ℤ) (f : List ℕ) (g : AllGood v) (size : length f ≡ start (shape v) (records (shape v))) (t : Says (shape v) f v (records (shape v))) where
   nine : Each (InRange v) headFields headSize
-  nine = record { at = λ j l. each-head (shape v) g .at j (omega arith) }
+  nine = record { at = λ j l. each-head (shape v) (good-ranges v (shape v) g) .at j (omega arith) }
 
   head-equal : Each (Equal v (headOf f)) headFields headSize
   unfolding fields start
@@ -59,7 +63,7 @@ module _ (v : List ℤ) (f : List ℕ) (g : AllGood v) (size : length f ≡ star
       subst (λ (u : Shape). EachField (Equal v (filledAll u f (records u) zeros)) s) shape-is
       (record { at = λ r l. record { at = λ j k. t .numbers r l j k ∙ sym (all-at s f (small v nine) zeros length-zeros (records s) (omega arith) r l j k) } })
 
-  first-mark : marked f 0 head ≡ true
+  first-mark : marked f 0 Head ≡ true
   unfolding start
   first-mark = subst (λ (x : Record). marked f 0 x ≡ true) (head-at (shape v)) (t .marks 0 (omega arith))
 
@@ -75,7 +79,7 @@ module _ (v : List ℤ) (f : List ℕ) (g : AllGood v) (size : length f ≡ star
   says-read : (refusal f ≡ 0) × Same v (values f)
   unfolding refusal
   says-read =
-      let e = none-first (stage f) 4 (record { at = λ i l. passes i }) in
+      let e = none-first (stage f) stages (record { at = λ i l. passes i }) in
       (e, record { same = λ r l j k. contents-equal .at r l .at j k ∙ ap (λ (w : List ℤ). w ! fieldsAt (shape v) r j .slot) (sym (accepted f e .values)) })
 
 pub read-write : (v : List ℤ) → valueRefusal v ≡ 0 → (refusal (bytesOf v) ≡ 0) × Same v (values (bytesOf v))
@@ -84,7 +88,7 @@ read-write v e =
     let g = value-good v e in
     let s = shape v in
     says-read v (bytesOf v) g (length-codedAll s v (records s))
-    (subst (λ (f : List ℕ). Says s f v (records s)) (append-nil (bytesOf v)) (says s v (records s) [] (all-fit v g .at)))
+    (subst (λ (f : List ℕ). Says s f v (records s)) (append-nil (bytesOf v)) (says s v (records s) [] (all-fit v (good-ranges v s g) .at)))
 
 -- ---- in a buffer
 
@@ -95,18 +99,16 @@ length-bytesOf v = length-codedAll (shape v) v (records (shape v))
 module _ (v : List ℤ) (buffer : List ℕ) (place : ℕ) (e : writeRefusal v buffer place ≡ 0) where
   pub passed : (valueRefusal v ≡ 0) × (place + length-of v ≤ length buffer)
   unfolding writeRefusal
-  passed = go (valueRefusal v) e
-    where
-      go : (c : ℕ) → _≡_ {A = ℕ} (elim c [ zero ↦ refuseUnless (leb (place + length-of v) (length buffer)) Cause.room | suc c ↦ suc c ]) 0 → (c ≡ 0) × (place + length-of v ≤ length buffer)
-      go zero e = (refl, leb-true _ _ (unless-zero (leb (place + length-of v) (length buffer)) Cause.room e))
-      go (suc c) e = absurd (let z : ⊥ = omega arith in z)
+  passed =
+      let b = none-either (valueRefusal v) _ e in
+      (b .0, leb-true _ _ (unless-zero (leb (place + length-of v) (length buffer)) Cause.room (b .1)))
 
   -- the bytes before and after the sheet's remain
   pub written-is : written v buffer place ≡ take place buffer ++ (bytesOf v ++ drop (place + length-of v) buffer)
   unfolding written
   written-is =
-      rw (e, written)
-      (sets-eq (bytesOf v) buffer place (omega (arith, length-bytesOf v, passed .1)) ∙ append-assoc (take place buffer) (bytesOf v) _
+      goes-on (λ c. buffer) (sets buffer place (bytesOf v)) e
+      ∙ (sets-eq (bytesOf v) buffer place (omega (arith, length-bytesOf v, passed .1)) ∙ append-assoc (take place buffer) (bytesOf v) _
       ∙ ap (λ (n : ℕ). take place buffer ++ (bytesOf v ++ drop (place + n) buffer)) (length-bytesOf v))
 
   -- and the sheet's are read as the same sheet

@@ -1,5 +1,5 @@
--- Two values that agree up to the counts are in range together. Assumes nothing.
-use mathlib.Core.Path.{_≡_, refl, subst}
+-- Two values that agree up to the counts pass the same tests. Assumes nothing.
+use mathlib.Core.Path.{_≡_, refl, sym, _∙_, subst}
 use mathlib.Core.List.{List}
 use Prim.Native.Nat.{ℕ, zero, suc, _+_, _*_, _<_}
 use native.Mathlib.Omega.{arith}
@@ -9,10 +9,11 @@ use Rattle.sheet_spec.specs.Slots.{_!_, headSize, bandSlot, rowSlot, rec
 use Rattle.sheet_spec.specs.Fields.{Field}
 use Rattle.sheet_spec.specs.Limits.{maxUnsafeSide, maxRecoverySide}
 use Rattle.sheet_spec.specs.Layout.{_▸_, headFields, edgeField, rowRest, rowFields, bandFields, sideFields, boxFields, rowCount, bandCount, boxCount}
-use Rattle.sheet_spec.specs.File.{Shape}
+use Rattle.sheet_spec.specs.declared.Shape.{Shape}
+use Rattle.sheet_spec.specs.File.{records, recordAt, closing}
 use Rattle.sheet_spec.proofs.Streams.{Each, each-next, each-first, each-groups, rows-more, caps-more}
-use Rattle.sheet_spec.proofs.Records.{EachField, each-field, each-head, each-band, each-unsafe, each-recovery, each-side}
-use Rattle.sheet_spec.proofs.Laws.{InRange}
+use Rattle.sheet_spec.proofs.Records.{record-cases, EachField, each-field, each-head, each-band, each-unsafe, each-recovery, each-side}
+use Rattle.sheet_spec.proofs.Tests.{InRange, Good, good-ranges}
 use Rattle.sheet_spec.proofs.Places.{edge-slot}
 
 -- ---- a field: its value is the same in both, and so are the ends of its range
@@ -87,12 +88,20 @@ module _ (v w : List ℤ) where
         (each-next _ _ (given (each-head s e .at leastSlot (omega arith)) greatest)
         (each-next _ _ (given (each-band s e k l .at leastInBand (omega arith)) greatest) (each-groups n (rowCount n) _ (λ i m. row-ends n (rowSlot k i))))))
 
-    pub same-good : EachField (InRange v) s → EachField (InRange w) s
-    same-good g =
+    same-ranges : EachField (InRange v) s → EachField (InRange w) s
+    same-ranges g =
         each-field s (moved (each-head s e) (head-ends (s .vars) (each-head s e)) (each-head s g))
         (λ k l. moved (each-band s e k l) (band-ends k l) (each-band s g k l))
         (λ j l. moved (each-unsafe s e j l) (box-ends (s .vars) maxUnsafeSide (unsafeSlot j) (each-unsafe s e j l)) (each-unsafe s g j l))
         (moved (each-recovery s e) (box-ends (s .vars) maxRecoverySide recoverySlot (each-recovery s e)) (each-recovery s g))
+
+    -- the test of a whole record goes by the sheet's numbers up to the counts
+    pub same-closing : (r : ℕ) → r < records s → closing v s (recordAt s r) ≡ closing w s (recordAt s r)
+    unfolding closing
+    same-closing = record-cases s (λ r x. closing v s x ≡ closing w s x) refl (λ k l. refl) (λ j l. refl) refl
+
+    pub same-good : Each (Good v s) (recordAt s) (records s) → Each (Good w s) (recordAt s) (records s)
+    same-good g = record { at = λ r l. record { ranges = same-ranges (good-ranges v s g) .at r l; closed = sym (same-closing r l) ∙ g .at r l .closed } }
 
   -- the head alone, up to the commands
   pub same-head : Each Equal headFields headSize → Each (InRange v) headFields headSize → Each (InRange w) headFields headSize

@@ -15,8 +15,10 @@ use Rattle.integers.proofs.Bytes.{two}
 use Rattle.sheet_spec.specs.Slots.{_!_}
 use Rattle.sheet_spec.specs.Fields.{decoded, offset, coded}
 use Rattle.sheet_spec.specs.Sizes.{letters}
-use Rattle.sheet_spec.specs.Layout.{Record, mark}
-use Rattle.sheet_spec.specs.File.{Shape, recordAt, fieldsAt, countAt, start, recordBytes, codedAll, marked, markedAt}
+use Rattle.sheet_spec.specs.declared.Record.{Record}
+use Rattle.sheet_spec.specs.Layout.{mark}
+use Rattle.sheet_spec.specs.declared.Shape.{Shape}
+use Rattle.sheet_spec.specs.File.{recordAt, fieldsAt, countAt, start, recordBytes, codedAll, marked, markedAt}
 use Rattle.sheet_spec.proofs.Streams.{Each}
 use Rattle.sheet_spec.proofs.Box.{and-both}
 use Rattle.sheet_spec.proofs.Ranges.{FieldFits}

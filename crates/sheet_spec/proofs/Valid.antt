@@ -13,12 +13,14 @@ use Rattle.integers.proofs.Z.{ints, flat}
 use Rattle.sheet_spec.specs.Slots.{_!_, N, slots, bandSlot, recoverySlot, unsafeSlot, vars, bands, row, varsSlot, bandsSlot, boxesSlot, bandVarSlot, δSlot, αSlot, ρSlot, leastSlot, greatestSlot, restSize, pairSize, bInRest, cInRest, dInRest, qInRest, edgeInBand, leastInBand, greatestInBand}
 use Rattle.sheet_spec.specs.Valid.{ValidRow, ValidBox, Valid}
 use Rattle.sheet_spec.specs.Fields.{Kind, u8, u16, i16, i32}
-use Rattle.sheet_spec.specs.Limits.{maxUnsafeSide, maxRecoverySide}
+use Rattle.sheet_spec.specs.Limits.{maxEdge, maxUnsafeSide, maxRecoverySide}
 use Rattle.sheet_spec.specs.Layout.{_▸_, headFields, edgeField, rowRest, rowFields, bandFields, sideFields, boxFields, boxCount}
-use Rattle.sheet_spec.specs.File.{Shape, shape, records, fieldsAt}
+use Rattle.sheet_spec.specs.declared.Shape.{Shape}
+use Rattle.sheet_spec.specs.File.{shape, records, fieldsAt}
 use Rattle.sheet_spec.specs.Sheet.{zeros, shapeOf, contents, refusal, values}
 use Rattle.sheet_spec.proofs.Streams.{Each, each-next, each-low, each-high}
-use Rattle.sheet_spec.proofs.Laws.{InRange, AllGood}
+use Rattle.sheet_spec.proofs.Laws.{stops}
+use Rattle.sheet_spec.proofs.Tests.{InRange, AllInRange, good-ranges}
 use Rattle.sheet_spec.proofs.Records.{each-head, each-band, each-unsafe, each-recovery, each-cap, each-row, each-side}
 use Rattle.sheet_spec.proofs.Places.{head-slot, recovery-free}
 use Rattle.sheet_spec.proofs.Filled.{TakenAll, origin-all, length-all}
@@ -34,7 +36,7 @@ fits-kind i32 r = simp flat (omega (ints, r .low, r .high))
 zero-fits : SFits w32 (pos 0)
 zero-fits = record { sfits = omega arith }
 
-module _ (v : List ℤ) (g : AllGood v) where
+module _ (v : List ℤ) (g : AllInRange v) where
   valid-row : (k i : ℕ) → k < bands v → i < vars v → ValidRow (vars v) (row v k i)
   unfolding rowFields rowRest _▸_
   valid-row k i l m =
@@ -80,7 +82,7 @@ module _ (v : List ℤ) (g : AllGood v) where
   unfolding bandFields _▸_
   edge-at k l = each-band (shape v) g k l .at edgeInBand (omega arith)
 
-  edge-high : (k : ℕ) → k < bands v → v ! bandSlot k ≤ℤ pos 2000000
+  edge-high : (k : ℕ) → k < bands v → v ! bandSlot k ≤ℤ pos maxEdge
   unfolding edgeField
   edge-high zero l = omega (ints, edge-at 0 l .high)
   edge-high (suc k) l = edge-at (suc k) l .high
@@ -130,6 +132,9 @@ module _ (v : List ℤ) (g : AllGood v) where
       }
 
 module _ (f : List ℕ) (a : Accepted f) where
+  in-range : AllInRange (contents f)
+  in-range = good-ranges (contents f) (shape (contents f)) (contents-good f a)
+
   -- a value is 0, or a field's
   zero-or-taken : (i : ℕ) → (contents f ! i ≡ pos 0) ⊎ TakenAll (shape (contents f)) (records (shape (contents f))) i
   unfolding contents
@@ -142,12 +147,12 @@ module _ (f : List ℕ) (a : Accepted f) where
       ⊎-elim (λ e. subst (SFits w32) (sym e) zero-fits)
       (λ t.
       let x = fieldsAt (shape (contents f)) (t .r) (t .taken .j) in
-      subst (λ (i : ℕ). SFits w32 (contents f ! i)) (t .taken .is) (fits-kind (x .kind) (all-fit (contents f) (contents-good f a) .at (t .r) (t .below) .at (t .taken .j) (t .taken .below))))
+      subst (λ (i : ℕ). SFits w32 (contents f ! i)) (t .taken .is) (fits-kind (x .kind) (all-fit (contents f) in-range .at (t .r) (t .below) .at (t .taken .j) (t .taken .below))))
       (zero-or-taken i)
 
   contents-valid : Valid (contents f)
   unfolding contents
-  contents-valid = valid-of (contents f) (contents-good f a) (length-all (shapeOf f) f (records (shapeOf f)) zeros ∙ length-zeros) contents-fit
+  contents-valid = valid-of (contents f) in-range (length-all (shapeOf f) f (records (shapeOf f)) zeros ∙ length-zeros) contents-fit
 
 pub valid : (f : List ℕ) → refusal f ≡ 0 → Valid (values f)
 valid f e = let a = accepted f e in subst Valid (sym (a .values)) (contents-valid f a)
@@ -156,9 +161,9 @@ valid f e = let a = accepted f e in subst Valid (sym (a .values)) (contents-vali
 
 module _ (f : List ℕ) where
   -- a refused file has zeros
-  refused : (c : ℕ) → refusal f ≡ suc c → values f ≡ zeros
+  pub values-zero : (refusal f ≡ 0 → ⊥) → values f ≡ zeros
   unfolding values
-  refused c e = rw (e, values)
+  values-zero = stops (λ c. zeros) (contents f)
 
   -- what holds of an accepted sheet and of zeros holds of every value
   cases : (P : List ℤ → Type 0) → (refusal f ≡ 0 → P (values f)) → P zeros → P (values f)
@@ -166,10 +171,7 @@ module _ (f : List ℕ) where
     where
       go : (c : ℕ) → refusal f ≡ c → P (values f)
       go zero e = a e
-      go (suc c) e = subst P (sym (refused c e)) z
-
-  pub values-zero : (refusal f ≡ 0 → ⊥) → values f ≡ zeros
-  values-zero n = cases (λ v. v ≡ zeros) (λ e. absurd (n e)) refl
+      go (suc c) e = subst P (sym (values-zero (λ z. (let y : ⊥ = omega arith in y)))) z
 
   pub length-values : length (values f) ≡ slots
   length-values = cases (λ v. length v ≡ slots) (λ e. valid f e .size) length-zeros

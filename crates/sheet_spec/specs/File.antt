@@ -1,34 +1,42 @@
 -- A sheet's file: its records, one after another. What `Fields` says of a record is said of the first r records.
-use mathlib.Core.Bool.{Bool, true, false, _&&_}
+use mathlib.Core.Bool.{Bool, _&&_}
 use mathlib.Core.List.{List, [], _∷_, _++_}
-use Prim.Native.Nat.{ℕ, zero, suc, _+_}
+use Prim.Native.Nat.{ℕ, zero, suc, _+_, _≤_, _<_}
 use lib.Dec.{eqb}
 use lib.IntN.{ℤ}
 use lib.ListN.{getD}
-use Rattle.sheet_spec.specs.Slots.{vars, bands, boxes}
-use Rattle.sheet_spec.specs.Refusals.{Cause, number, firstRefusal}
+use Rattle.sheet_spec.specs.Limits.{maxBands, maxBoxes}
+use Rattle.sheet_spec.specs.Slots.{N, vars, bands, boxes}
+use Rattle.sheet_spec.specs.Refusals.{Cause, refuseUnless, unlessRefused, firstRefusal}
 use Rattle.sheet_spec.specs.Fields.{Field, offset, filled, coded, bad}
 use Rattle.sheet_spec.specs.Sizes.{letters}
-use Rattle.sheet_spec.specs.Layout.{_▸_, first, always, Record, head, band, unsafe, recovery, mark, fields, count}
+use Rattle.sheet_spec.specs.declared.Record.{Record}
+use Rattle.sheet_spec.specs.declared.Record.the-variants.{Head, Band, Unsafe, Recovery}
+use Rattle.sheet_spec.specs.Layout.{_▸_, first, always, mark, fields, count}
+use Rattle.sheet_spec.specs.declared.Shape.{Shape}
 
--- the counts that a file's records depend on
-pub record Shape : Type 0 where
-  pub vars : ℕ
-  pub bands : ℕ
-  pub boxes : ℕ
-
-abbrev pub sized : ℕ → ℕ → ℕ → Shape
-sized n b g = record { vars = n; bands = b; boxes = g }
-
+-- the counts of a sheet, which its file's records depend on
 abbrev pub shape : List ℤ → Shape
 shape v = record { vars = vars v; bands = bands v; boxes = boxes v }
+
+-- a value has room for sheets of this shape, and for a record
+pub record Small (s : Shape) : Type 0 where
+  pub vars : s .vars ≤ N
+  pub bands : s .bands ≤ maxBands
+  pub boxes : s .boxes ≤ maxBoxes
+
+abbrev pub HasRoom : Record → Type 0
+HasRoom Head = Unit
+HasRoom (Band k) = k < maxBands
+HasRoom (Unsafe j) = j < maxBoxes
+HasRoom Recovery = Unit
 
 -- the number of records, and the r-th of them
 abbrev pub records : Shape → ℕ
 records s = s .bands + s .boxes + 2
 
 unfoldable pub recordAt : Shape → ℕ → Record
-recordAt s = head ▸ first (s .bands) band (first (s .boxes) unsafe (always recovery))
+recordAt s = Head ▸ first (s .bands) Band (first (s .boxes) Unsafe (always Recovery))
 
 abbrev pub fieldsAt : Shape → ℕ → ℕ → Field
 fieldsAt s r = fields (s .vars) (recordAt s r)
@@ -36,7 +44,10 @@ fieldsAt s r = fields (s .vars) (recordAt s r)
 abbrev pub countAt : Shape → ℕ → ℕ
 countAt s r = count (s .vars) (recordAt s r)
 
--- where record r starts
+-- a record's length, and where record r starts
+abbrev pub recordLength : ℕ → Record → ℕ
+recordLength n x = letters + offset (fields n x) (count n x)
+
 unfoldable pub start : Shape → ℕ → ℕ
 start s zero = 0
 start s (suc r) = start s r + letters + offset (fieldsAt s r) (countAt s r)
@@ -62,9 +73,22 @@ marked f at x = eqb (getD f at 0) (mark x .0) && eqb (getD f (at + 1) 0) (mark x
 abbrev pub markedAt : Shape → List ℕ → ℕ → Bool
 markedAt s f r = marked f (start s r) (recordAt s r)
 
--- the first refusal of the first r records, a record's mark before its fields. `marks` says which marks are right
+-- ---- tests
+
+-- the test of a whole record, made after those of its fields: 0, or why the sheet is refused. It passes every record
+unfoldable pub closing : List ℤ → Shape → Record → ℕ
+closing v s Head = 0
+closing v s (Band k) = 0
+closing v s (Unsafe j) = 0
+closing v s Recovery = 0
+
+-- the refusal of a record's fields or, if there is none, of the whole record
+abbrev pub badNumbers : List ℤ → Shape → Record → ℕ
+badNumbers v s x = unlessRefused (bad (fields (s .vars) x) v (count (s .vars) x)) (λ c. c) (closing v s x)
+
+-- the first refusal of the first r records, a record's mark before its numbers. `marks` says which marks are right
 abbrev pub badRecord : (ℕ → Bool) → Shape → List ℤ → ℕ → ℕ
-badRecord marks s v r = elim (marks r) [ true ↦ bad (fieldsAt s r) v (countAt s r) | false ↦ number Cause.mark ]
+badRecord marks s v r = unlessRefused (refuseUnless (marks r) Cause.mark) (λ c. c) (badNumbers v s (recordAt s r))
 
 unfoldable pub badAll : (ℕ → Bool) → Shape → List ℤ → ℕ → ℕ
 badAll marks s v = firstRefusal (badRecord marks s v)

@@ -8,6 +8,8 @@ use Rattle.sheet_spec.specs.Slots.{_!_, N, varsSlot, bandsSlot, boxesSlo
 use Rattle.sheet_spec.specs.Limits.{maxVars, maxBands, maxBoxes, maxTicks, maxCommand, maxCap, maxEdge, maxCoefficient, maxConstant, maxSpread, maxDivisor, maxUnsafeSide, maxRecoverySide}
 use Rattle.sheet_spec.specs.Refusals.{Cause}
 use Rattle.sheet_spec.specs.Fields.{Kind, u8, u16, i16, i32, Field}
+use Rattle.sheet_spec.specs.declared.Record.{Record}
+use Rattle.sheet_spec.specs.declared.Record.the-variants.{Head, Band, Unsafe, Recovery}
 
 -- ---- one after another
 
@@ -103,29 +105,22 @@ boxFields h s = groups pairSize (λ i. sideFields h (s + i))
 
 -- ---- records
 
--- the head, band k, no-go box j, the recovery box
-pub data Record : Type 0 where
-  head : Record
-  band : ℕ → Record
-  unsafe : ℕ → Record
-  recovery : Record
-
 -- the letters that a record starts with: SH, BD, NG, RC
 abbrev pub mark : Record → ℕ × ℕ
-mark head = (83, 72)
-mark (band k) = (66, 68)
-mark (unsafe j) = (78, 71)
-mark recovery = (82, 67)
+mark Head = (83, 72)
+mark (Band k) = (66, 68)
+mark (Unsafe j) = (78, 71)
+mark Recovery = (82, 67)
 
 -- the fields of a record of a sheet with n variables, and how many they are
 unfoldable pub fields : ℕ → Record → ℕ → Field
-fields n head = headFields
-fields n (band k) = bandFields n k
-fields n (unsafe j) = boxFields maxUnsafeSide (unsafeSlot j)
-fields n recovery = boxFields maxRecoverySide recoverySlot
+fields n Head = headFields
+fields n (Band k) = bandFields n k
+fields n (Unsafe j) = boxFields maxUnsafeSide (unsafeSlot j)
+fields n Recovery = boxFields maxRecoverySide recoverySlot
 
 abbrev pub count : ℕ → Record → ℕ
-count n head = headSize + n
-count n (band k) = bandCount n
-count n (unsafe j) = boxCount n
-count n recovery = boxCount n
+count n Head = headSize + n
+count n (Band k) = bandCount n
+count n (Unsafe j) = boxCount n
+count n Recovery = boxCount n

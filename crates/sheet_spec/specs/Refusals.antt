@@ -75,13 +75,9 @@ unlessRefused (suc r) refuse go = refuse (suc r)
 -- the first refusal of a list of tests, each 0 where it passed; 0 where all did
 unfoldable pub firstOf : List ℕ → ℕ
 firstOf [] = 0
-firstOf (r ∷ rs) = unlessRefused r (λ r. r) (firstOf rs)
+firstOf (r ∷ rs) = unlessRefused r (λ c. c) (firstOf rs)
 
 -- the first of h 0, .. h (k - 1) that is not 0, or 0
 unfoldable pub firstRefusal : (ℕ → ℕ) → ℕ → ℕ
 firstRefusal h zero = 0
-firstRefusal h (suc k) = elim (firstRefusal h k) [ zero ↦ h k | suc c ↦ suc c ]
-
--- a refusal or, if it is 0, the next
-abbrev pub orElse : ℕ → ℕ → ℕ
-orElse x y = elim x [ zero ↦ y | suc c ↦ suc c ]
+firstRefusal h (suc k) = unlessRefused (firstRefusal h k) (λ c. c) (h k)

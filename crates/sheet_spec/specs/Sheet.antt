@@ -8,11 +8,13 @@ use lib.IntN.{ℤ, pos}
 use lib.ListN.{length, replicate}
 use lib.Seq.{sets}
 use Rattle.sheet_spec.specs.Slots.{_!_, headSize, slots}
-use Rattle.sheet_spec.specs.Refusals.{Cause, refuseUnless, firstRefusal}
+use Rattle.sheet_spec.specs.Refusals.{Cause, refuseUnless, unlessRefused, firstRefusal}
 use Rattle.sheet_spec.specs.Fields.{filled, bad}
 use Rattle.sheet_spec.specs.Sizes.{letters, capsAt}
-use Rattle.sheet_spec.specs.Layout.{head, headFields}
-use Rattle.sheet_spec.specs.File.{Shape, shape, records, fieldsAt, countAt, start, filledAll, codedAll, marked, markedAt, badAll}
+use Rattle.sheet_spec.specs.declared.Record.the-variants.{Head}
+use Rattle.sheet_spec.specs.Layout.{headFields}
+use Rattle.sheet_spec.specs.declared.Shape.{Shape}
+use Rattle.sheet_spec.specs.File.{shape, records, fieldsAt, countAt, start, filledAll, codedAll, marked, markedAt, badAll}
 
 unfoldable pub zeros : List ℤ
 zeros = replicate slots (pos 0)
@@ -30,20 +32,23 @@ shapeOf f = shape (headOf f)
 unfoldable pub contents : List ℕ → List ℤ
 contents f = let s = shapeOf f in filledAll s f (records s) zeros
 
--- the reader's tests in their order, each made only where those before it passed
+-- the reader's tests in their order, each made only where those before it passed, and how many they are
 unfoldable pub stage : List ℕ → ℕ → ℕ
-stage f zero = refuseUnless (leb capsAt (length f) && marked f 0 head) Cause.head
+stage f zero = refuseUnless (leb capsAt (length f) && marked f 0 Head) Cause.head
 stage f (suc zero) = bad headFields (headOf f) headSize
 stage f (suc (suc zero)) = let s = shapeOf f in refuseUnless (eqb (length f) (start s (records s))) Cause.length
 stage f (suc (suc (suc i))) = let s = shapeOf f in badAll (markedAt s f) s (contents f) (records s)
 
+abbrev pub stages : ℕ
+stages = 4
+
 -- 0 if the file is accepted, else why it is refused
 unfoldable pub refusal : List ℕ → ℕ
-refusal f = firstRefusal (stage f) 4
+refusal f = firstRefusal (stage f) stages
 
 -- the sheet's value, zeros if the file is refused
 unfoldable pub values : List ℕ → List ℤ
-values f = elim (refusal f) [ zero ↦ contents f | suc c ↦ zeros ]
+values f = unlessRefused (refusal f) (λ c. zeros) (contents f)
 
 -- ---- writing
 
@@ -58,11 +63,11 @@ unfoldable pub bytesOf : List ℤ → List ℕ
 bytesOf v = codedAll (shape v) v (records (shape v))
 
 unfoldable pub writeRefusal : List ℤ → List ℕ → ℕ → ℕ
-writeRefusal v buffer place = elim (valueRefusal v) [ zero ↦ refuseUnless (leb (place + length-of v) (length buffer)) Cause.room | suc c ↦ suc c ]
+writeRefusal v buffer place = unlessRefused (valueRefusal v) (λ c. c) (refuseUnless (leb (place + length-of v) (length buffer)) Cause.room)
 
 -- the buffer after writing
 unfoldable pub written : List ℤ → List ℕ → ℕ → List ℕ
-written v buffer place = elim (writeRefusal v buffer place) [ zero ↦ sets buffer place (bytesOf v) | suc c ↦ buffer ]
+written v buffer place = unlessRefused (writeRefusal v buffer place) (λ c. buffer) (sets buffer place (bytesOf v))
 
 -- ---- two sheets are the same when their values up to their counts are
 pub record Same (v w : List ℤ) : Type 0 where

@@ -1,11 +1,26 @@
 // A sheet's format (document 01, "Sheet layout"): what a file says, its refusal number, the bytes of a value, as definitions; and
 // what follows of them, as the length formula and that reading and writing undo each other. Beside them the names of slots,
-// sizes and refusals, which all code uses. `sheet` has the operations.
+// sizes and refusals and the types of a file's counts and records, which all code uses. `sheet` has the operations.
 
 pub mod limits;
 pub mod refusals;
 pub mod sizes;
 pub mod slots;
+
+// The counts that a file's records depend on.
+pub struct Shape {
+    pub vars: usize,
+    pub bands: usize,
+    pub boxes: usize,
+}
+
+// A record of a file: the head, band k, no-go box j, the recovery box.
+pub enum Record {
+    Head,
+    Band(usize),
+    Unsafe(usize),
+    Recovery,
+}
 
 // A refusal, or 0 and how many bytes were written.
 pub struct Written {

@@ -1,16 +1,20 @@
 // The tests of a sheet's numbers (document 01, "Sheet layout"), in the file's order, over the value: reader and writer share
 // them. Each gives 0, or the refusal of the first number out of range. The definitions are in sheet_spec/specs/Layout: each field
-// has its range and its cause.
+// has its range and its cause; and in sheet_spec/specs/File: the test of a record as a whole.
 ghost use mathlib.Core.Path.{_≡_};
 ghost use mathlib.Core.Bool.{true};
 ghost use Prim.Native.Nat.{_+_, _≤_, _<_};
 ghost use Rattle.integers.specs.Bound.{Bound};
-ghost use Rattle.sheet_spec.specs.Limits.{maxBands, maxBoxes};
+ghost use Rattle.sheet_spec.specs.Limits.{maxBands};
 ghost use Rattle.sheet_spec.specs.Slots.{_!_, N, headSize, boxSize, rowSize, slots};
-ghost use Rattle.sheet_spec.specs.Refusals.{number, orElse};
-ghost use Rattle.sheet_spec.specs.File.{sized, records, fieldsAt, countAt, badAll};
+ghost use Rattle.sheet_spec.specs.Refusals.{number, unlessRefused};
+ghost use Rattle.sheet_spec.specs.File.{Small, HasRoom, records, closing, badNumbers, badAll};
 ghost use Rattle.sheet_spec.specs.Fields.{Field, test, bad};
-ghost use Rattle.sheet_spec.specs.Layout.{headFields, edgeField, rowFields, rowCount, bandFields, bandCount, boxFields, boxCount};
+ghost use Rattle.sheet_spec.specs.Layout.{headFields, edgeField, rowFields, rowCount, bandFields, bandCount, boxFields, boxCount, fields, count};
+use sheet_encoding::records::record_at;
+use sheet_encoding::records::record_count;
+use sheet_spec::Record;
+use sheet_spec::Shape;
 use sheet_spec::limits::*;
 use sheet_spec::refusals::CAP;
 use sheet_spec::refusals::COMMANDS;
@@ -45,7 +49,7 @@ fn value(v: &[i32; SLOTS], slot: usize) -> i64
 
 // A refusal or, if it is 0, the next.
 pub fn first(x: u8, y: u8) -> u8
-    ensures { λ r. ⌜ r ≡ orElse x y ⌝ }
+    ensures { λ r. ⌜ r ≡ unlessRefused x (λ c. c) y ⌝ }
 {
     if x == 0 { y } else { x }
 }
@@ -53,7 +57,7 @@ pub fn first(x: u8, y: u8) -> u8
 // A refusal or, if it is 0, the test of a field with this slot, range and cause.
 fn after(x: u8, v: &[i32; SLOTS], slot: usize, least: i64, greatest: i64, cause: u8) -> u8
     requires { ⌜ slot < slots ⌝ }
-    ensures { λ r. ⌜ ((p : Field) → p .slot ≡ slot → p .least (now (v .entry)) ≡ least → p .greatest (now (v .entry)) ≡ greatest → number (p .cause) ≡ cause → r ≡ orElse x (test (now (v .entry)) p)) ⌝ }
+    ensures { λ r. ⌜ ((p : Field) → p .slot ≡ slot → p .least (now (v .entry)) ≡ least → p .greatest (now (v .entry)) ≡ greatest → number (p .cause) ≡ cause → r ≡ unlessRefused x (λ c. c) (test (now (v .entry)) p)) ⌝ }
 {
     if x != 0 {
         return x;
@@ -159,37 +163,51 @@ pub fn bad_box(v: &[i32; SLOTS], n: usize, slot: usize, most: u32) -> u8
     x
 }
 
-// The numbers of the r-th record.
-pub fn bad_record(v: &[i32; SLOTS], n: usize, bands: usize, boxes: usize, r: usize) -> u8
-    requires { ⌜ (n ≤ N) × ((bands ≤ maxBands) × ((boxes ≤ maxBoxes) × (r < records (sized n bands boxes)))) ⌝ }
-    ensures { λ x. ⌜ x ≡ bad (fieldsAt (sized n bands boxes) r) (now (v .entry)) (countAt (sized n bands boxes) r) ⌝ }
+// The fields of a record.
+fn bad_fields(v: &[i32; SLOTS], n: usize, record: Record) -> u8
+    requires { ⌜ (n ≤ N) × HasRoom «record» ⌝ }
+    ensures { λ x. ⌜ x ≡ bad (fields n «record») (now (v .entry)) (count n «record») ⌝ }
 {
-    if r == 0 {
-        return bad_caps(v, n);
+    match record {
+        Record::Head => bad_caps(v, n),
+        Record::Band(k) => bad_band(v, n, k),
+        Record::Unsafe(j) => bad_box(v, n, FIRST_UNSAFE + j * BOX_SIZE, MAX_UNSAFE_SIDE),
+        Record::Recovery => bad_box(v, n, RECOVERY, MAX_RECOVERY_SIDE),
     }
-    if r <= bands {
-        return bad_band(v, n, r - 1);
+}
+
+// A record as a whole, after its fields.
+fn closing(v: &[i32; SLOTS], shape: Shape, record: Record) -> u8
+    requires { ⌜ Small shape × HasRoom «record» ⌝ }
+    ensures { λ x. ⌜ x ≡ closing (now (v .entry)) shape «record» ⌝ }
+{
+    match record {
+        Record::Head => 0,
+        Record::Band(_) => 0,
+        Record::Unsafe(_) => 0,
+        Record::Recovery => 0,
     }
-    if r <= bands + boxes {
-        return bad_box(
-            v,
-            n,
-            FIRST_UNSAFE + (r - 1 - bands) * BOX_SIZE,
-            MAX_UNSAFE_SIDE,
-        );
-    }
-    bad_box(v, n, RECOVERY, MAX_RECOVERY_SIDE)
+}
+
+// The numbers of a record.
+pub fn bad_record(v: &[i32; SLOTS], shape: Shape, record: Record) -> u8
+    requires { ⌜ Small shape × HasRoom «record» ⌝ }
+    ensures { λ x. ⌜ x ≡ badNumbers (now (v .entry)) shape «record» ⌝ }
+{
+    let x = bad_fields(v, shape.vars, record);
+    first(x, closing(v, shape, record))
 }
 
 // The numbers of every record.
-pub fn bad_values(v: &[i32; SLOTS], n: usize, bands: usize, boxes: usize) -> u8
-    requires { ⌜ (n ≤ N) × ((bands ≤ maxBands) × (boxes ≤ maxBoxes)) ⌝ }
-    ensures { λ x. ⌜ x ≡ badAll (λ r. true) (sized n bands boxes) (now (v .entry)) (records (sized n bands boxes)) ⌝ }
+pub fn bad_values(v: &[i32; SLOTS], shape: Shape) -> u8
+    requires { ⌜ Small shape ⌝ }
+    ensures { λ x. ⌜ x ≡ badAll (λ r. true) shape (now (v .entry)) (records shape) ⌝ }
 {
+    let count = record_count(shape);
     let mut x: u8 = 0;
     let mut r: usize = 0;
-    while r < bands + boxes + 2 {
-        x = first(x, bad_record(v, n, bands, boxes, r));
+    while r < count {
+        x = first(x, bad_record(v, shape, record_at(shape, r)));
         r = r + 1;
     }
     x

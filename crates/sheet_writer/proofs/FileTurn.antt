@@ -1,8 +1,8 @@
 -- What a buffer holds as the records are written to it: one after another, what was written to a part of it, and the answer. Assumes nothing.
-use mathlib.Core.Path.{_≡_, refl, sym, ap, ap₂, _∙_}
+use mathlib.Core.Path.{_≡_, sym, ap, ap₂, _∙_}
 use mathlib.Core.Bool.{true}
 use mathlib.Core.List.{List, _++_, append-assoc, append-nil}
-use Prim.Native.Nat.{ℕ, zero, suc, _+_, _-_, _≤_, _<_}
+use Prim.Native.Nat.{ℕ, _+_, _-_, _≤_, _<_}
 use native.Mathlib.Omega.{arith}
 use native.Mathlib.Numerals.{add-one}
 use native.Mathlib.Nat.{zero-add}
@@ -10,33 +10,36 @@ use lib.IntN.{ℤ}
 use lib.ListN.{take, drop, length, length-drop}
 use lib.Seq.{sets, sets-eq, take-all, drop-drop, drop-length}
 use borrow.Rule.Slice.PartMut.{putMid}
-use Rattle.sheet_spec.specs.Slots.{headSize, vars, bands, boxes}
+use Rattle.sheet_spec.specs.Slots.{headSize}
 use Rattle.sheet_spec.specs.Refusals.{Cause, number}
-use Rattle.sheet_spec.specs.File.{sized, Shape, shape, records, recordAt, start, recordBytes, codedAll, badAll}
-use Rattle.sheet_spec.specs.Fields.{offset}
-use Rattle.sheet_spec.specs.Sizes.{letters}
-use Rattle.sheet_spec.specs.Layout.{headFields, Record, fields, count}
+use Rattle.sheet_spec.specs.Fields.{bad}
+use Rattle.sheet_spec.specs.declared.Shape.{Shape}
+use Rattle.sheet_spec.specs.declared.Record.{Record}
+use Rattle.sheet_spec.specs.Layout.{headFields, fields, count}
+use Rattle.sheet_spec.specs.File.{shape, records, recordAt, recordLength, start, recordBytes, codedAll, badAll}
 use Rattle.sheet_spec.specs.Sheet.{valueRefusal, length-of, bytesOf, writeRefusal}
 use Rattle.sheet_spec.specs.Written.{writtenLength, Wrote}
 use Rattle.sheet_spec.proofs.Records.{each-head}
-use Rattle.sheet_spec.proofs.Laws.{number-is, ranges-bad, value-good}
+use Rattle.sheet_spec.proofs.Laws.{goes-on, number-is, stops}
+use Rattle.sheet_spec.proofs.Tests.{good-ranges, ranges-bad, value-good}
 use Rattle.sheet_spec.proofs.Answers.{Answer, write-bad, write-short, write-done}
 use Rattle.sheet_spec.proofs.Numbers.{length-coded}
 use Rattle.sheet_spec.proofs.Says.{length-codedAll}
 use Rattle.sheet_spec.proofs.RoundTrip.{length-bytesOf}
-use Rattle.sheet_encoding.proofs.ReaderAnswer.{Counts, counts}
 use Rattle.sheet_writer.proofs.RecordTurn.{then}
 
 -- ---- the records of a sheet
 
-pub length-record : (n : ℕ) (x : Record) (v : List ℤ) → length (recordBytes n x v) ≡ letters + offset (fields n x) (count n x)
+pub length-record : (n : ℕ) (x : Record) (v : List ℤ) → length (recordBytes n x v) ≡ recordLength n x
 length-record n x v = omega (arith, length-coded (fields n x) v (count n x))
 
-pub record-next : (s : Shape) (v : List ℤ) (b : List ℕ) (r : ℕ) {a : ℕ} {t u : List ℕ} → u ≡ sets t a (recordBytes (s .vars) (recordAt s r) v) → a ≡ start s r → t ≡ sets b 0 (codedAll s v r)
+-- the r-th record, which is x
+pub record-next : (s : Shape) (v : List ℤ) (b : List ℕ) (r : ℕ) {x : Record} {a : ℕ} {t u : List ℕ} → x ≡ recordAt s r → u ≡ sets t a (recordBytes (s .vars) x v) → a ≡ start s r → t ≡ sets b 0 (codedAll s v r)
     → u ≡ sets b 0 (codedAll s v (r + 1))
 unfolding codedAll
-record-next s v b r hu ha ht =
-    then b 0 (start s r) (codedAll s v r) (recordBytes (s .vars) (recordAt s r) v) (length-codedAll s v r) (ha ∙ sym (zero-add (start s r))) ht hu
+record-next s v b r {x} {a} {t} is hu ha ht =
+    then b 0 (start s r) (codedAll s v r) (recordBytes (s .vars) (recordAt s r) v) (length-codedAll s v r) (ha ∙ sym (zero-add (start s r))) ht
+    (hu ∙ ap (λ (y : Record). sets t a (recordBytes (s .vars) y v)) is)
     ∙ ap (λ (j : ℕ). sets b 0 (codedAll s v j)) (sym (add-one r))
 
 -- ---- the part of s from a on, lent to a call and back
@@ -62,33 +65,27 @@ module _ (s : List ℕ) (a : ℕ) where
 
 -- ---- what is answered
 
-module _ (v : List ℤ) where
-  -- the counts of a sheet whose numbers are in range
-  pub value-counts : 0 ≡ valueRefusal v → Counts v
-  value-counts e = counts v (sym (ranges-bad headFields v headSize (record { at = λ j l. each-head (shape v) (value-good v (sym e)) .at j (omega arith) })))
+-- the head of a sheet whose numbers are in range is in range
+pub value-headed : (v : List ℤ) → 0 ≡ valueRefusal v → 0 ≡ bad headFields v headSize
+value-headed v e =
+    let g = good-ranges v (shape v) (value-good v (sym e)) in
+    sym (ranges-bad headFields v headSize (record { at = λ j l. each-head (shape v) g .at j (omega arith) }))
 
 module _ (v : List ℤ) (buffer : List ℕ) (place : ℕ) where
   refused : {c : ℕ} {after : List ℕ} → (c ≡ 0 → ⊥) → Answer v buffer place c after → Wrote v buffer place c 0 after
   unfolding writtenLength
-  refused n a = record { refusal = a .refusal; length = go (writeRefusal v buffer place) (λ z. n (a .refusal ∙ z)); left = a .left }
-    where
-      go : (k : ℕ) → (k ≡ 0 → ⊥) → _≡_ {A = ℕ} 0 (elim k [ zero ↦ length-of v | suc c ↦ 0 ])
-      go zero n = absurd (n refl)
-      go (suc k) n = refl
+  refused n a = record { refusal = a .refusal; length = sym (stops (λ c. 0) _ (λ z. n (a .refusal ∙ z))); left = a .left }
 
   pub wrote-bad : {c : ℕ} → c ≡ valueRefusal v → (c ≡ 0 → ⊥) → Wrote v buffer place c 0 buffer
   wrote-bad {c} e n = refused n (write-bad v buffer place c e n)
 
--- n, b and g are the counts
-module _ (v : List ℤ) (n b g : ℕ) (hn : n ≡ vars v) (hb : b ≡ bands v) (hg : g ≡ boxes v) where
-  same : sized n b g ≡ shape v
-  same = ap (λ (k : ℕ). sized k b g) hn ∙ ap₂ (sized (vars v)) hb hg
-
-  pub value-is : {x : ℕ} → x ≡ badAll (λ r. true) (sized n b g) v (records (sized n b g)) → x ≡ valueRefusal v
+-- s has the counts
+module _ (v : List ℤ) (s : Shape) (same : s ≡ shape v) where
+  pub value-is : {x : ℕ} → x ≡ badAll (λ r. true) s v (records s) → x ≡ valueRefusal v
   unfolding valueRefusal
   value-is e = e ∙ ap (λ (s : Shape). badAll (λ r. true) s v (records s)) same
 
-  module _ (buffer : List ℕ) (place : ℕ) (good : 0 ≡ valueRefusal v) {l : ℕ} (hl : l ≡ start (sized n b g) (records (sized n b g))) where
+  module _ (buffer : List ℕ) (place : ℕ) (good : 0 ≡ valueRefusal v) {l : ℕ} (hl : l ≡ start s (records s)) where
     size-is : l ≡ length-of v
     unfolding length-of
     size-is = hl ∙ ap (λ (s : Shape). start s (records s)) same
@@ -96,7 +93,7 @@ module _ (v : List ℤ) (n b g : ℕ) (hn : n ≡ vars v) (hb : b ≡ bands v) (
     pub wrote-short : length buffer < place + l → Wrote v buffer place (number Cause.room) 0 buffer
     wrote-short h = refused v buffer place (number-is Cause.room) (write-short v buffer place good (omega (arith, size-is)))
 
-    module _ {last : List ℕ} (h : place + l ≤ length buffer) (e : last ≡ sets (take (length buffer - place) (drop place buffer)) 0 (codedAll (sized n b g) v (records (sized n b g)))) where
+    module _ {last : List ℕ} (h : place + l ≤ length buffer) (e : last ≡ sets (take (length buffer - place) (drop place buffer)) 0 (codedAll s v (records s))) where
       back : putMid place (length buffer - place) buffer last ≡ sets buffer place (bytesOf v)
       unfolding bytesOf
       back =
@@ -107,4 +104,4 @@ module _ (v : List ℤ) (n b g : ℕ) (hn : n ≡ vars v) (hb : b ≡ bands v) (
       unfolding writtenLength
       wrote =
           let a = write-done v buffer place good (omega (arith, size-is)) in
-          record { refusal = a .refusal; length = rw (← (a .refusal), writtenLength) size-is; left = back ∙ a .left }
+          record { refusal = a .refusal; length = size-is ∙ sym (goes-on (λ c. 0) _ (sym (a .refusal))); left = back ∙ a .left }

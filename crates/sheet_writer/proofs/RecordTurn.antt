@@ -13,7 +13,8 @@ use Rattle.integers.proofs.Lists.{sets-append}
 use Rattle.sheet_spec.specs.Slots.{_!_}
 use Rattle.sheet_spec.specs.Fields.{Kind, i32, Field, width, encoded, offset, coded}
 use Rattle.sheet_spec.specs.Sizes.{letters, coefficientBytes}
-use Rattle.sheet_spec.specs.Layout.{edgeField, rowRest, rowFields, Record, mark, fields, count}
+use Rattle.sheet_spec.specs.declared.Record.{Record}
+use Rattle.sheet_spec.specs.Layout.{edgeField, rowRest, rowFields, mark, fields, count}
 use Rattle.sheet_spec.specs.File.{recordBytes}
 use Rattle.sheet_spec.proofs.Length.{rest-offset}
 use Rattle.sheet_spec.proofs.Numbers.{length-coded}

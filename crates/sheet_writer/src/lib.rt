@@ -5,38 +5,37 @@ ghost use mathlib.Core.Path.{_≡_};
 ghost use Prim.Native.Nat.{_≤_};
 ghost use lib.ListN.{length};
 ghost use lib.Seq.{sets};
-ghost use Rattle.sheet_spec.specs.Limits.{maxBands, maxBoxes};
-ghost use Rattle.sheet_spec.specs.Slots.{N};
-ghost use Rattle.sheet_spec.specs.File.{sized, records, start, codedAll};
+ghost use Rattle.sheet_spec.specs.File.{Small, records, start, codedAll};
 ghost use Rattle.sheet_spec.specs.Sheet.{valueRefusal};
 ghost use Rattle.sheet_spec.specs.Written.{Wrote};
 
 pub mod record;
 
 use crate::record::write_record;
-use sheet_encoding::count;
-use sheet_encoding::marks::file_length;
-use sheet_encoding::marks::record_length;
+use sheet_encoding::records::file_length;
+use sheet_encoding::records::record_at;
+use sheet_encoding::records::record_count;
+use sheet_encoding::records::record_length;
+use sheet_encoding::records::shape_of;
+use sheet_spec::Shape;
 use sheet_spec::Written;
 use sheet_spec::refusals::ROOM;
-use sheet_spec::slots::BANDS;
-use sheet_spec::slots::BOXES;
 use sheet_spec::slots::SLOTS;
-use sheet_spec::slots::VARS;
 use sheet_validation::bad_head;
 use sheet_validation::bad_values;
 
 // Every record, each in the part that starts at its place.
-fn write_records(s: &mut [u8], n: usize, bands: usize, boxes: usize, v: &[i32; SLOTS])
-    requires { ⌜ (n ≤ N) × ((bands ≤ maxBands) × (boxes ≤ maxBoxes)) ⌝ }
-    requires { ⌜ start (sized n bands boxes) (records (sized n bands boxes)) ≤ length (now s) ⌝ }
-    ensures { λ _. ⌜ now (s .exit) ≡ sets (now (s .entry)) 0 (codedAll (sized n bands boxes) (now (v .entry)) (records (sized n bands boxes))) ⌝ }
+fn write_records(s: &mut [u8], shape: Shape, v: &[i32; SLOTS])
+    requires { ⌜ Small shape × (start shape (records shape) ≤ length (now s)) ⌝ }
+    ensures { λ _. ⌜ now (s .exit) ≡ sets (now (s .entry)) 0 (codedAll shape (now (v .entry)) (records shape)) ⌝ }
 {
+    let count = record_count(shape);
     let mut at: usize = 0;
     let mut r: usize = 0;
-    while r < bands + boxes + 2 {
-        write_record(&mut s[at..], n, bands, boxes, r, v);
-        at = at + record_length(n, bands, boxes, r);
+    while r < count {
+        let record = record_at(shape, r);
+        write_record(&mut s[at..], shape, record, v);
+        at = at + record_length(shape, record);
         r = r + 1;
     }
 }
@@ -49,7 +48,7 @@ pub fn bad_sheet(v: &[i32; SLOTS]) -> u8
     if x != 0 {
         return x;
     }
-    bad_values(v, count(v, VARS), count(v, BANDS), count(v, BOXES))
+    bad_values(v, shape_of(v))
 }
 
 // Writes a sheet whose numbers are in range, if there is room.
@@ -57,10 +56,8 @@ pub fn write_valid(v: &[i32; SLOTS], buffer: &mut [u8], place: usize) -> Written
     requires { ⌜ 0 ≡ valueRefusal (now v) ⌝ }
     ensures { λ r. ⌜ Wrote (now (v .entry)) (now (buffer .entry)) place (r .refusal) (r .length) (now (buffer .exit)) ⌝ }
 {
-    let n = count(v, VARS);
-    let bands = count(v, BANDS);
-    let boxes = count(v, BOXES);
-    let length = file_length(n, bands, boxes);
+    let shape = shape_of(v);
+    let length = file_length(shape);
     if buffer.len() < place {
         return Written {
             refusal: ROOM,
@@ -73,7 +70,7 @@ pub fn write_valid(v: &[i32; SLOTS], buffer: &mut [u8], place: usize) -> Written
             length: 0,
         };
     }
-    write_records(&mut buffer[place..], n, bands, boxes, v);
+    write_records(&mut buffer[place..], shape, v);
     Written {
         refusal: 0,
         length: length,

@@ -5,16 +5,18 @@ ghost use mathlib.Core.Path.{_≡_};
 ghost use Prim.Native.Nat.{ℕ, _+_, _≤_, _<_};
 ghost use lib.ListN.{length};
 ghost use lib.Seq.{sets};
-ghost use Rattle.sheet_spec.specs.Limits.{maxBands, maxBoxes};
+ghost use Rattle.sheet_spec.specs.Limits.{maxBands};
 ghost use Rattle.sheet_spec.specs.Slots.{N, headSize, rowSize, boxSize, slots};
-ghost use Rattle.sheet_spec.specs.File.{sized, records, recordAt, fieldsAt, countAt, recordBytes};
-ghost use Rattle.sheet_spec.specs.Fields.{offset, coded};
+ghost use Rattle.sheet_spec.specs.File.{Small, HasRoom, recordLength, recordBytes};
+ghost use Rattle.sheet_spec.specs.Fields.{coded};
 ghost use Rattle.sheet_spec.specs.Sizes.{letters, capsAt, capBytes, rowBytes, bandBytes, boxBytes};
-ghost use Rattle.sheet_spec.specs.Layout.{headFields, rowFields, rowCount, bandFields, bandCount, boxFields, boxCount};
+ghost use Rattle.sheet_spec.specs.Layout.{headFields, rowFields, rowCount, bandFields, bandCount, boxFields, boxCount, fields, count};
 use sheet_encoding::bytes::put_i32;
 use sheet_encoding::bytes::put_u8;
 use sheet_encoding::bytes::put_u16;
 use sheet_encoding::marks::mark_of;
+use sheet_spec::Record;
+use sheet_spec::Shape;
 use sheet_spec::sizes::*;
 use sheet_spec::slots::*;
 
@@ -95,31 +97,29 @@ fn write_box(s: &mut [u8], n: usize, v: &[i32; SLOTS], slot: usize)
     }
 }
 
-// The numbers of the r-th record.
-fn write_numbers(s: &mut [u8], n: usize, bands: usize, boxes: usize, r: usize, v: &[i32; SLOTS])
-    requires { ⌜ (n ≤ N) × ((bands ≤ maxBands) × ((boxes ≤ maxBoxes) × (r < records (sized n bands boxes)))) ⌝ }
-    requires { ⌜ letters + offset (fieldsAt (sized n bands boxes) r) (countAt (sized n bands boxes) r) ≤ length (now s) ⌝ }
-    ensures { λ _. ⌜ now (s .exit) ≡ sets (now (s .entry)) letters (coded (fieldsAt (sized n bands boxes) r) (now (v .entry)) (countAt (sized n bands boxes) r)) ⌝ }
+// The numbers of a record.
+fn write_numbers(s: &mut [u8], shape: Shape, record: Record, v: &[i32; SLOTS])
+    requires { ⌜ Small shape × HasRoom «record» ⌝ }
+    requires { ⌜ recordLength (shape .vars) «record» ≤ length (now s) ⌝ }
+    ensures { λ _. ⌜ now (s .exit) ≡ sets (now (s .entry)) letters (coded (fields (shape .vars) «record») (now (v .entry)) (count (shape .vars) «record»)) ⌝ }
 {
-    if r == 0 {
-        write_caps(s, n, v);
-    } else if r <= bands {
-        write_band(s, n, v, r - 1);
-    } else if r <= bands + boxes {
-        write_box(s, n, v, FIRST_UNSAFE + (r - 1 - bands) * BOX_SIZE);
-    } else {
-        write_box(s, n, v, RECOVERY);
+    let n = shape.vars;
+    match record {
+        Record::Head => write_caps(s, n, v),
+        Record::Band(k) => write_band(s, n, v, k),
+        Record::Unsafe(j) => write_box(s, n, v, FIRST_UNSAFE + j * BOX_SIZE),
+        Record::Recovery => write_box(s, n, v, RECOVERY),
     }
 }
 
-// The r-th record, at the start of the part that it gets.
-pub fn write_record(s: &mut [u8], n: usize, bands: usize, boxes: usize, r: usize, v: &[i32; SLOTS])
-    requires { ⌜ (n ≤ N) × ((bands ≤ maxBands) × ((boxes ≤ maxBoxes) × (r < records (sized n bands boxes)))) ⌝ }
-    requires { ⌜ letters + offset (fieldsAt (sized n bands boxes) r) (countAt (sized n bands boxes) r) ≤ length (now s) ⌝ }
-    ensures { λ _. ⌜ now (s .exit) ≡ sets (now (s .entry)) 0 (recordBytes n (recordAt (sized n bands boxes) r) (now (v .entry))) ⌝ }
+// A record, at the start of the part that it gets.
+pub fn write_record(s: &mut [u8], shape: Shape, record: Record, v: &[i32; SLOTS])
+    requires { ⌜ Small shape × HasRoom «record» ⌝ }
+    requires { ⌜ recordLength (shape .vars) «record» ≤ length (now s) ⌝ }
+    ensures { λ _. ⌜ now (s .exit) ≡ sets (now (s .entry)) 0 (recordBytes (shape .vars) «record» (now (v .entry))) ⌝ }
 {
-    let m = mark_of(bands, boxes, r);
+    let m = mark_of(record);
     s[0] = m.first;
     s[1] = m.second;
-    write_numbers(s, n, bands, boxes, r, v);
+    write_numbers(s, shape, record, v);
 }

@@ -1,20 +1,12 @@
 -- `guard_sheet_write` answers and writes what the definitions say. Assumes nothing.
-use mathlib.Core.Path.{_≡_, sym, _∙_}
-use mathlib.Core.List.{List}
-use Prim.Native.Nat.{ℕ}
-use lib.IntN.{ℤ}
+use mathlib.Core.Path.{sym, _∙_}
 use borrow.Author.Needs.{needs}
-use Rattle.sheet_spec.specs.Sheet.{length-of, writeRefusal}
-use Rattle.sheet_spec.specs.Written.{writtenLength}
 use Rattle.sheet_spec.proofs.FirstRefusal.{found-stops, found-none}
+use Rattle.sheet_spec.proofs.ReadWrite.{answers-length}
 use Rattle.decision_spec.specs.Call.{refusedCall}
 use Rattle.decision_spec.specs.Calls.{writeCall, writeOut}
 use Rattle.guard.proofs.guard_sheet_write.Statement.{statement}
 use Rattle.guard.proofs.guard_sheet_write.Tie as tie
-
-length-is : (v : List ℤ) (buffer : List ℕ) (place : ℕ) → writeRefusal v buffer place ≡ 0 → writtenLength v buffer place ≡ length-of v
-unfolding writtenLength
-length-is v buffer place e = rw (e, writtenLength)
 
 returns : tie.Need-returns
 unfolding writeCall writeOut
@@ -27,7 +19,7 @@ unfolding writeCall writeOut
 returns-2 c =
     let w = c .before .before .before .before .write .ensures in
     let e = sym (w .refusal) ∙ c .if1 .left in
-    (w .length ∙ length-is _ _ _ e ∙ found-none refusedCall _ (w .refusal) (c .if1 .left), w .left)
+    (w .length ∙ answers-length _ _ _ e ∙ found-none refusedCall _ (w .refusal) (c .if1 .left), w .left)
 
 pub guard-sheet-write-spec : {M : Type 1} → statement M
 guard-sheet-write-spec =

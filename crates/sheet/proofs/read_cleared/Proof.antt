@@ -1,7 +1,7 @@
 -- `read_cleared`: the file's beginning, the head's numbers, and the rest. Assumes nothing.
 use mathlib.Core.Bool.{_&&_, true}
 use mathlib.Core.List.{List}
-use mathlib.Core.Path.{_∙_, _≡_, ap, refl, sym}
+use mathlib.Core.Path.{_∙_, _≡_, ap, sym}
 use native.Mathlib.Omega.{arith}
 use lib.Dec.{leb}
 use lib.IntN.{ℤ}
@@ -9,33 +9,29 @@ use lib.ListN.{length}
 use borrow.Author.Needs.{needs}
 use borrow.Author.Tests.{not-false, not-true}
 use Rattle.sheet_spec.proofs.Answers.{refused-head}
-use Rattle.sheet_encoding.proofs.RecordTurn.{mark-is}
 use Rattle.sheet_encoding.proofs.ReaderAnswer.{begins, begins-short, begins-wrong}
 use Rattle.sheet_spec.specs.Fields.{bad, filled}
-use Rattle.sheet_spec.specs.File.{marked, recordAt, start, sized}
-use Rattle.sheet_spec.specs.Layout.{_▸_, head, headFields}
+use Rattle.sheet_spec.specs.declared.Record.the-variants.{Head}
+use Rattle.sheet_spec.specs.File.{marked}
+use Rattle.sheet_spec.specs.Layout.{headFields}
 use Rattle.sheet_spec.specs.Sheet.{headOf}
 use Rattle.sheet_spec.specs.Slots.{headSize}
 use Rattle.sheet_spec.specs.Sizes.{letters, capsAt}
 use Rattle.sheet.proofs.read_cleared.Statement.{statement}
 use Rattle.sheet.proofs.read_cleared.Tie as tie
 
-right-is : (c : tie.After-marked) → c .marked .result ≡ marked (c .before .before .before .before .args .f .now) 0 head
-unfolding recordAt _▸_ start
-right-is c = let m = c .before .mark-of .ensures 0 in mark-is (sized 0 0 0) 0 (c .before .before .before .before .args .f .now) refl (m .0) (m .1) (c .marked .ensures)
+begun : (c : tie.Else2) → leb capsAt (length (c .before .before .before .before .args .f .now)) && marked (c .before .before .before .before .args .f .now) 0 Head ≡ true
+begun c = begins _ (c .before .before .if1 .left) (c .before .marked .ensures) (not-false _ (c .if2 .left))
 
-begun : (c : tie.Else2) → leb capsAt (length (c .before .before .before .before .before .args .f .now)) && marked (c .before .before .before .before .before .args .f .now) 0 head ≡ true
-begun c = begins _ (c .before .before .before .if1 .left) (right-is (c .before)) (not-false _ (c .if2 .left))
-
-head-read : (c : tie.After-read-head) → c .read-head .last .1 .0 ≡ headOf (c .before .before .before .before .before .before .before .args .f .now)
+head-read : (c : tie.After-read-head) → c .read-head .last .1 .1 .0 ≡ headOf (c .before .before .before .before .before .before .args .f .now)
 unfolding headOf
-head-read c = let d = c .before .before .before .before .before .before .before in c .read-head .ensures ∙ ap (filled headFields (d .args .f .now) letters headSize) (d .pre)
+head-read c = let d = c .before .before .before .before .before .before in c .read-head .ensures ∙ ap (filled headFields (d .args .f .now) letters headSize) (d .pre)
 
 returns : tie.Need-returns
 returns c = (begins-short _ (c .if1 .taken), λ e. (let z : ⊥ = omega arith in absurd z))
 
 returns-2 : tie.Need-returns-2
-returns-2 c = (begins-wrong _ (c .before .before .before .if1 .left) (right-is (c .before)) (not-true _ (c .if2 .taken)), λ e. (let z : ⊥ = omega arith in absurd z))
+returns-2 c = (begins-wrong _ (c .before .before .if1 .left) (c .before .marked .ensures) (not-true _ (c .if2 .taken)), λ e. (let z : ⊥ = omega arith in absurd z))
 
 returns-3 : tie.Need-returns-3
 returns-3 c = let h = c .before .before .before in
@@ -50,7 +46,6 @@ read-cleared-spec =
     tie.close
     (tie.spec
     returns
-    (λ c κs. search needs)
     (λ c κs. search needs)
     returns-2
     (λ c κs. search needs)

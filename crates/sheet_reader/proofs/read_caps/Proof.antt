@@ -1,8 +1,8 @@
--- `read_caps`: the head with its caps. Assumes nothing.
-use mathlib.Core.Path.{_∙_, _≡_, ap₂, refl, sym}
-use Prim.Native.Nat.{_+_, _-_, _≤_}
+-- `read_caps`: the head with its caps. The invariant: the first i caps were read. The measure: the caps left. Assumes nothing.
+use mathlib.Core.Path.{_∙_, _≡_, ap, refl}
+use Prim.Native.Nat.{_+_, _-_, _≤_, ℕ}
 use native.Mathlib.Omega.{arith}
-use Rattle.sheet_spec.proofs.FieldRuns.{filled-next, filled-part}
+use Rattle.sheet_spec.proofs.FieldRuns.{filled-next, filled-run}
 use Rattle.sheet_encoding.proofs.FieldTurn.{cap-place, cap-run}
 use Rattle.sheet_encoding.proofs.SlotNumber.{stored}
 use Rattle.sheet_spec.specs.Fields.{filled, offset}
@@ -13,30 +13,33 @@ use Rattle.sheet_reader.proofs.read_caps.Statement.{statement}
 use Rattle.sheet_reader.proofs.read_caps.Tie as tie
 
 abbrev Inv-loop : tie.InvT-loop
-Inv-loop f n v₀ i₀ v i = (i ≤ n) × (v ≡ filled capField f capsAt i v₀)
+Inv-loop f at n v₀ caps i₀ v i = (i ≤ n) × (v ≡ filled capField f caps i v₀)
 
 abbrev μ-loop : tie.MeasureT-loop
-μ-loop f n v₀ i₀ v i = n - i
+μ-loop f at n v₀ caps i₀ v i = n - i
 
 loop-holds : tie.Need-loop-holds Inv-loop μ-loop
 unfolding filled
 loop-holds c = (omega arith, refl)
 
 loop-again : tie.Need-loop-again Inv-loop μ-loop
-loop-again c = let d = c .before .before in
+loop-again c =
+    let d = c .before .before in
+    let a = d .before .before .before .before .args in
     let i = d .loop .i in (
       omega arith,
-      filled-next capField i (i + 1) refl _ refl (d .before .before .before .before .args .f .now) capsAt (d .before .read-head .last .1 .0) (capsAt + capBytes i)
+      filled-next capField i (i + 1) refl _ refl (a .f .now) (a .at + capsAt) (d .before .read-head .last .1 .1 .0) (a .at + capsAt + capBytes i)
           refl (stored (c .get-u16 .ensures) (c .get-u16 .ok)) (omega (arith, cap-place i)) (d .loop .inv .1),
     )
 
 returns : tie.Need-returns Inv-loop μ-loop
 unfolding headFields _▸_ offset
-returns c = let d = c .before .before in
+returns c =
+    let d = c .before .before in
     let a = d .before .before .before .args in
     let e : c .before .loop .i ≡ a .n = omega arith in
-    c .before .loop .inv .1 ∙ ap₂ (filled capField (a .f .now) capsAt) e (d .read-head .ensures)
-    ∙ sym (filled-part headFields capField headSize (a .n) (cap-run (a .n)) (a .f .now) letters (a .v .now))
+    filled-run headFields capField headSize (a .n) (cap-run (a .n)) (a .f .now) (a .at + letters) (a .v .now)
+    (c .before .loop .inv .1 ∙ ap (λ (i : ℕ). filled capField (a .f .now) (a .at + capsAt) i (d .read-head .last .1 .1 .0)) e) (omega arith) (d .read-head .ensures)
 
 pub read-caps-spec : {M : Type 1} → statement M
 read-caps-spec =
@@ -45,6 +48,7 @@ read-caps-spec =
     Inv-loop
     μ-loop
     (λ c κs. omega arith)
+    (λ c. omega arith)
     loop-holds
     (λ c. omega arith)
     (λ c. omega arith)

@@ -1,58 +1,63 @@
--- `read_records`: every record, one after another. Assumes nothing.
+-- `read_records`: every record, one after another. The invariant: the first r were read, and the next is at `at`. The measure: the records left.
+-- Assumes nothing.
 use mathlib.Core.Path.{_∙_, _≡_, ap, refl}
-use Prim.Native.Nat.{_+_, _-_, _≤_, ℕ}
+use Prim.Native.Nat.{_+_, _-_, _≤_, _<_, ℕ}
 use native.Mathlib.Omega.{arith}
 use lib.ListN.{length}
-use Rattle.sheet_encoding.proofs.RecordTurn.{filled-more, record-room, start-more}
-use Rattle.sheet_spec.specs.Fields.{offset}
-use Rattle.sheet_spec.specs.File.{countAt, fieldsAt, filledAll, start, records, sized}
-use Rattle.sheet_spec.specs.Sizes.{letters}
+use borrow.Author.Needs.{needs}
+use Rattle.sheet_encoding.proofs.RecordTurn.{filled-more, has-room, record-room, start-more}
+use Rattle.sheet_spec.specs.File.{filledAll, records, recordLength, start}
 use Rattle.sheet_reader.proofs.read_records.Statement.{statement}
 use Rattle.sheet_reader.proofs.read_records.Tie as tie
 
 abbrev Inv-loop : tie.InvT-loop
-Inv-loop f n bands boxes v₀ at₀ r₀ v at r = (r ≤ records (sized n bands boxes)) × ((at ≡ start (sized n bands boxes) r) × (v ≡ filledAll (sized n bands boxes) f r v₀))
+Inv-loop f shape v₀ count at₀ r₀ v at r = (r ≤ count) × ((at ≡ start shape r) × (v ≡ filledAll shape f r v₀))
 
 abbrev μ-loop : tie.MeasureT-loop
-μ-loop f n bands boxes v₀ at₀ r₀ v at r = records (sized n bands boxes) - r
+μ-loop f shape v₀ count at₀ r₀ v at r = count - r
 
--- the r-th record lies within the file
-within-file : (c : tie.In-loop Inv-loop μ-loop)
-    → (let a = c .before .before .before .args in
-    let s = sized (a .n) (a .bands) (a .boxes) in
-    let r = c .before .loop .r in
-    c .before .loop .at + (letters + offset (fieldsAt s r) (countAt s r)) ≤ length (a .f .now))
-within-file c =
-    let a = c .before .before .before .args in
-    omega (arith, c .before .loop .inv .1 .0, record-room (sized (a .n) (a .bands) (a .boxes)) (c .before .loop .r) (records (sized (a .n) (a .bands) (a .boxes))) (length (a .f .now)) (omega arith) (c .before .before .before .pre .1))
+-- at the r-th record
+module _ (c : tie.After-record-at Inv-loop μ-loop) where
+  abbrev began : tie.Start Inv-loop μ-loop
+  began = c .before .before .before .before .before
+
+  below : c .before .before .loop .r < records (began .args .shape)
+  below = omega (arith, c .before .before .before .record-count .ensures)
+
+  -- it lies within the file
+  within-file : c .before .before .loop .at + recordLength (began .args .shape .vars) (c .record-at .result) ≤ length (began .args .f .now)
+  within-file = record-room _ _ _ _ (c .record-at .ensures) (c .before .before .loop .inv .1 .0) below (began .pre .1)
 
 loop-holds : tie.Need-loop-holds Inv-loop μ-loop
 unfolding start filledAll
 loop-holds c = (omega arith, (refl, refl))
 
 read-record-requires : tie.Need-read-record-requires Inv-loop μ-loop
-read-record-requires c κs = (omega arith, (c .before .before .loop .inv .1 .0, within-file (c .before)))
+read-record-requires c κs =
+    let x = c .before in
+    let l = began x .pre .0 in
+    ((l, has-room _ _ (x .record-at .ensures) l (below x)), within-file x)
 
 add-at : tie.Need-add-at Inv-loop μ-loop
 add-at c = omega (arith, c .record-length .ensures, within-file (c .before .before .before))
 
 loop-again : tie.Need-loop-again Inv-loop μ-loop
-loop-again c = let d = c .before .before .before .before in
-    let a = d .before .before .args in
-    let s = sized (a .n) (a .bands) (a .boxes) in
-    let r = d .loop .r in
+loop-again c =
+    let x = c .before .before .before in
+    let d = x .before .before in
+    let a = began x .args in
+    let is = x .record-at .ensures in
     let i = d .loop .inv .1 in (
       omega arith,
-      (
-        omega (arith, i .0, c .record-length .ensures, start-more s r),
-        filled-more s r (a .f .now) (a .v .now) (c .before .read-record .ensures) (i .0) (i .1),
-      ),
+      (start-more _ _ is (c .record-length .ensures) (i .0) refl, filled-more _ _ is (a .f .now) (a .v .now) (c .before .read-record .ensures) (i .0) (i .1)),
     )
 
 returns : tie.Need-returns Inv-loop μ-loop
-returns c = let a = c .before .before .before .args in
-    let e : c .before .loop .r ≡ records (sized (a .n) (a .bands) (a .boxes)) = omega arith in
-    c .before .loop .inv .1 .1 ∙ ap (λ (r : ℕ). filledAll (sized (a .n) (a .bands) (a .boxes)) (a .f .now) r (a .v .now)) e
+returns c =
+    let b = c .before .before in
+    let a = b .before .before .args in
+    let e : c .before .loop .r ≡ records (a .shape) = omega (arith, b .record-count .ensures) in
+    c .before .loop .inv .1 .1 ∙ ap (λ (r : ℕ). filledAll (a .shape) (a .f .now) r (a .v .now)) e
 
 pub read-records-spec : {M : Type 1} → statement M
 read-records-spec =
@@ -60,11 +65,11 @@ read-records-spec =
     (tie.spec
     Inv-loop
     μ-loop
+    (λ c κs. search needs)
     loop-holds
-    (λ c. omega arith)
-    (λ c. omega arith)
+    (λ c κs. search needs)
     read-record-requires
-    (λ c κs. omega arith)
+    (λ c κs. search needs)
     add-at
     (λ c. omega arith)
     (λ c. omega arith)

@@ -1,8 +1,9 @@
 -- `bad_band`: a band's edge, its safety range, and its rows. Assumes nothing.
-use mathlib.Core.Path.{_∙_, _≡_, ap, refl}
+use mathlib.Core.Path.{_∙_, _≡_, ap, refl, sym}
 use Prim.Native.Nat.{_*_, _+_, _-_, _≤_, ℕ}
 use native.Mathlib.Omega.{arith}
 use borrow.Author.Needs.{needs}
+use Rattle.sheet_spec.proofs.Laws.{goes-on}
 use Rattle.sheet_spec.proofs.FieldRuns.{bad-field, bad-next, bad-run}
 use Rattle.sheet_spec.proofs.FieldPlaces.{row-next, row-run}
 use Rattle.sheet_encoding.proofs.SlotNumber.{held}
@@ -29,7 +30,7 @@ loop-holds c = let d = c .before .before .before .before in
       omega arith,
       bad-next p greatestInBand (firstRow + 0 * rowCount (a .n)) (omega arith) _ refl v (c .after2 .ensures (p greatestInBand) (omega arith) (held (c .before .value3 .ensures .0) (c .before .value3 .ensures .1)) (held (greatest .0) (greatest .1)) refl)
           (bad-field p v leastInBand (c .before .before .after .ensures (p leastInBand) (omega arith) (held (c .before .before .before .value2 .ensures .0) (c .before .before .before .value2 .ensures .1)) (held (greatest .0) (greatest .1)) refl)
-          (d .bad-edge .ensures)),
+          (d .bad-edge .ensures ∙ sym (goes-on (λ c. c) _ refl))),
     )
 
 loop-again : tie.Need-loop-again Inv-loop μ-loop

@@ -1,48 +1,54 @@
--- `write_records`: every record, one after another. Assumes nothing.
+-- `write_records`: every record, one after another. The invariant: the first r were written, and the next comes to `at`. The measure: the
+-- records left. Assumes nothing.
 use mathlib.Core.Path.{_≡_, _∙_, ap, refl}
-use Prim.Native.Nat.{ℕ, _+_, _-_, _≤_}
+use Prim.Native.Nat.{ℕ, _+_, _-_, _≤_, _<_}
 use native.Mathlib.Omega.{arith}
 use lib.ListN.{length}
 use lib.Seq.{sets, length-sets}
-use Rattle.sheet_encoding.proofs.RecordTurn.{record-room, start-more}
+use Rattle.sheet_encoding.proofs.RecordTurn.{has-room, record-room, start-more}
 use Rattle.sheet_writer.proofs.FileTurn.{length-record, part-back, part-length, record-next}
-use Rattle.sheet_spec.specs.Fields.{offset}
-use Rattle.sheet_spec.specs.File.{codedAll, countAt, fieldsAt, recordAt, recordBytes, start, records, sized}
-use Rattle.sheet_spec.specs.Sizes.{letters}
+use Rattle.sheet_spec.specs.File.{codedAll, recordBytes, recordLength, records, start}
+use borrow.Author.Needs.{needs}
 use Rattle.sheet_writer.proofs.write_records.Statement.{statement}
 use Rattle.sheet_writer.proofs.write_records.Tie as tie
 
 abbrev Inv-loop : tie.InvT-loop
-Inv-loop s₀ n bands boxes v at₀ r₀ s at r = (r ≤ records (sized n bands boxes)) × ((at ≡ start (sized n bands boxes) r) × (s ≡ sets s₀ 0 (codedAll (sized n bands boxes) v r)))
+Inv-loop s₀ shape v count at₀ r₀ s at r = (r ≤ count) × ((at ≡ start shape r) × (s ≡ sets s₀ 0 (codedAll shape v r)))
 
 abbrev μ-loop : tie.MeasureT-loop
-μ-loop s₀ n bands boxes v at₀ r₀ s at r = records (sized n bands boxes) - r
+μ-loop s₀ shape v count at₀ r₀ s at r = count - r
 
-kept : (c : tie.At-loop Inv-loop μ-loop) → length (c .loop .s) ≡ length (c .before .before .args .s .now)
+kept : (c : tie.At-loop Inv-loop μ-loop) → length (c .loop .s) ≡ length (c .before .before .before .args .s .now)
 kept c = ap length (c .loop .inv .1 .1) ∙ simp length-sets
 
--- the r-th record has room
-room : (c : tie.In-loop Inv-loop μ-loop)
-    → (let a = c .before .before .before .args in
-    let s = sized (a .n) (a .bands) (a .boxes) in
-    let r = c .before .loop .r in
-    c .before .loop .at + (letters + offset (fieldsAt s r) (countAt s r)) ≤ length (a .s .now))
-room c =
-    let a = c .before .before .before .args in
-    omega (arith, c .before .loop .inv .1 .0, record-room (sized (a .n) (a .bands) (a .boxes)) (c .before .loop .r) (records (sized (a .n) (a .bands) (a .boxes))) (length (a .s .now)) (omega arith) (c .before .before .before .pre .1))
+-- at the r-th record
+module _ (c : tie.After-record-at Inv-loop μ-loop) where
+  abbrev began : tie.Start Inv-loop μ-loop
+  began = c .before .before .before .before .before
+
+  below : c .before .before .loop .r < records (began .args .shape)
+  below = omega (arith, c .before .before .before .record-count .ensures)
+
+  -- it has room
+  room : c .before .before .loop .at + recordLength (began .args .shape .vars) (c .record-at .result) ≤ length (began .args .s .now)
+  room = record-room _ _ _ _ (c .record-at .ensures) (c .before .before .loop .inv .1 .0) below (began .pre .1)
 
 loop-holds : tie.Need-loop-holds Inv-loop μ-loop
 unfolding start codedAll
 loop-holds c = (omega arith, (refl, refl))
 
 sub-write-record : tie.Need-sub-write-record Inv-loop μ-loop
-sub-write-record c = omega (arith, room c, kept (c .before))
+sub-write-record c = omega (arith, room c, kept (c .before .before))
 
 part-write-record-start : tie.Need-part-write-record-start Inv-loop μ-loop
-part-write-record-start c = omega (arith, room c, kept (c .before))
+part-write-record-start c = omega (arith, room c, kept (c .before .before))
 
 write-record-requires : tie.Need-write-record-requires Inv-loop μ-loop
-write-record-requires c κs = (omega arith, omega (arith, room (c .before), kept (c .before .before), part-length (c .before .before .loop .s) (c .before .before .loop .at)))
+write-record-requires c κs =
+    let x = c .before in
+    let d = x .before .before in
+    let l = began x .pre .0 in
+    ((l, has-room _ _ (x .record-at .ensures) l (below x)), omega (arith, room x, kept d, part-length (d .loop .s) (d .loop .at)))
 
 add-at : tie.Need-add-at Inv-loop μ-loop
 add-at c = omega (arith, c .record-length .ensures, room (c .before .before .before .before .before))
@@ -50,17 +56,18 @@ add-at c = omega (arith, c .record-length .ensures, room (c .before .before .bef
 loop-again : tie.Need-loop-again Inv-loop μ-loop
 loop-again c =
     let w = c .before .before .before in
-    let d = w .before .before .before in
-    let a = d .before .before .args in
-    let s = sized (a .n) (a .bands) (a .boxes) in
-    let r = d .loop .r in
-    let i = d .loop .inv .1 in
-    let x = recordAt s r in (
+    let x = w .before .before in
+    let d = x .before .before in
+    let a = began x .args in
+    let n = a .shape .vars in
+    let y = x .record-at .result in
+    let is = x .record-at .ensures in
+    let i = d .loop .inv .1 in (
       omega arith,
       (
-        omega (arith, i .0, c .record-length .ensures, start-more s r),
-        record-next s (a .v .now) (a .s .now) r
-            (part-back (d .loop .s) (d .loop .at) (recordBytes (a .n) x (a .v .now)) (w .write-record .ensures) (omega (arith, room (w .before .before), kept d, length-record (a .n) x (a .v .now)))) (i .0) (i .1),
+        start-more _ _ is (c .record-length .ensures) (i .0) refl,
+        record-next (a .shape) (a .v .now) (a .s .now) (d .loop .r) is
+            (part-back (d .loop .s) (d .loop .at) (recordBytes n y (a .v .now)) (w .write-record .ensures) (omega (arith, room x, kept d, length-record n y (a .v .now)))) (i .0) (i .1),
       ),
     )
 
@@ -69,9 +76,10 @@ same-length c = kept (c .before)
 
 returns : tie.Need-returns Inv-loop μ-loop
 returns c =
-    let a = c .before .before .before .args in
-    let e : c .before .loop .r ≡ records (sized (a .n) (a .bands) (a .boxes)) = omega arith in
-    c .before .loop .inv .1 .1 ∙ ap (λ (r : ℕ). sets (a .s .now) 0 (codedAll (sized (a .n) (a .bands) (a .boxes)) (a .v .now) r)) e
+    let b = c .before .before in
+    let a = b .before .before .args in
+    let e : c .before .loop .r ≡ records (a .shape) = omega (arith, b .record-count .ensures) in
+    c .before .loop .inv .1 .1 ∙ ap (λ (r : ℕ). sets (a .s .now) 0 (codedAll (a .shape) (a .v .now) r)) e
 
 pub write-records-spec : {M : Type 1} → statement M
 write-records-spec =
@@ -79,14 +87,14 @@ write-records-spec =
     (tie.spec
     Inv-loop
     μ-loop
+    (λ c κs. search needs)
     loop-holds
-    (λ c. omega arith)
-    (λ c. omega arith)
+    (λ c κs. search needs)
     sub-write-record
     part-write-record-start
     (λ c. omega arith)
     write-record-requires
-    (λ c κs. omega arith)
+    (λ c κs. search needs)
     add-at
     (λ c. omega arith)
     (λ c. omega arith)

@@ -3,7 +3,6 @@ use mathlib.Core.Path.{_∙_, ap}
 use native.Mathlib.Omega.{arith}
 use lib.ListN.{length, length-set}
 use lib.Seq.{length-sets}
-use Rattle.sheet_spec.specs.File.{recordAt, sized}
 use Rattle.sheet_writer.proofs.RecordTurn.{record-is}
 use borrow.Author.Needs.{needs}
 use Rattle.sheet_writer.proofs.record.write_record.Statement.{statement}
@@ -12,16 +11,12 @@ use Rattle.sheet_writer.proofs.record.write_record.Tie as tie
 slice-write-s-2 : tie.Need-slice-write-s-2
 slice-write-s-2 c = simp length-set (omega arith)
 
-write-numbers-requires : tie.Need-write-numbers-requires
-write-numbers-requires c κs = simp length-set (omega arith)
-
 returns : tie.Need-returns
 returns c =
     let w = c .before .before in
     let m = w .before .before in
     let a = m .before .before .args in
-    let mark = m .mark-of .ensures (a .n) in
-    record-is (a .n) (recordAt (sized (a .n) (a .bands) (a .boxes)) (a .r)) (a .v .now) (a .s .now) (w .write-numbers .ensures) (mark .0) (mark .1)
+    record-is (a .shape .vars) (a .«record») (a .v .now) (a .s .now) (w .write-numbers .ensures) (m .mark-of .ensures .0) (m .mark-of .ensures .1)
 
 same-length : tie.Need-same-length
 same-length c = ap length (returns c) ∙ simp length-sets
@@ -33,6 +28,6 @@ write-record-spec =
     (λ c κs. search needs)
     (λ c. search needs)
     slice-write-s-2
-    write-numbers-requires
+    (λ c κs. search needs)
     same-length
     returns)
