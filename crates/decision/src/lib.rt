@@ -21,6 +21,7 @@ use boxes_step::Budget;
 use decision_answers::Decision;
 use decision_answers::Recovery;
 use decision_answers::recovery_of;
+use decision_spec::Phase;
 use decision_spec::Question;
 use machine_spec::Law;
 use sheet::read_zeroed;
@@ -52,11 +53,18 @@ fn decision_to(sheet: &[i32; SLOTS], question: Question) -> Decision
         allowance: head.allowance,
     };
     let law = head.law;
+    let asked = Phase {
+        law: law,
+        ticks: first,
+    };
+    let plain = Phase {
+        law: Law::Baseline,
+        ticks: then,
+    };
     let plan = AttemptPlan {
         budget: budget,
-        law: law,
-        first: first,
-        then: then,
+        phases: [asked, plain],
+        count: 2,
     };
     attempts(plan, sheet, &start, larger(first, then))
 }
@@ -98,11 +106,14 @@ fn check_on(sheet: &[i32; SLOTS]) -> Recovery
         limited: false,
         allowance: 0,
     };
+    let plain = Phase {
+        law: Law::Baseline,
+        ticks: ticks,
+    };
     let plan = AttemptPlan {
         budget: budget,
-        law: Law::Baseline,
-        first: 0,
-        then: ticks,
+        phases: [plain, plain],
+        count: 1,
     };
     recovery_of(attempts(plan, sheet, &recovery, ticks))
 }

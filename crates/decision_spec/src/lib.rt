@@ -14,3 +14,9 @@ pub struct Question {
     pub head: QuestionHead,
     pub measured: [i64; BOX_SIZE],
 }
+
+// Some ticks under one law.
+pub struct Phase {
+    pub law: Law,
+    pub ticks: usize,
+}

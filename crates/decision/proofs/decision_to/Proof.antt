@@ -4,6 +4,7 @@ use mathlib.Core.List.{List}
 use native.Mathlib.Omega.{arith}
 use lib.IntN.{ℤ}
 use borrow.Author.Needs.{needs}
+use Rattle.decision_spec.specs.Decision.{ticksOf}
 use Rattle.decision.proofs.Answer.{plan-decides}
 use Rattle.decision.proofs.decision_to.Statement.{statement}
 use Rattle.decision.proofs.decision_to.Tie as tie
@@ -26,6 +27,7 @@ count-requires-2 : tie.Need-count-requires-2
 count-requires-2 c κs = (omega arith, c .before .before .before .pre .sheet .head 5 (omega arith))
 
 attempts-requires : tie.Need-attempts-requires
+unfolding ticksOf
 attempts-requires at-width κs =
     let asked = at-start at-width .pre in
     let δ-is = at-first at-width .count .ensures in
@@ -35,6 +37,8 @@ attempts-requires at-width κs =
       sheet = asked .sheet;
       start = asked .start;
       trimmed = asked .trimmed;
+      phases = omega arith;
+      among = omega arith;
       ticks = omega (arith, δ-is, α-is, asked .sheet .sum-high);
       some = omega (arith, δ-is, α-is, width-is, asked .sheet .δ-low);
       most = omega (arith, δ-is, α-is, width-is, asked .sheet .sum-high);
