@@ -38,9 +38,11 @@ fn take_in(i: usize, low: i64, high: i64, work: &mut [i64; BOX_SIZE]) -> bool
     ensures { λ r. ⌜ TookIn i low high (now (work .entry)) r (now (work .exit)) ⌝ }
 {
     let upper = i + N;
-    let inside = both_le(work[i], low, high, work[upper]);
-    work[i] = min(work[i], low);
-    work[upper] = max(work[upper], high);
+    let lower_side = work[i];
+    let upper_side = work[upper];
+    let inside = both_le(lower_side, low, high, upper_side);
+    work[i] = min(lower_side, low);
+    work[upper] = max(upper_side, high);
     inside
 }
 
@@ -82,9 +84,8 @@ fn arrive_side(
     requires { ⌜ (place < slots.boxSize) × SideMovable (now at ! place) ticks (now rates ! place) ⌝ }
     ensures { λ _. ⌜ ArriveSideDone up place (now (at .entry)) ticks (now (rates .entry)) (now (work .entry)) (now (path .entry)) (now (at .exit)) (now (work .exit)) (now (path .exit)) ⌝ }
 {
-    let side = at[place];
-    let end = along(side, ticks, rates[place]);
-    path[place] = outer(up, side, end);
+    let end = along(at[place], ticks, rates[place]);
+    path[place] = outer(up, at[place], end);
     at[place] = end;
     work[place] = end;
 }

@@ -1,13 +1,16 @@
--- A phase of an attempt for a reach of the code, and an attempt of the definitions for a turn of the code's loop. Assumes nothing.
+-- A phase of an attempt for a turn of the code's loop over phases, and an attempt for a turn of its loop over widths. Assumes nothing.
 use mathlib.Core.Path.{_≡_, refl, sym, ap, _∙_, subst}
 use mathlib.Core.Bool.{Bool, true, false}
 use mathlib.Core.List.{List, [], _∷_}
 use Prim.Native.Nat.{ℕ, zero, suc, _+_, _*_, _-_, _/_, _≤_, _<_}
 use native.Mathlib.Omega.{arith}
 use native.Mathlib.Nat.{le-refl}
+use native.Mathlib.Numerals.{add-one}
 use borrow.Author.Tests.{le-leb, lt-leb}
 use lib.Dec.{leb}
 use lib.IntN.{ℤ}
+use lib.ListN.{getD, length, take, drop, length-take}
+use lib.Seq.{drop-cons, getD-take}
 use Rattle.sheet_spec.specs.Slots.{N, vars, boxes, recoveryBox}
 use Rattle.sheet_spec.specs.Valid.{Valid}
 use Rattle.sheet_spec.specs.Box.{all, lowestMet}
@@ -24,6 +27,7 @@ use Rattle.sheet_spec.specs.Limits.{maxTicks, maxWidth, maxCap}
 use Rattle.boxes_spec.specs.Reach.{Reached, reach, clear}
 use Rattle.boxes.specs.ReachResult.{resultOf, reachedOf, Names}
 use Rattle.boxes_spec.proofs.Stages.{value, failure, spent}
+use Rattle.boxes_rates.proofs.Bounds.{wider}
 use Rattle.boxes.proofs.Bounds.{reach-near}
 use Rattle.integers.proofs.Tests.{pick-yes, pick-no}
 use Rattle.decision_answers.specs.declared.Decision.the-variants.{Keep, Finest, Spent}
@@ -32,30 +36,30 @@ use Rattle.decision.specs.declared.attempt.Failure.{Failure}
 use Rattle.decision.specs.declared.attempt.Failure.the-variants.{Unrecovered}
 use Rattle.decision.specs.declared.attempt.AttemptResult.{AttemptResult}
 use Rattle.decision.specs.declared.attempt.AttemptResult.the-variants.{Succeeded, Failed, Exhausted}
-use Rattle.decision_spec.specs.Decision.{Phase, phase, follow, attempt, keep, finest, Reply, answered}
+use Rattle.decision_spec.specs.declared.Phase.{Phase}
+use Rattle.decision_spec.specs.Decision.{ticksOf, finish, phaseReach, follow, attempt, keep, finest, Reply, answered}
 use Rattle.decision_spec.specs.Decision as decision
 use Rattle.decision_answers.specs.Decision.{replyOf}
 use Rattle.decision.specs.AttemptResult.{failureOf, summary}
-use Rattle.decision.specs.AttemptPlan.{attemptOf}
+use Rattle.decision.specs.AttemptPlan.{phasesOf, attemptOf}
+use Rattle.decision.specs.Limits.{startLimit}
 use Rattle.decision_spec.proofs.Attempts.{outcome, replyFrom, reply-turn}
-use Rattle.decision_spec.proofs.Allowance.{ticksOf, Spends, attempt-takes}
+use Rattle.decision_spec.proofs.Allowance.{Spends, attempt-takes}
 
--- ---- a reach under the sheet's machine
-
--- the reach of a phase from S at width w, after c rounds
-abbrev pub reached : Bool → ℕ → List ℤ → ℕ → Phase → List ℤ → ℕ → Result Reached
-reached limited allowance v w p S c = reach limited allowance (machine v (p .law)) (clear (vars v) v (boxes v)) w S (p .ticks) c
+-- ---- a phase
 
 -- a reach with the law and the number of no-go boxes that the code has
-pub plant-reach : (v : List ℤ) {used law : Law} → used ≡ law → (limited : Bool) (allowance count w : ℕ) (S : List ℤ) (ticks c : ℕ) → count ≡ boxes v
-    → reach limited allowance (machine v used) (clear (vars v) v count) w S ticks c ≡ reached limited allowance v w (phase law ticks) S c
-plant-reach v {law = law} under limited allowance count w S ticks c all-boxes =
-    ap (λ (l : Law). reach limited allowance (machine v l) (clear (vars v) v count) w S ticks c) under
-    ∙ ap (λ (j : ℕ). reach limited allowance (machine v law) (clear (vars v) v j) w S ticks c) all-boxes
+pub plant-reach : (v : List ℤ) {used : Law} (p : Phase) → used ≡ p .law → (limited : Bool) (allowance count w : ℕ) (S : List ℤ) (c : ℕ) → count ≡ boxes v
+    → reach limited allowance (machine v used) (clear (vars v) v count) w S (p .ticks) c ≡ phaseReach limited allowance v w p S c
+plant-reach v p under limited allowance count w S c all-boxes =
+    ap (λ (l : Law). reach limited allowance (machine v l) (clear (vars v) v count) w S (p .ticks) c) under
+    ∙ ap (λ (j : ℕ). reach limited allowance (machine v (p .law)) (clear (vars v) v j) w S (p .ticks) c) all-boxes
 
 -- the number of a no-go box, with the number of them that the code has
 pub names-all : (v : List ℤ) {count : ℕ} (W : List ℤ) (r : ReachResult) → count ≡ boxes v → Names (lowestMet (vars v) v count W) r → Names (lowestMet (vars v) v (boxes v) W) r
 names-all v W r all-boxes names = subst (λ (j : ℕ). Names (lowestMet (vars v) v j W) r) all-boxes names
+
+-- ---- the end of an attempt
 
 -- a box lies in another exactly if it lies in what counts of it
 pub within-trim : (n : ℕ) (A B : List ℤ) → n ≤ N → within n A (trim n B) ≡ within n A B
@@ -66,60 +70,83 @@ within-trim n A B room = same n (λ i i<n. rw (trim-lo n i room i<n B, trim-hi n
     same zero each = refl
     same (suc m) each = rw (same m (λ i i<m. each i (omega arith)), each m (omega arith)) refl
 
+module _ (v E : List ℤ) (c : ℕ) where
+  pub finish-inside : within (vars v) E (recoveryBox v) ≡ true → Succeeded c ≡ summary v (finish v E c)
+  unfolding finish summary
+  finish-inside inside = ap (summary {A = List ℤ} v) (sym (pick-yes (within (vars v) E (recoveryBox v)) (ok E c) (failed unrecovered c) inside))
+
+  pub finish-outside : within (vars v) E (recoveryBox v) ≡ false → Failed Unrecovered c ≡ summary v (finish v E c)
+  unfolding finish summary failureOf
+  finish-outside outside = ap (summary {A = List ℤ} v) (sym (pick-no (within (vars v) E (recoveryBox v)) (ok E c) (failed unrecovered c) outside))
+
 -- ---- an attempt
 
+-- the phase after the first k of a plan
+pub next-phase : (ps : List Phase) (count k : ℕ) (p other : Phase) → k < count → count ≤ length ps → p ≡ getD ps k other → drop k (take count ps) ≡ p ∷ drop (k + 1) (take count ps)
+next-phase ps count k p other more room is =
+    drop-cons (take count ps) k other (omega (arith, length-take count ps))
+    ∙ ap (λ (q : Phase). q ∷ drop (suc k) (take count ps)) (getD-take count ps k other more ∙ sym is) ∙ ap (λ (j : ℕ). p ∷ drop j (take count ps)) (sym (add-one k))
+
 module _ (limited : Bool) (allowance : ℕ) (v : List ℤ) (w : ℕ) where
-  abbrev recovers : List ℤ → ℕ → Result (List ℤ)
-  recovers E c = elim (within (vars v) E (recoveryBox v)) [ true ↦ ok E c | false ↦ failed unrecovered c ]
+  abbrev attempted : List Phase → List ℤ → ℕ → Result (List ℤ)
+  attempted = attempt limited allowance v w
 
-  -- the phase p from S after c rounds came to r, with the end box E and the swept box W
-  module _ (p : Phase) (ps : List Phase) (S : List ℤ) (c : ℕ) (r : ReachResult) (E W : List ℤ)
-      (reaches : reachedOf E W r ≡ reached limited allowance v w p S c) where
-    abbrev rest : Result Reached → Result (List ℤ)
-    rest result = andThen (andThen result (λ x d. follow limited allowance v w ps (x .end) d)) recovers
+  -- an attempt of the phases ps from S after c rounds, whose loop has come to E after d rounds with the phases `rest` left
+  pub record Following (ps : List Phase) (S : List ℤ) (c : ℕ) (rest : List Phase) (E : List ℤ) (d : ℕ) : Type 0 where
+    pub fewer : ticksOf rest ≤ ticksOf ps
+    pub near : SidesWithin (startLimit + (ticksOf ps - ticksOf rest) * maxCap) E
+    pub counts : d + 73 * ticksOf rest ≤ c + 73 * ticksOf ps
+    pub same : attempted ps S c ≡ attempted rest E d
 
-    phase-turn : rest (reachedOf E W r) ≡ attempt limited allowance v w (p ∷ ps) S c
-    unfolding attempt follow
-    phase-turn = ap rest reaches
-
-    -- it ended: the next phase's start box and count
-    pub phase-near : (t d : ℕ) → r ≡ Ended t d → {b : ℕ} → Valid v → 0 < w → w ≤ maxWidth → SidesWithin b S → SidesWithin (b + p .ticks * maxCap) E × (d ≤ c + 73 * p .ticks)
-    unfolding resultOf
-    phase-near t d ended sheet some most near = reach-near limited allowance _ _ w S (p .ticks) c sheet some most near (sym reaches ∙ ap (reachedOf E W) ended)
-
-    pub phase-on : (t d : ℕ) → r ≡ Ended t d → attempt limited allowance v w (p ∷ ps) S c ≡ attempt limited allowance v w ps E d
-    unfolding attempt andThen resultOf
-    phase-on t d ended = sym phase-turn ∙ ap (λ (o : ReachResult). rest (reachedOf E W o)) ended
-
-    -- it did not end
-    pub phase-stops : ((t d : ℕ) → r ≡ Ended t d → ⊥) → summary v (reachedOf E W r) ≡ summary v (attempt limited allowance v w (p ∷ ps) S c)
-    unfolding andThen resultOf summary
-    phase-stops not-ended = stops r not-ended ∙ ap (summary {A = List ℤ} v) phase-turn
-      where
-        stops : (o : ReachResult) → ((t d : ℕ) → o ≡ Ended t d → ⊥) → summary v (reachedOf E W o) ≡ summary v (rest (reachedOf E W o))
-        stops (Ended t d) not-ended = absurd (not-ended t d refl)
-        stops (Unsettled d) not-ended = refl
-        stops (Unsafe t j d) not-ended = refl
-        stops (result.Exhausted d) not-ended = refl
+  pub following-starts : (ps : List Phase) (S : List ℤ) (c : ℕ) → SidesWithin startLimit S → Following ps S c ps S c
+  following-starts ps S c near = record { fewer = le-refl (ticksOf ps); near = wider (omega arith) near; counts = omega arith; same = refl }
 
   -- no phase is left
-  pub attempt-succeeds : (E : List ℤ) (c : ℕ) → within (vars v) E (recoveryBox v) ≡ true → Succeeded c ≡ summary v (attempt limited allowance v w [] E c)
-  unfolding attempt follow andThen summary
-  attempt-succeeds E c inside = ap (summary {A = List ℤ} v) (sym (pick-yes (within (vars v) E (recoveryBox v)) (ok E c) (failed unrecovered c) inside))
+  pub following-ends : {ps : List Phase} {S : List ℤ} {c : ℕ} {E : List ℤ} {d : ℕ} → Following ps S c [] E d → finish v E d ≡ attempted ps S c
+  unfolding attempt follow andThen
+  following-ends k = sym (k .same)
 
-  pub attempt-fails : (E : List ℤ) (c : ℕ) → within (vars v) E (recoveryBox v) ≡ false → Failed Unrecovered c ≡ summary v (attempt limited allowance v w [] E c)
-  unfolding attempt follow andThen summary failureOf
-  attempt-fails E c outside = ap (summary {A = List ℤ} v) (sym (pick-no (within (vars v) E (recoveryBox v)) (ok E c) (failed unrecovered c) outside))
+  -- the reach of the next phase p came to r, with the end box F and the swept box W
+  module _ {ps : List Phase} {S : List ℤ} {c : ℕ} {p : Phase} {rest : List Phase} {E : List ℤ} {d : ℕ} (k : Following ps S c (p ∷ rest) E d) (r : ReachResult) (F W : List ℤ)
+      (reaches : reachedOf F W r ≡ phaseReach limited allowance v w p E d) where
+    abbrev others : Result Reached → Result (List ℤ)
+    others result = andThen (andThen result (λ x i. follow limited allowance v w rest (x .end) i)) (finish v)
+
+    phase-turn : others (reachedOf F W r) ≡ attempted (p ∷ rest) E d
+    unfolding attempt follow
+    phase-turn = ap others reaches
+
+    pub following-on : (t i : ℕ) → r ≡ Ended t i → Valid v → 0 < w → w ≤ maxWidth → Following ps S c rest F i
+    unfolding attempt andThen resultOf ticksOf
+    following-on t i ended sheet some most =
+        let b = reach-near limited allowance _ _ w E (p .ticks) d sheet some most (k .near) (sym reaches ∙ ap (reachedOf F W) ended) in
+        record {
+          fewer = omega (arith, k .fewer);
+          near = wider (omega (arith, k .fewer)) (b .0);
+          counts = omega (arith, k .counts, b .1);
+          same = k .same ∙ sym phase-turn ∙ ap (λ (o : ReachResult). others (reachedOf F W o)) ended;
+        }
+
+    -- it did not end
+    pub following-stops : ((t i : ℕ) → r ≡ Ended t i → ⊥) → summary v (reachedOf F W r) ≡ summary v (attempted ps S c)
+    unfolding andThen resultOf summary
+    following-stops not-ended = stops r not-ended ∙ ap (summary {A = List ℤ} v) (phase-turn ∙ sym (k .same))
+      where
+        stops : (o : ReachResult) → ((t i : ℕ) → o ≡ Ended t i → ⊥) → summary v (reachedOf F W o) ≡ summary v (others (reachedOf F W o))
+        stops (Ended t i) not-ended = absurd (not-ended t i refl)
+        stops (Unsettled i) not-ended = refl
+        stops (Unsafe t j i) not-ended = refl
+        stops (result.Exhausted i) not-ended = refl
 
 -- ---- attempts at ever smaller widths
 
 -- the count after an attempt that failed
-pub failed-count : (plan : AttemptPlan) {v : List ℤ} (S : List ℤ) (w c : ℕ) → Valid v → 0 < w → w ≤ maxWidth → plan .first + plan .then ≤ maxTicks
+pub failed-count : (plan : AttemptPlan) {v : List ℤ} (S : List ℤ) (w c : ℕ) → Valid v → 0 < w → w ≤ maxWidth → ticksOf (phasesOf plan) ≤ maxTicks
     → {why : Failure} {d : ℕ} → summary v (attemptOf plan v S w c) ≡ Failed why d → d ≤ c + 73000
-unfolding ticksOf summary
+unfolding summary
 failed-count plan {v} S w c sheet some most ticks = few (attempt-takes _ _ sheet w 9 some (omega arith) _ S c)
   where
-    few : {result : Result (List ℤ)} → Spends (plan .budget .limited) (plan .budget .allowance) c (73 * (plan .first + (plan .then + 0))) result → {why : Failure} {d : ℕ} → summary v result ≡ Failed why d → d ≤ c + 73000
+    few : {result : Result (List ℤ)} → Spends (plan .budget .limited) (plan .budget .allowance) c (73 * ticksOf (phasesOf plan)) result → {why : Failure} {d : ℕ} → summary v result ≡ Failed why d → d ≤ c + 73000
     few (value p taken) fails = let no : _≡_ {A = ℕ} 0 1 = cc in absurd (omega arith)
     few (failure {c′ = counted} q taken) {d = d} fails = let same : counted ≡ d = cc in omega (arith, taken .few)
     few (spent a b taken) fails = let no : _≡_ {A = ℕ} 0 1 = cc in absurd (omega arith)

@@ -1,10 +1,18 @@
--- What an attempt of the code comes to, in the terms of the definitions.
+-- What an attempt of the code and each of its phases come to, in the terms of the definitions.
+use mathlib.Core.Path.{_≡_}
 use mathlib.Core.List.{List}
+use Prim.Native.Nat.{ℕ}
 use lib.IntN.{ℤ}
 use Rattle.sheet_spec.specs.Slots.{vars, boxes}
 use Rattle.sheet_spec.specs.Box.{lowestMet}
+use Rattle.machine_spec.specs.Box.{trim}
+use Rattle.boxes_step.specs.declared.Budget.{Budget}
+use Rattle.boxes.specs.declared.steps.ReachResult.{ReachResult}
+use Rattle.boxes.specs.ReachResult.{reachedOf, Names}
 use Rattle.boxes_spec.specs.Step.{unsettled, unsafe, unrecovered, Result, ok, failed, exhausted}
 use Rattle.boxes_spec.specs.Step as step
+use Rattle.decision_spec.specs.declared.Phase.{Phase}
+use Rattle.decision_spec.specs.Decision.{phaseReach}
 use Rattle.decision.specs.declared.attempt.Failure.{Failure}
 use Rattle.decision.specs.declared.attempt.Failure.the-variants.{Unsettled, Unsafe, Unrecovered}
 use Rattle.decision.specs.declared.attempt.AttemptResult.{AttemptResult}
@@ -21,3 +29,9 @@ unfoldable pub summary : {A : Type 0} → List ℤ → Result A → AttemptResul
 summary v (ok x c) = Succeeded c
 summary v (failed why c) = Failed (failureOf v why) c
 summary v (exhausted c) = Exhausted c
+
+-- the reach of a phase from A at the width w, after c rounds, answers r, and leaves the end box B and the swept box W
+pub record PhaseDone (budget : Budget) (phase : Phase) (v A : List ℤ) (w c : ℕ) (r : ReachResult) (B W : List ℤ) : Type 0 where
+  pub same : reachedOf B W r ≡ phaseReach (budget .limited) (budget .allowance) v w phase A c
+  pub names : Names (lowestMet (vars v) v (boxes v) W) r
+  pub trimmed : trim (vars v) B ≡ B

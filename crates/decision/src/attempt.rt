@@ -1,17 +1,18 @@
-// Attempts (document 01, "The decision"): reaches under the command and then under the plain law, at a width, and at ever
-// smaller widths until one attempt ends in the recovery box. The recovery check is made of them too. The definitions are in
+// Attempts (document 01, "The decision"): reaches under one law after another, at a width, and at ever smaller widths until one
+// attempt ends in the recovery box. The recovery check is made of them too. The definitions are in
 // decision_spec/specs/Decision; specs/AttemptPlan and specs/AttemptResult say what is asked and answered in their terms.
 ghost use mathlib.Core.Path.{_≡_};
 ghost use mathlib.Core.List.{List};
 ghost use lib.IntN.{ℤ};
 ghost use Rattle.sheet_spec.specs.Slots.{boxes, vars};
+ghost use Rattle.sheet_spec.specs.Valid.{Valid};
 ghost use Rattle.sheet_spec.specs.Box.{lowestMet};
 ghost use Rattle.boxes.specs.ReachResult.{Names, reachedOf};
-ghost use Rattle.decision_spec.specs.Decision.{attempts, lastReply};
+ghost use Rattle.decision_spec.specs.Decision.{attempts, finish, lastReply};
 ghost use Rattle.decision_answers.specs.Decision.{replyOf};
 ghost use Rattle.decision.specs.AttemptPlan.{attemptOf};
-ghost use Rattle.decision.specs.AttemptResult.{summary};
-ghost use Rattle.decision.specs.Limits.{AttemptAsked, AttemptsAsked};
+ghost use Rattle.decision.specs.AttemptResult.{PhaseDone, summary};
+ghost use Rattle.decision.specs.Limits.{AttemptAsked, AttemptsAsked, PhaseAsked};
 use boxes::steps::ReachPlan;
 use boxes::steps::ReachResult;
 use boxes::steps::plant;
@@ -20,18 +21,21 @@ use boxes_shape::compare::box_at;
 use boxes_shape::compare::within;
 use boxes_step::Budget;
 use decision_answers::Decision;
-use machine_spec::Law;
+use decision_spec::Phase;
 use sheet_spec::slots::BOX_SIZE;
 use sheet_spec::slots::BOXES;
 use sheet_spec::slots::RECOVERY;
 use sheet_spec::slots::SLOTS;
+use sheet_spec::slots::VARS;
 
-// What is attempted: `first` ticks under the command, then `then` ticks under the baseline, within a budget of rounds.
+// The most phases of an attempt.
+pub const MAX_PHASES: usize = 2;
+
+// What is attempted: the first `count` of the phases, one after another, within a budget of rounds.
 pub struct AttemptPlan {
     pub budget: Budget,
-    pub command: i32,
-    pub first: usize,
-    pub then: usize,
+    pub phases: [Phase; MAX_PHASES],
+    pub count: usize,
 }
 
 // Why an attempt failed.
@@ -78,6 +82,47 @@ fn summary_of(reached: ReachResult) -> AttemptResult
     }
 }
 
+// The reach of a phase at a width from `end`, after `count` rounds. `end` becomes its end box, and `swept` its swept box or that
+// of the step that failed.
+fn reach_phase(
+    budget: Budget,
+    phase: Phase,
+    sheet: &[i32; SLOTS],
+    width: usize,
+    count: u32,
+    end: &mut [i64; BOX_SIZE],
+    swept: &mut [i64; BOX_SIZE],
+) -> ReachResult
+    requires { ⌜ PhaseAsked phase (now sheet) (now end) width count ⌝ }
+    ensures { λ r. ⌜ PhaseDone budget phase (now (sheet .entry)) (now (end .entry)) width count r (now (end .exit)) (now (swept .exit)) ⌝ }
+{
+    let law = phase.law;
+    let plan = ReachPlan {
+        budget: budget,
+        plant: plant(sheet, law),
+        boxes: sheet_encoding::count(sheet, BOXES),
+        width: width,
+    };
+    reach(plan, sheet, phase.ticks, count, end, swept)
+}
+
+// What an attempt comes to whose last end box is `end`, after `count` rounds.
+fn finish(sheet: &[i32; SLOTS], end: &[i64; BOX_SIZE], count: u32) -> AttemptResult
+    requires { ⌜ Valid (now sheet) ⌝ }
+    ensures { λ r. ⌜ r ≡ summary (now (sheet .entry)) (finish (now (sheet .entry)) (now (end .entry)) count) ⌝ }
+{
+    let n = sheet_encoding::count(sheet, VARS);
+    let recovery = box_at(n, sheet, RECOVERY);
+    if within(n, end, &recovery) {
+        AttemptResult::Succeeded { count: count }
+    } else {
+        AttemptResult::Failed {
+            why: Failure::Unrecovered,
+            count: count,
+        }
+    }
+}
+
 // An attempt at a width from the box `start`, after `count` rounds.
 fn attempt(
     plan: AttemptPlan,
@@ -90,40 +135,24 @@ fn attempt(
     ensures { λ r. ⌜ r ≡ summary (now (sheet .entry)) (attemptOf plan (now (sheet .entry)) (now (start .entry)) width count) ⌝ }
 {
     let budget = plan.budget;
-    let p = plant(sheet, Law::Command(plan.command));
-    let boxes = sheet_encoding::count(sheet, BOXES);
     let mut end = *start;
     let mut swept = end;
-    let commanded = ReachPlan {
-        budget: budget,
-        plant: p,
-        boxes: boxes,
-        width: width,
-    };
-    let r = reach(commanded, sheet, plan.first, count, &mut end, &mut swept);
-    let ReachResult::Ended { ticks: _, count: c } = r else {
-        return summary_of(r);
-    };
-    let plain = ReachPlan {
-        budget: budget,
-        plant: plant(sheet, Law::Baseline),
-        boxes: boxes,
-        width: width,
-    };
-    let q = reach(plain, sheet, plan.then, c, &mut end, &mut swept);
-    let ReachResult::Ended { ticks: _, count: d } = q else {
-        return summary_of(q);
-    };
-    let n = p.n;
-    let recovery = box_at(n, sheet, RECOVERY);
-    if within(n, &end, &recovery) {
-        AttemptResult::Succeeded { count: d }
-    } else {
-        AttemptResult::Failed {
-            why: Failure::Unrecovered,
-            count: d,
-        }
+    let mut counted = count;
+    let mut followed: usize = 0;
+    while followed < plan.count {
+        let phase = plan.phases[followed];
+        let r = reach_phase(budget, phase, sheet, width, counted, &mut end, &mut swept);
+        let ReachResult::Ended {
+            ticks: _,
+            count: after,
+        } = r
+        else {
+            return summary_of(r);
+        };
+        counted = after;
+        followed += 1;
     }
+    finish(sheet, &end, counted)
 }
 
 // Attempts at a width, then at half of it, and so on to 1.

@@ -20,6 +20,8 @@ use boxes_step::Budget;
 use decision_answers::Decision;
 use decision_answers::Recovery;
 use decision_answers::recovery_of;
+use decision_spec::Phase;
+use machine_spec::Law;
 use sheet::read_zeroed;
 use sheet_encoding::count;
 use sheet_spec::slots::ALPHA;
@@ -52,11 +54,18 @@ fn decide_on(sheet: &[i32; SLOTS], question: &[u8]) -> Decision
         limited: true,
         allowance: decision_question::allowance(question),
     };
+    let commanded = Phase {
+        law: Law::Command(decision_question::command(question)),
+        ticks: first,
+    };
+    let plain = Phase {
+        law: Law::Baseline,
+        ticks: then,
+    };
     let plan = AttemptPlan {
         budget: budget,
-        command: decision_question::command(question),
-        first: first,
-        then: then,
+        phases: [commanded, plain],
+        count: 2,
     };
     attempts(plan, sheet, &start, larger(first, then))
 }
@@ -85,11 +94,14 @@ fn check_on(sheet: &[i32; SLOTS]) -> Recovery
         limited: false,
         allowance: 0,
     };
+    let plain = Phase {
+        law: Law::Baseline,
+        ticks: ticks,
+    };
     let plan = AttemptPlan {
         budget: budget,
-        command: 0,
-        first: 0,
-        then: ticks,
+        phases: [plain, plain],
+        count: 1,
     };
     recovery_of(attempts(plan, sheet, &recovery, ticks))
 }

@@ -27,14 +27,11 @@ use Rattle.boxes_spec.specs.Reach.{clear, lawRefusal, sidesRefusal}
 use Rattle.boxes_spec.proofs.Stages.{Counted, Takes, value, failure, spent, counted-none, counted-less, counted-on, takes-map, takes-then, takes-if}
 use Rattle.boxes_spec.proofs.Settled.{reach-takes}
 use Rattle.decision_spec.specs.Question.{questionLength, formRefusal, allowanceRefusal, questionRefusal, allowanceOf, commandOf, measured}
-use Rattle.decision_spec.specs.Decision.{Phase, follow, attempt, keep, finest, spent, Reply, refused, answered, decisionPhases, decisionOf, recoveryPhases, recoveryOf, unlessRefused, checkRecovery, decide, codeOf, widthOf, roundsOf, packed}
+use Rattle.decision_spec.specs.declared.Phase.{Phase}
+use Rattle.decision_spec.specs.Decision.{ticksOf, finish, follow, attempt, keep, finest, spent, Reply, refused, answered, decisionPhases, decisionOf, recoveryPhases, recoveryOf, unlessRefused, checkRecovery, decide, codeOf, widthOf, roundsOf, packed}
 use Rattle.decision_spec.proofs.Attempts.{outcome, replyFrom, reply-turn}
 
 -- ---- an attempt
-
-unfoldable pub ticksOf : List Phase → ℕ
-ticksOf [] = 0
-ticksOf (p ∷ ps) = p .ticks + ticksOf ps
 
 -- from the count c the stage takes at most `most` rounds
 abbrev pub Spends : Bool → ℕ → ℕ → ℕ → Result (List ℤ) → Type 0
@@ -51,7 +48,7 @@ module _ (l : Bool) (a : ℕ) {v : List ℤ} (wf : Valid v) (w e : ℕ) (z : 0 <
       (λ r c′ _. follow-takes ps _ c′)
 
   pub attempt-takes : (ps : List Phase) (S : List ℤ) (c : ℕ) → Spends l a c ((8 * e + 1) * ticksOf ps) (attempt l a v w ps S c)
-  unfolding attempt
+  unfolding attempt finish
   attempt-takes ps S c =
       takes-then {d = 0} _ (omega arith) (follow-takes ps S c)
       (λ E c′ _. takes-if (within (vars v) E (recoveryBox v)) _ _ (λ i. value tt (counted-none c′)) (λ i. failure tt (counted-none c′)))

@@ -20,7 +20,8 @@ use Rattle.boxes_spec.specs.Step.{Result, ok, failed, exhausted, andThen}
 use Rattle.boxes_spec.specs.Reach.{clear}
 use Rattle.boxes_spec.proofs.Sound.{reach-sound, cleared-avoids}
 use Rattle.decision_spec.specs.Question.{questionRefusal, allowanceOf, commandOf, measured}
-use Rattle.decision_spec.specs.Decision.{Phase, follow, attempt, finest, Reply, answered, decisionPhases, decisionOf, recoveryPhases, recoveryOf, unlessRefused, checkRecovery, decide, isKeep}
+use Rattle.decision_spec.specs.declared.Phase.{Phase}
+use Rattle.decision_spec.specs.Decision.{finish, follow, attempt, finest, Reply, answered, decisionPhases, decisionOf, recoveryPhases, recoveryOf, unlessRefused, checkRecovery, decide, isKeep}
 use Rattle.decision_spec.proofs.Attempts.{outcome, replyFrom, reply-none, reply-turn}
 use Rattle.decision_spec.proofs.Cover.{Covered, covered-by}
 
@@ -69,7 +70,7 @@ module _ (limited : Bool) (allowance : ℕ) {v : List ℤ} (wf : Valid v) (w : �
 
   pub attempt-sound : (ps : List Phase) (S : List ℤ) (c : ℕ) {E : List ℤ} {c′ : ℕ} → attempt limited allowance v w ps S c ≡ ok E c′
       → (x : List ℤ) → In (vars v) S x → Covered v (laws ps) x
-  unfolding attempt
+  unfolding attempt finish
   attempt-sound ps S c e =
       let s = both _ _ e in
       follow-sound ps S c (s .first) (λ y. inside-in (within-inside (s .value) (recoveryBox v) (passed _ _ _ (λ g. g) (s .second))))

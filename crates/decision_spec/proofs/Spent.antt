@@ -23,7 +23,8 @@ use Rattle.boxes_spec.specs.Reach.{clear}
 use Rattle.boxes_spec.proofs.Count.{count, cond-zero}
 use Rattle.boxes_spec.proofs.Cut.{Cut, value, failure, spent, CutFrom, cut-value, cut-failure, cut-if, cut-then, reach-cut}
 use Rattle.decision_spec.specs.Question.{i32, formRefusal, allowanceRefusal, questionRefusal, allowanceOf, commandOf, pairs, measured}
-use Rattle.decision_spec.specs.Decision.{Phase, follow, attempt, keep, finest, spent, Reply, refused, answered, decisionPhases, decisionWithin, decisionOf, unlessRefused, decide, roundsOf}
+use Rattle.decision_spec.specs.declared.Phase.{Phase}
+use Rattle.decision_spec.specs.Decision.{finish, follow, attempt, keep, finest, spent, Reply, refused, answered, decisionPhases, decisionWithin, decisionOf, unlessRefused, decide, roundsOf}
 use Rattle.decision_spec.proofs.Attempts.{outcome, replyFrom, reply-none, reply-turn}
 use Rattle.decision_spec.specs.Spent.{isSpent, CutAt, SpentOnValues, SameButAllowance, SpentOnBytes}
 
@@ -36,7 +37,7 @@ module _ (A : ℕ) (v : List ℤ) (w : ℕ) where
   follow-cut (p ∷ ps) S c = cut-then _ _ (λ r c′. follow-cut ps (r .end) c′) (reach-cut A (machine v (p .law)) (clear (vars v) v (boxes v)) w S (p .ticks) c)
 
   attempt-cut : (ps : List Phase) (S : List ℤ) (c : ℕ) → CutFrom A c (attempt true A v w ps S c) (attempt false 0 v w ps S c)
-  unfolding attempt
+  unfolding attempt finish
   attempt-cut ps S c = cut-then _ _ (λ E c′. cut-if (within (vars v) E (recoveryBox v)) cut-value cut-failure) (follow-cut ps S c)
 
 -- ---- attempts at ever smaller widths

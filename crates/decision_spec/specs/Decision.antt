@@ -11,31 +11,36 @@ use Rattle.machine_spec.specs.declared.Law.{Law}
 use Rattle.machine_spec.specs.declared.Law.the-variants.{Baseline, Command}
 use Rattle.machine_spec.specs.Machine.{machine}
 use Rattle.boxes_spec.specs.Step.{Failure, unsettled, unrecovered, Result, ok, failed, exhausted, andThen}
-use Rattle.boxes_spec.specs.Reach.{reach, clear}
+use Rattle.boxes_spec.specs.Reach.{Reached, reach, clear}
+use Rattle.decision_spec.specs.declared.Phase.{Phase}
 use Rattle.decision_spec.specs.Question.{questionRefusal, allowanceOf, commandOf, measured}
 
 -- ---- an attempt at a width
 
--- some ticks under one law
-pub record Phase : Type 0 where
-  pub law : Law
-  pub ticks : ℕ
-
 abbrev pub phase : Law → ℕ → Phase
 phase l t = record { law = l; ticks = t }
 
+unfoldable pub ticksOf : List Phase → ℕ
+ticksOf [] = 0
+ticksOf (p ∷ ps) = p .ticks + ticksOf ps
+
+-- the last end box E has to be within the recovery box of the sheet v
+unfoldable pub finish : List ℤ → List ℤ → ℕ → Result (List ℤ)
+finish v E c = elim (within (vars v) E (recoveryBox v)) [ true ↦ ok E c | false ↦ failed unrecovered c ]
+
 -- an allowance (if `limited`), a sheet's value, the width
 module _ (limited : Bool) (allowance : ℕ) (v : List ℤ) (w : ℕ) where
-  -- the reaches of the phases, each from the end box of the one before, clear of every no-go box
+  -- the reach of a phase, clear of every no-go box
+  abbrev pub phaseReach : Phase → List ℤ → ℕ → Result Reached
+  phaseReach p S c = reach limited allowance (machine v (p .law)) (clear (vars v) v (boxes v)) w S (p .ticks) c
+
+  -- the reaches of the phases, each from the end box of the one before
   unfoldable pub follow : List Phase → List ℤ → ℕ → Result (List ℤ)
   follow [] S c = ok S c
-  follow (p ∷ ps) S c =
-      andThen (reach limited allowance (machine v (p .law)) (clear (vars v) v (boxes v)) w S (p .ticks) c) (λ r c′. follow ps (r .end) c′)
+  follow (p ∷ ps) S c = andThen (phaseReach p S c) (λ r c′. follow ps (r .end) c′)
 
-  -- and the last end box within the recovery box
   unfoldable pub attempt : List Phase → List ℤ → ℕ → Result (List ℤ)
-  attempt ps S c =
-      andThen (follow ps S c) (λ E c′. elim (within (vars v) E (recoveryBox v)) [ true ↦ ok E c′ | false ↦ failed unrecovered c′ ])
+  attempt ps S c = andThen (follow ps S c) (finish v)
 
 -- ---- the attempts made
 

@@ -8,7 +8,7 @@ use Rattle.sheet_spec.specs.Slots.{vars, recoveryBox}
 use Rattle.machine_spec.specs.Box.{trim}
 use Rattle.boxes_arithmetic.specs.Limits.{SidesWithin}
 use Rattle.machine_spec.proofs.InPlace.{trim-as}
-use Rattle.decision_spec.specs.Decision.{recoveryOf}
+use Rattle.decision_spec.specs.Decision.{ticksOf, recoveryOf}
 use Rattle.decision_answers.specs.Decision.{replyOf}
 use Rattle.decision.specs.Limits.{startLimit}
 use Rattle.decision_spec.proofs.Allowance.{recoveryOf-unspent}
@@ -34,7 +34,7 @@ module _ (at-attempts : tie.After-attempts) where
   at-box = at-attempts .before .before .before
 
   answered : replyOf (at-attempts .attempts .result) ≡ recoveryOf (v at-box)
-  answered = at-attempts .attempts .ensures ∙ plan-checks (v at-box) _ (start at-box ∙ at-start at-box .pre .1) (at-attempts .before .before .count2 .ensures)
+  answered = at-attempts .attempts .ensures ∙ plan-checks (v at-box) (start at-box ∙ at-start at-box .pre .1) (at-attempts .before .before .count2 .ensures)
 
 count-requires : tie.Need-count-requires
 count-requires c κs = (omega arith, c .pre .0 .head 0 (omega arith))
@@ -46,6 +46,7 @@ count-requires-2 : tie.Need-count-requires-2
 count-requires-2 at-box κs = (omega arith, at-start at-box .pre .0 .head 6 (omega arith))
 
 attempts-requires : tie.Need-attempts-requires
+unfolding ticksOf
 attempts-requires c κs =
     let at-box = c .before .before in
     let wf = at-start at-box .pre .0 in
@@ -55,6 +56,8 @@ attempts-requires c κs =
       sheet = wf;
       start = subst (SidesWithin startLimit) (sym (start at-box)) (recovery-near wf);
       trimmed = trim-as _ (start at-box ∙ trimmed) trimmed;
+      phases = omega arith;
+      among = omega arith;
       ticks = omega (arith, ρ-is, wf .ρ-high);
       some = omega (arith, ρ-is, wf .ρ-low);
       most = omega (arith, ρ-is, wf .ρ-high);

@@ -13,6 +13,7 @@ use Rattle.sheet_spec.specs.Slots.{N, vars}
 use Rattle.boxes_arithmetic.specs.Limits.{SidesWithin}
 use Rattle.machine_spec.proofs.InPlace.{trim-as}
 use Rattle.decision_spec.specs.Question.{questionLength, measured, questionRefusal}
+use Rattle.decision_spec.specs.Decision.{ticksOf}
 use Rattle.decision_answers.specs.Decision.{replyOf}
 use Rattle.decision.specs.Limits.{startLimit}
 use Rattle.decision_question.proofs.Refusals.{asked-length, measured-near, measured-trimmed}
@@ -83,6 +84,7 @@ command-requires : tie.Need-command-requires
 command-requires c κs = omega (arith, long (accepted (c .before .before .before)))
 
 attempts-requires : tie.Need-attempts-requires
+unfolding ticksOf
 attempts-requires c κs =
     let at-plain = c .before .before .before .before in
     let at-box = at-plain .before .before in
@@ -95,6 +97,8 @@ attempts-requires c κs =
       sheet = wf;
       start = subst (SidesWithin startLimit) (sym (start at-box)) (measured-near (v n) (g n) (passed (accepted at-box)) (room n));
       trimmed = trim-as (vars (v n)) (start at-box) (measured-trimmed (vars (v n)) (g n) (room n));
+      phases = omega arith;
+      among = omega arith;
       ticks = omega (arith, δ-is, α-is, wf .sum-high);
       some = omega (arith, δ-is, α-is, width-is, wf .δ-low);
       most = omega (arith, δ-is, α-is, width-is, wf .sum-high);

@@ -9,6 +9,7 @@ use mir.Syntax.{w64}
 use mir.Val.{SFits, ofZ, toZ}
 use borrow.Author.Needs.{needs}
 use Rattle.integers.proofs.Z.{told}
+use Rattle.sheet_spec.specs.Slots.{_!_}
 use Rattle.machine_spec.specs.Rate.{outer}
 use Rattle.boxes_shape.specs.Limits.{movedSide}
 use Rattle.boxes_shape.proofs.Sides.{movable-as}
@@ -18,20 +19,21 @@ use Rattle.boxes_shape.proofs.motion.arrive_side.Tie as tie
 along-requires : tie.Need-along-requires
 along-requires at-rate κs =
     let at-side = at-rate .before in
-    movable-as (at-side .before .pre .1) (told w64 _ (at-side .side .given)) (told w64 _ (at-rate .along-arg .given))
+    movable-as (at-side .before .pre .1) (told w64 _ (at-side .along-arg .given)) (told w64 _ (at-rate .along-arg2 .given))
 
 returns : tie.Need-returns
 returns at-outer =
-    let at-along = at-outer .before in
+    let at-side-again = at-outer .before in
+    let at-along = at-side-again .before in
     let at-rate = at-along .before in
     let at-side = at-rate .before in
     let at-start = at-side .before in
     let a = at-start .args in
     let outer-fits : SFits w64 (at-outer .outer .result) = search needs in
     let along-fits : SFits w64 (at-along .along .result) = search needs in
-    let side = told w64 _ (at-side .side .given) in
+    let side = told w64 (a .at .now ! a .place) (at-side-again .outer-arg .given) in
     let end : toZ w64 (ofZ w64 (at-along .along .result)) ≡ movedSide (a .at .now) (a .ticks) (a .rates .now) (a .place) =
-    toZ-ofZ along-fits ∙ (at-along .along .ensures ∙ simp (told, at-rate .along-arg .given, at-side .side .given)) in
+    toZ-ofZ along-fits ∙ (at-along .along .ensures ∙ simp (told, at-rate .along-arg2 .given, at-side .along-arg .given)) in
     record {
       end = ap (set (a .at .now) (a .place)) end;
       work = ap (set (a .work .now) (a .place)) end;
@@ -47,6 +49,8 @@ arrive-side-spec =
     (λ c. omega arith)
     (λ c. omega arith)
     along-requires
+    (λ c. omega arith)
+    (λ c. omega arith)
     (λ c κs. tt)
     (λ c. omega arith)
     (λ c. omega arith)

@@ -12,17 +12,17 @@ use mir.Facts.{toZ-ofZ}
 use mir.Syntax.{w64}
 use mir.Val.{SFits, ofZ, toZ}
 use borrow.Author.Needs.{needs}
-use Rattle.integers.specs.Order.{minZ, maxZ}
 use Rattle.integers.proofs.Z.{told}
 use Rattle.sheet_spec.specs.Slots.{N}
 use Rattle.sheet_spec.specs.Box.{lo, hi, all}
 use Rattle.machine_spec.specs.Box.{hull, moved, within}
 use Rattle.sheet_spec.proofs.Box.{all-last, all-false}
 use Rattle.machine_spec.proofs.Box.{swept-lo, swept-hi}
-use Rattle.machine_spec.proofs.InPlace.{filled, filled-none, filled-more, turn-lo, turn-hi, filled-sides}
+use Rattle.machine_spec.proofs.InPlace.{filled-none, turn-lo, turn-hi, filled-sides}
 use Rattle.machine_spec.specs.Rate.{outer}
 use Rattle.boxes_shape.specs.Limits.{TookIn}
 use Rattle.boxes_shape.proofs.Sides.{side-movable}
+use Rattle.boxes_shape.proofs.Turn.{joined, joined-more}
 use Rattle.boxes_shape.proofs.motion.grow.Statement.{statement}
 use Rattle.boxes_shape.proofs.motion.grow.Tie as tie
 
@@ -30,7 +30,7 @@ use Rattle.boxes_shape.proofs.motion.grow.Tie as tie
 record Invariant (n : ℕ) (M E F : List ℤ) (inside : Bool) (i : ℕ) : Type 0 where
   turns : i ≤ n
   test : inside ≡ within i M E
-  joined : F ≡ filled i (λ j. minZ (lo E j) (lo M j)) (λ j. maxZ (hi E j) (hi M j)) E
+  joined : F ≡ joined i E M
 
 -- a turn: the sides of variable i are taken in
 module _ {n : ℕ} {M E F : List ℤ} {inside : Bool} {i : ℕ} (inv : Invariant n M E F inside i) (more : i < n) (room : i < N) {low high : ℤ} (low-is : low ≡ lo M i) (high-is : high ≡ hi M i) {right : Bool} {G : List ℤ} (took : TookIn i low high F right G) where
@@ -52,7 +52,7 @@ module _ {n : ℕ} {M E F : List ℤ} {inside : Bool} {i : ℕ} (inv : Invariant
   failed not-so = all-false i _ (sym (inv .test) ∙ not-so)
 
   turn : {new : Bool} → new ≡ within (i + 1) M E → Invariant n M E G new (i + 1)
-  turn test = record { turns = omega (arith, more); test = test; joined = took .joined ∙ filled-more _ _ i _ (inv .joined) (ap₂ minZ low-was low-is) (ap₂ maxZ high-was high-is) }
+  turn test = record { turns = omega (arith, more); test = test; joined = joined-more E M i room (inv .joined) low-is high-is took }
 
 abbrev Inv-loop : tie.InvT-loop
 Inv-loop n start ticks rates work₀ inside₀ i₀ work inside i = Invariant n (hull n start (moved n start ticks rates)) work₀ work inside i

@@ -1,20 +1,19 @@
 -- `join` makes the hull in place. Invariant: after i turns, that of the first i variables. Measure: the variables left.
 -- Assumes nothing.
-use mathlib.Core.Path.{_≡_, ap₂, _∙_}
+use mathlib.Core.Path.{_≡_, _∙_}
 use Prim.Native.Nat.{ℕ, _≤_, _<_, _-_}
 use native.Mathlib.Omega.{arith}
 use mir.Syntax.{w64}
-use Rattle.integers.specs.Order.{minZ, maxZ}
 use Rattle.integers.proofs.Z.{told}
 use Rattle.sheet_spec.specs.Slots.{N}
-use Rattle.sheet_spec.specs.Box.{lo, hi}
 use Rattle.machine_spec.specs.Box.{hull}
-use Rattle.machine_spec.proofs.InPlace.{filled, filled-none, filled-more, turn-lo, turn-hi, filled-sides}
+use Rattle.machine_spec.proofs.InPlace.{filled-none, filled-sides}
+use Rattle.boxes_shape.proofs.Turn.{joined, joined-more}
 use Rattle.boxes_shape.proofs.motion.join.Statement.{statement}
 use Rattle.boxes_shape.proofs.motion.join.Tie as tie
 
 abbrev Inv-loop : tie.InvT-loop
-Inv-loop n other out₀ i₀ out i = (i ≤ n) × (out ≡ filled i (λ j. minZ (lo out₀ j) (lo other j)) (λ j. maxZ (hi out₀ j) (hi other j)) out₀)
+Inv-loop n other out₀ i₀ out i = (i ≤ n) × (out ≡ joined i out₀ other)
 
 abbrev μ-loop : tie.MeasureT-loop
 μ-loop n other out₀ i₀ out i = n - i
@@ -40,12 +39,10 @@ loop-again at-took =
     let upper-read = at-took .before .before in
     let lower-read = upper-read .before in
     let in-loop = lower-read .before in
-    let inv = at-loop in-loop .loop .inv in (
+    let inv = at-loop in-loop .loop .inv in
+    let a = at-loop in-loop .before .args in (
       omega (arith, in-loop .loop-test .taken),
-      at-took .take-in .ensures .joined
-          ∙ filled-more _ _ (i in-loop) _ (inv .1)
-          (ap₂ minZ (turn-lo _ _ (i in-loop) _ (inv .1) (room in-loop)) (told w64 _ (lower-read .take-in-arg .given)))
-          (ap₂ maxZ (turn-hi _ _ (i in-loop) _ (inv .1)) (told w64 _ (upper-read .take-in-arg2 .given))),
+      joined-more (a .out .now) (a .other .now) (i in-loop) (room in-loop) (inv .1) (told w64 _ (lower-read .take-in-arg .given)) (told w64 _ (upper-read .take-in-arg2 .given)) (at-took .take-in .ensures),
     )
 
 returns : tie.Need-returns Inv-loop μ-loop

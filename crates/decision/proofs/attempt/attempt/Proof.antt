@@ -1,250 +1,148 @@
--- `attempt` does what the definition's attempt does, but for the box: one phase after another, then the test against the recovery
--- box. Assumes nothing.
-use mathlib.Core.Path.{_≡_, sym, ap, _∙_}
+-- `attempt` does what the definition's attempt does, but for the box. Invariant: what is left to do of the definition's phases, from
+-- the box and the count that the loop has. Measure: the phases left. Assumes nothing.
+use mathlib.Core.Path.{_≡_, refl, sym, ap, _∙_, subst}
 use mathlib.Core.List.{List, [], _∷_}
-use Prim.Native.Nat.{ℕ, _+_, _*_, _≤_}
+use Prim.Native.Nat.{ℕ, _+_, _*_, _-_, _≤_}
 use native.Mathlib.Omega.{arith}
 use lib.IntN.{ℤ}
-use mir.Syntax.{w32}
-use mir.Val.{SFits}
-use mir.Facts.{toZ-ofZ}
+use lib.ListN.{getD, length, take, drop, length-take, drop-of-length-le}
 use borrow.Author.Needs.{needs}
-use Rattle.sheet_spec.specs.Limits.{maxCap}
-use Rattle.sheet_spec.specs.Slots.{vars, recoveryBox}
-use Rattle.machine_spec.specs.Box.{trim, within}
-use Rattle.machine_spec.specs.declared.Law.the-variants.{Baseline, Command}
-use Rattle.boxes_arithmetic.specs.Limits.{SidesWithin}
-use Rattle.boxes_rates.specs.Plant.{Describes}
+use Rattle.sheet_spec.specs.Slots.{vars}
+use Rattle.machine_spec.specs.Box.{trim}
+use Rattle.machine_spec.specs.declared.Law.the-variants.{Baseline}
 use Rattle.boxes_rates.proofs.Bounds.{wider}
-use Rattle.boxes_spec.specs.Step.{Result}
-use Rattle.boxes_spec.specs.Reach.{Reached}
-use Rattle.boxes.specs.ReachResult.{reachedOf}
 use Rattle.boxes.proofs.Turn.{not-ended}
-use Rattle.decision_spec.specs.Decision.{Phase, phase, attempt}
+use Rattle.decision_spec.specs.declared.Phase.{Phase}
+use Rattle.decision_spec.specs.Decision.{phase, ticksOf}
 use Rattle.decision.specs.declared.attempt.AttemptPlan.{AttemptPlan}
+use Rattle.decision.specs.AttemptPlan.{phasesOf}
 use Rattle.decision.specs.AttemptResult.{summary}
 use Rattle.decision.specs.Limits.{startLimit}
-use Rattle.decision.proofs.Turn.{reached, plant-reach, names-all, phase-near, phase-on, phase-stops, attempt-succeeds, attempt-fails, within-trim}
+use Rattle.decision.proofs.Turn.{next-phase, Following, following-starts, following-ends, following-on, following-stops}
 use Rattle.decision.proofs.attempt.attempt.Statement.{statement}
 use Rattle.decision.proofs.attempt.attempt.Tie as tie
 
--- after the plant
-module _ (at-plant : tie.After-plant) where
-  abbrev at-start : tie.Start
-  at-start = at-plant .before .before .before
+-- after the first k phases, at the box E and after d rounds
+record Invariant (plan : AttemptPlan) (v S : List ℤ) (w c : ℕ) (E : List ℤ) (d k : ℕ) : Type 0 where
+  among : k ≤ plan .count
+  trimmed : trim (vars v) E ≡ E
+  following : Following (plan .budget .limited) (plan .budget .allowance) v w (phasesOf plan) S c (drop k (phasesOf plan)) E d
+
+abbrev Inv-loop : tie.InvT-loop
+Inv-loop sheet start width count plan budget end₀ swept₀ counted₀ followed₀ end swept counted followed = Invariant plan sheet start width count end counted followed
+
+abbrev μ-loop : tie.MeasureT-loop
+μ-loop sheet start width count plan budget end₀ swept₀ counted₀ followed₀ end swept counted followed = plan .count - followed
+
+loop-holds : tie.Need-loop-holds Inv-loop μ-loop
+loop-holds c =
+    let at-start = c .before .before in
+    let asked = at-start .pre .attempts in
+    record { among = omega arith; trimmed = asked .trimmed; following = following-starts _ _ _ _ (phasesOf (at-start .args .t1)) _ _ (asked .start) }
+
+-- in a turn of the loop
+module _ (at-phase : tie.After-phase Inv-loop μ-loop) where
+  abbrev at-loop : tie.At-loop Inv-loop μ-loop
+  at-loop = at-phase .before .before
+
+  abbrev at-start : tie.Start Inv-loop μ-loop
+  at-start = at-loop .before .before .before
 
   abbrev plan : AttemptPlan
-  plan = at-start .args .plan
+  plan = at-start .args .t1
 
-  abbrev v : List ℤ
-  v = at-start .args .sheet .now
+  -- the phase that is next
+  abbrev p : Phase
+  p = getD (plan .phases) (at-loop .loop .followed) (phase Baseline 0)
 
-  abbrev w : ℕ
-  w = at-start .args .width
+  abbrev later : List Phase
+  later = drop (at-loop .loop .followed + 1) (phasesOf plan)
 
-  -- the two phases
-  abbrev commanded : Phase
-  commanded = phase (Command (plan .command)) (plan .first)
+  following : let a = at-start .args in
+      Following (plan .budget .limited) (plan .budget .allowance) (a .sheet .now) (a .width) (phasesOf plan) (a .start .now) (a .count) (p ∷ later) (at-loop .loop .end) (at-loop .loop .counted)
+  following =
+      let a = at-start .args in
+      subst (λ (ps : List Phase). Following (plan .budget .limited) (plan .budget .allowance) (a .sheet .now) (a .width) (phasesOf plan) (a .start .now) (a .count) ps (at-loop .loop .end) (at-loop .loop .counted))
+      (next-phase (plan .phases) (plan .count) (at-loop .loop .followed) p _ (omega arith) (at-start .pre .attempts .among) refl) (at-loop .loop .inv .following)
 
-  abbrev plain : Phase
-  plain = phase Baseline (plan .then)
-
-  -- a phase's reach, and an attempt of some phases, within the plan's budget
-  abbrev reaches : Phase → List ℤ → ℕ → Result Reached
-  reaches = reached (plan .budget .limited) (plan .budget .allowance) v w
-
-  abbrev attempted : List Phase → List ℤ → ℕ → Result (List ℤ)
-  attempted = attempt (plan .budget .limited) (plan .budget .allowance) v w
-
-  -- the plant's law is the command
-  under : at-plant .plant .result .law ≡ commanded .law
-  under = let f : SFits w32 (plan .command) = search needs in at-plant .plant .ensures .0 ∙ ap Command (toZ-ofZ f)
-
-  described : Describes (at-plant .plant .result) v
-  described = at-plant .plant .ensures .1
-
--- after the reach under the command
-module _ (at-reach : tie.After-reach) where
-  abbrev at-count : tie.After-count
-  at-count = at-reach .before .before .before .before
-
-  abbrev at-plant : tie.After-plant
-  at-plant = at-count .before
+-- after the reach of the next phase
+module _ (at-reach : tie.After-reach-phase Inv-loop μ-loop) where
+  abbrev at-phase : tie.After-phase Inv-loop μ-loop
+  at-phase = at-reach .before .before .before
 
   -- its end box and its swept box
   abbrev E : List ℤ
-  E = at-reach .reach .last .1 .1 .1 .1 .0
+  E = at-reach .reach-phase .last .1 .1 .1 .1 .1 .0
 
   abbrev W : List ℤ
-  W = at-reach .reach .last .1 .1 .1 .1 .1 .0
+  W = at-reach .reach-phase .last .1 .1 .1 .1 .1 .1 .0
 
-  first-reach : reachedOf E W (at-reach .reach .result) ≡ reaches at-plant (commanded at-plant) (at-start at-plant .args .start .now) (at-start at-plant .args .count)
-  first-reach = at-reach .reach .ensures .same ∙ plant-reach (v at-plant) (under at-plant) _ _ _ _ _ _ _ (at-count .count .ensures)
-
-  trimmed : trim (vars (v at-plant)) E ≡ E
-  trimmed = at-reach .reach .ensures .trimmed
-
--- if it ended: the start of the next phase
-module _ (first-ended : tie.After-r) where
-  abbrev at-reach : tie.After-reach
-  at-reach = first-ended .before .before
-
-  abbrev before-first : tie.After-plant
-  before-first = at-plant at-reach
-
-  abbrev asked : tie.Start
-  asked = at-start before-first
-
-  -- the count after it
-  abbrev d : ℕ
-  d = first-ended .r .given .0 .1 .0
-
-  near : SidesWithin (startLimit + plan before-first .first * maxCap) (E at-reach) × (d ≤ asked .args .count + 73 * plan before-first .first)
-  near =
-      let p = asked .pre .attempts in
-      phase-near _ _ _ _ (commanded before-first) [] _ _ _ (E at-reach) (W at-reach) (first-reach at-reach) (first-ended .r .given .0 .0) d (first-ended .r .given .1) (p .sheet) (p .some) (p .most) (p .start)
-
-  first-on : attempted before-first (commanded before-first ∷ plain before-first ∷ []) (asked .args .start .now) (asked .args .count) ≡ attempted before-first (plain before-first ∷ []) (E at-reach) d
-  first-on = phase-on _ _ _ _ (commanded before-first) _ _ _ _ (E at-reach) (W at-reach) (first-reach at-reach) (first-ended .r .given .0 .0) d (first-ended .r .given .1)
-
--- after the reach under the plain law
-module _ (at-last : tie.After-reach2) where
-  abbrev at-plain : tie.After-plant2
-  at-plain = at-last .before .before .before
-
-  abbrev first-ended : tie.After-r
-  first-ended = at-plain .before .before
-
-  abbrev before : tie.After-plant
-  before = before-first first-ended
-
-  abbrev F : List ℤ
-  F = at-last .reach2 .last .1 .1 .1 .1 .0
-
-  abbrev X : List ℤ
-  X = at-last .reach2 .last .1 .1 .1 .1 .1 .0
-
-  last-reach : reachedOf F X (at-last .reach2 .result) ≡ reaches before (plain before) (E (at-reach first-ended)) (d first-ended)
-  last-reach = at-last .reach2 .ensures .same ∙ plant-reach (v before) (at-plain .plant2 .ensures .0) _ _ _ _ _ _ _ (at-count (at-reach first-ended) .count .ensures)
-
--- if it ended
-module _ (last-ended : tie.After-q) where
-  abbrev at-last : tie.After-reach2
-  at-last = last-ended .before .before
-
-  -- the count after it
-  abbrev i : ℕ
-  i = last-ended .q .given .0 .1 .0
-
-  both-on : let p = before at-last in let s = at-start p in attempted p (commanded p ∷ plain p ∷ []) (s .args .start .now) (s .args .count) ≡ attempted p [] (F at-last) i
-  both-on = first-on (first-ended at-last) ∙ phase-on _ _ _ _ (plain (before at-last)) [] _ _ _ (F at-last) (X at-last) (last-reach at-last) (last-ended .q .given .0 .0) i (last-ended .q .given .1)
-
--- the test against the recovery box
-module _ (at-test : tie.After-within) where
-  abbrev ended : tie.After-q
-  ended = at-test .before .before .before .before .before
-
-  abbrev p : tie.After-plant
-  p = before (at-last ended)
-
-  recovered : at-test .within .result ≡ within (vars (v p)) (F (at-last ended)) (recoveryBox (v p))
-  recovered =
-      let E = F (at-last ended) in
-      let same = described p .n in
-      at-test .within .ensures ∙ ap (within (p .plant .result .n) E) (at-test .before .before .before .box-at .ensures)
-      ∙ within-trim _ E (recoveryBox (v p)) (omega (arith, same, at-start p .pre .attempts .sheet .vars-high)) ∙ ap (λ (n : ℕ). within n E (recoveryBox (v p))) same
-
-count-requires : tie.Need-count-requires
-count-requires at-plant κs = (omega arith, at-start at-plant .pre .attempts .sheet .head 2 (omega arith))
-
-reach-requires : tie.Need-reach-requires
-reach-requires c κs =
-    let at-count = c .before .before .before in
-    let at-plant = at-count .before in
-    let asked = at-start at-plant .pre in
+reach-phase-requires : tie.Need-reach-phase-requires Inv-loop μ-loop
+unfolding ticksOf
+reach-phase-requires c κs =
+    let at-phase = c .before .before in
+    let asked = at-start at-phase .pre in
     let all = asked .attempts in
+    let k = following at-phase in
     record {
-      plan = record { plant = described at-plant; boxes = omega (arith, at-count .count .ensures, all .sheet .boxes-high); some = all .some; most = all .most };
-      ticks = omega (arith, all .ticks);
-      counts = omega (arith, asked .counts);
-      start = wider (omega arith) (all .start);
-      trimmed = all .trimmed;
+      sheet = all .sheet;
+      start = wider (omega (arith, k .fewer, all .ticks)) (k .near);
+      trimmed = at-loop at-phase .loop .inv .trimmed;
+      ticks = omega (arith, k .fewer, all .ticks);
+      counts = omega (arith, k .counts, asked .counts);
+      some = all .some;
+      most = all .most;
     }
 
--- the reach under the command did not end
-returns : tie.Need-returns
+-- a phase did not end
+returns : tie.Need-returns Inv-loop μ-loop
 returns at-return =
-    let r = at-return .before .before in
-    let p = at-plant r in
-    at-return .summary-of .ensures (v p) (E r) (W r) (names-all (v p) (W r) _ (at-count r .count .ensures) (r .reach .ensures .names))
-    ∙ phase-stops _ _ _ _ (commanded p) (plain p ∷ []) _ _ _ (E r) (W r) (first-reach r) (not-ended (at-return .before .match .keys2))
+    let at-reach = at-return .before .before in
+    let done = at-reach .reach-phase .ensures in
+    at-return .summary-of .ensures _ (E at-reach) (W at-reach) (done .names)
+    ∙ following-stops _ _ _ _ (following (at-phase at-reach)) _ (E at-reach) (W at-reach) (done .same) (not-ended (at-return .before .match .keys2))
 
-reach-requires-2 : tie.Need-reach-requires-2
-reach-requires-2 c κs =
-    let at-plain = c .before .before in
-    let ended = at-plain .before .before in
-    let r = at-reach ended in
-    let asked = at-start (before-first ended) .pre in
-    let all = asked .attempts in
-    let n = near ended in
+loop-again : tie.Need-loop-again Inv-loop μ-loop
+loop-again c =
+    let ended = c .before in
+    let at-reach = ended .before .before in
+    let all = at-start (at-phase at-reach) .pre .attempts in
+    let done = at-reach .reach-phase .ensures in
     record {
-      plan = record {
-        plant = at-plain .plant2 .ensures .1;
-        boxes = omega (arith, at-count r .count .ensures, all .sheet .boxes-high);
-        some = all .some;
-        most = all .most;
-      };
-      ticks = omega (arith, all .ticks);
-      counts = omega (arith, asked .counts, all .ticks, n .1);
-      start = wider (omega (arith, all .ticks)) (n .0);
-      trimmed = trimmed r;
+      among = omega arith;
+      trimmed = done .trimmed;
+      following = following-on _ _ _ _ (following (at-phase at-reach)) _ (E at-reach) (W at-reach) (done .same) _ _ (ended .r .given .1) (all .sheet) (all .some) (all .most);
     }
 
--- the reach under the plain law did not end
-returns-2 : tie.Need-returns-2
+-- every phase ended
+returns-2 : tie.Need-returns-2 Inv-loop μ-loop
 returns-2 at-return =
-    let q = at-return .before .before in
-    let named = names-all (v (before q)) (X q) _ (at-count (at-reach (first-ended q)) .count .ensures) (q .reach2 .ensures .names) in
-    at-return .summary-of2 .ensures (v (before q)) (F q) (X q) named
-    ∙ phase-stops _ _ _ _ (plain (before q)) [] _ _ _ (F q) (X q) (last-reach q) (not-ended (at-return .before .match2 .keys2))
-    ∙ ap (summary {A = List ℤ} _) (sym (first-on (first-ended q)))
-
-box-at-requires : tie.Need-box-at-requires
-box-at-requires c κs = let p = before (at-last (c .before)) in (omega (arith, described p .n, at-start p .pre .attempts .sheet .vars-high), omega arith)
-
-within-requires : tie.Need-within-requires
-within-requires c κs = let p = before (at-last (c .before .before .before .before)) in omega (arith, described p .n, at-start p .pre .attempts .sheet .vars-high)
-
--- in the recovery box
-returns-3 : tie.Need-returns-3
-returns-3 at-return =
-    let at-test = at-return .before in
-    let e = ended at-test in
-    attempt-succeeds _ _ _ _ (F (at-last e)) (i e) (sym (recovered at-test) ∙ at-return .if1 .taken) ∙ ap (summary {A = List ℤ} _) (sym (both-on e))
-
--- not in it
-returns-4 : tie.Need-returns-4
-returns-4 at-return =
-    let at-test = at-return .before in
-    let e = ended at-test in
-    attempt-fails _ _ _ _ (F (at-last e)) (i e) (sym (recovered at-test) ∙ at-return .if1 .left) ∙ ap (summary {A = List ℤ} _) (sym (both-on e))
+    let at-loop = at-return .before .before .before in
+    let at-start = at-loop .before .before .before in
+    let plan = at-start .args .t1 in
+    let a = at-start .args in
+    let none : drop (at-loop .loop .followed) (phasesOf plan) ≡ [] = drop-of-length-le (phasesOf plan) {i = at-loop .loop .followed} (omega (arith, length-take (plan .count) (plan .phases))) in
+    at-return .finish .ensures
+    ∙ ap (summary {A = List ℤ} _)
+    (following-ends _ _ _ _
+    (subst (λ (ps : List Phase). Following (plan .budget .limited) (plan .budget .allowance) (a .sheet .now) (a .width) (phasesOf plan) (a .start .now) (a .count) ps (at-loop .loop .end) (at-loop .loop .counted)) none
+    (at-loop .loop .inv .following)))
 
 pub attempt-spec : {M : Type 1} → statement M
 attempt-spec =
     tie.close
     (tie.spec
-    (λ c κs. search needs)
-    count-requires
-    reach-requires
+    Inv-loop
+    μ-loop
+    loop-holds
+    (λ c. omega arith)
+    (λ c. omega arith)
+    reach-phase-requires
     (λ c. search needs)
     (λ c κs. search needs)
     returns
+    (λ c. omega arith)
+    (λ c. omega arith)
+    loop-again
     (λ c κs. search needs)
-    reach-requires-2
-    (λ c. search needs)
-    (λ c κs. search needs)
-    returns-2
-    box-at-requires
-    within-requires
-    returns-3
-    returns-4)
+    returns-2)
