@@ -7,6 +7,7 @@ use lib.IntN.{ℤ}
 use Rattle.sheet_spec.specs.Limits.{maxTicks, maxWidth, maxSide}
 use Rattle.sheet_spec.specs.Slots.{vars}
 use Rattle.sheet_spec.specs.Valid.{Valid}
+use Rattle.sheet_spec.proofs.FirstRefusal.{found-stops, found-none}
 use Rattle.machine_spec.specs.Box.{Near, trim}
 use Rattle.machine_spec.specs.declared.Law.{Law}
 use Rattle.machine_spec.specs.Machine.{machine}
@@ -15,9 +16,8 @@ use Rattle.machine_spec.proofs.Ranges.{near-as, trim-near}
 use Rattle.boxes.specs.declared.steps.ReachResult.{ReachResult}
 use Rattle.boxes.specs.declared.steps.ReachResult.the-variants.{Ended, Unsettled, Unsafe, Exhausted}
 use Rattle.boxes.specs.ReachResult.{resultOf, reachedOf}
-use Rattle.boxes_spec.specs.Reach.{reach, clear, lawRefusal, ticksRefusal, reachRefusal, refused, answer, reachOf}
-use Rattle.boxes_spec.proofs.Count.{ticks-width}
-use Rattle.boxes_spec.proofs.Refusals.{or-none, if-refused, if-accepted}
+use Rattle.boxes_spec.specs.Reach.{reach, clear, reachRefusal, refused, answer, reachOf}
+use Rattle.boxes_spec.proofs.Refusals.{reach-passes}
 use Rattle.boxes_spec.proofs.Ranges.{start-sized}
 
 -- the code's refusal of a reach is a
@@ -34,7 +34,7 @@ pub record Accepted (n T w : ℕ) (S : List ℤ) : Type 0 where
 module _ {v : List ℤ} (wf : Valid v) {ticks w : ℕ} {l : Law} {B : List ℤ} {a : ℕ} (r : Refusal v ticks w l B a) where
   pub reach-refused : (a ≡ 0 → ⊥) → refused a ≡ reachOf v ticks w l B
   unfolding reachOf
-  reach-refused n = if-refused _ (r .is) n
+  reach-refused n = found-stops refused _ (r .is) n
 
   -- nothing is refused; the law, the number of variables and the start box as the code has them
   module _ (e : a ≡ 0) {k : Law} (q : k ≡ l) {n : ℕ} (p : n ≡ vars v) {S : List ℤ} (s : S ≡ trim n B) where
@@ -42,15 +42,13 @@ module _ {v : List ℤ} (wf : Valid v) {ticks w : ℕ} {l : Law} {B : List ℤ} 
     start-is = s ∙ ap (λ (i : ℕ). trim i B) p
 
     pub reachable : Accepted (vars v) ticks w S
-    unfolding reachRefusal
     reachable =
-        let t = or-none (ticksRefusal ticks w) _ (sym (r .is) ∙ e) in
-        let u = ticks-width ticks w (t .0) in
+        let passes = reach-passes v ticks w l B (sym (r .is) ∙ e) in
         record {
-          some = u .1;
-          most = u .2;
-          ticks = u .0;
-          start = near-as start-is (trim-near (room wf) (start-sized (vars v) B (or-none (lawRefusal v l) _ (t .1) .1) .near));
+          some = passes .some;
+          most = passes .most;
+          ticks = passes .few;
+          start = near-as start-is (trim-near (room wf) (start-sized (vars v) B (passes .start) .near));
         }
 
     -- a reach came to o
@@ -59,7 +57,7 @@ module _ {v : List ℤ} (wf : Valid v) {ticks w : ℕ} {l : Law} {B : List ℤ} 
       unfolding reachOf
       answer-is =
           ap answer (h ∙ ap (λ (X : List ℤ). reach false 0 (machine v k) (clear (vars v) v 0) w X ticks 0) start-is ∙ ap (λ (x : Law). reach false 0 (machine v x) (clear (vars v) v 0) w (trim (vars v) B) ticks 0) q)
-          ∙ if-accepted _ (r .is) e
+          ∙ found-none refused _ (r .is) e
 
       pub reach-ended : (t d : ℕ) → o ≡ Ended t d → record { refusal = 0; end = E; swept = W; rounds = d } ≡ reachOf v ticks w l B
       unfolding answer resultOf

@@ -6,37 +6,29 @@ ghost use Prim.Native.Nat.{_≤_};
 ghost use Rattle.sheet_spec.specs.Slots as slots;
 ghost use Rattle.boxes_spec.specs.Reach.{inRange, lawRefusal, reachRefusal, sidesRefusal, ticksRefusal};
 use machine_spec::Law;
+use sheet_spec::limits::MAX_SIDE;
+use sheet_spec::limits::MAX_TICKS;
+use sheet_spec::limits::MAX_WIDTH;
+use sheet_spec::refusals::COMMAND;
+use sheet_spec::refusals::REACH;
+use sheet_spec::refusals::START;
 use sheet_spec::slots::BOX_SIZE;
 use sheet_spec::slots::GREATEST;
 use sheet_spec::slots::LEAST;
 use sheet_spec::slots::N;
 use sheet_spec::slots::SLOTS;
 
-// The numbers, as sheet's own refusals have theirs.
-pub const COMMAND: u8 = 14;
-
-pub const SIDES: u8 = 15;
-
-pub const TICKS: u8 = 16;
-
-// The most ticks and the greatest width of a reach, and the greatest side of its start box, without its sign.
-const MAX_TICKS: u32 = 1000;
-
-const MAX_WIDTH: u32 = 1000;
-
-const MAX_SIDE: i64 = 1000000;
-
 fn ticks_refusal(ticks: u32, width: u32) -> u8
     ensures { λ r. ⌜ r ≡ ticksRefusal ticks width ⌝ }
 {
     if MAX_TICKS < ticks {
-        return TICKS;
+        return REACH;
     }
     if width < 1 {
-        return TICKS;
+        return REACH;
     }
     if MAX_WIDTH < width {
-        return TICKS;
+        return REACH;
     }
     0
 }
@@ -76,7 +68,7 @@ pub fn sides_refusal(n: usize, start: &[i64; BOX_SIZE]) -> u8
     while i < n {
         let upper = i + N;
         if !in_range(start[i], start[upper]) {
-            return SIDES;
+            return START;
         }
         i += 1;
     }

@@ -4,9 +4,9 @@ mod Examples
 pub mod Stages
 pub mod Settled
 pub mod Sound
+pub mod Refusals
 pub mod Count
 pub mod Cut
-pub mod Refusals
 pub mod Order
 pub mod Ranges
 mod Reference

@@ -11,6 +11,7 @@ use Rattle.integers.specs.Bound.{Bound}
 use Rattle.integers.proofs.Z.{ints, le-true, bound-sum, bound-sub, bound-less, bound-in}
 use Rattle.sheet_spec.specs.Limits.{maxVars, maxCommand, maxCap, maxEdge, maxCoefficient, maxConstant, maxSpread, maxRecoverySide, maxSide, maxTicks}
 use Rattle.sheet_spec.specs.Slots.{N, vars, edge, leastCommand, greatestCommand, recoverySlot, recoveryBox}
+use Rattle.sheet_spec.specs.Refusals.{Cause, unlessRefused}
 use Rattle.sheet_spec.specs.Box.{lo, hi}
 use Rattle.machine_spec.specs.Box.{side, Near, trim, hull}
 use Rattle.sheet_spec.specs.Valid.{Valid}
@@ -19,17 +20,17 @@ use Rattle.machine_spec.specs.declared.Law.the-variants.{Baseline, Command}
 use Rattle.machine_spec.specs.Machine.{Machine, machine, varsOf, bandsOf, bandVarOf, cap, rowOf}
 use Rattle.machine_spec.specs.Accepted.{Lawful, Accepted}
 use Rattle.machine_spec.specs.Rate.{part, rowOver, neighborhood}
+use Rattle.sheet_spec.proofs.Laws.{unless-zero}
 use Rattle.sheet_spec.proofs.Box.{and-both, all-at, box-lo, box-hi}
 use Rattle.machine_spec.proofs.Inside.{Ordered}
 use Rattle.machine_spec.proofs.Neighborhood.{inward, neighborhood-part}
 use Rattle.machine_spec.proofs.Facts.{room}
 use Rattle.machine_spec.proofs.Ranges.{near-less, near-part, zero-near, trim-near, hull-near, moved-near, rates-near, limit-near, number-near}
 use Rattle.boxes_spec.specs.Step.{lifted, grown, endBox, Failure, Result, Step, swept}
-use Rattle.boxes_spec.specs.Reach.{maxReached, Reached, reach, clear, lawRefusal, sidesRefusal, ticksRefusal, reachRefusal, Answer, refused, answer, ifAccepted, reachOf}
+use Rattle.boxes_spec.specs.Reach.{maxReached, Reached, reach, clear, lawRefusal, sidesRefusal, reachRefusal, Answer, refused, answer, reachOf}
 use Rattle.boxes_spec.proofs.Settled.{Working, starts, grows, Settled, Place, start, StepsTo, here, next, steps-less, Ends, reach-takes}
-use Rattle.boxes_spec.proofs.Count.{cond-zero, ticks-width}
 use Rattle.boxes_spec.proofs.Stages.{Takes, value, failure, spent}
-use Rattle.boxes_spec.proofs.Refusals.{or-none}
+use Rattle.boxes_spec.proofs.Refusals.{reach-passes}
 use Rattle.boxes_spec.proofs.Order.{working-holds, face-ordered, end-ordered}
 
 -- ---- a step of length k from S, whose sides are at most b
@@ -158,7 +159,7 @@ pub lawful : (v : List ℤ) (l : Law) → lawRefusal v l ≡ 0 → Lawful v l
 unfolding lawRefusal
 lawful v Baseline e = tt
 lawful v (Command u) e =
-    let b = and-both (leZ (leastCommand v) u) (leZ u (greatestCommand v)) (cond-zero _ 13 e) in
+    let b = and-both (leZ (leastCommand v) u) (leZ u (greatestCommand v)) (unless-zero _ Cause.command e) in
     record { low = le-true (leastCommand v) u (b .0); high = le-true u (greatestCommand v) (b .1) }
 
 pub sized-by : {n b : ℕ} {B : List ℤ} → ((i : ℕ) → i < n → negℤ (pos b) ≤ℤ lo B i) → Ordered n B → ((i : ℕ) → i < n → hi B i ≤ℤ pos b) → Sized n b B
@@ -173,7 +174,7 @@ unfolding sidesRefusal
 start-sized n B e = sized-by (λ i h. le-true (negℤ (pos maxSide)) (lo B i) (both i h .0)) (record { at = λ i h. le-true (lo B i) (hi B i) (both i h .1) }) (λ i h. le-true (hi B i) (pos maxSide) (last i h .1))
   where
     last : (i : ℕ) → i < n → ((leZ (negℤ (pos maxSide)) (lo B i) && leZ (lo B i) (hi B i)) ≡ true) × (leZ (hi B i) (pos maxSide) ≡ true)
-    last i h = and-both _ (leZ (hi B i) (pos maxSide)) (all-at n _ i (cond-zero _ 14 e) h)
+    last i h = and-both _ (leZ (hi B i) (pos maxSide)) (all-at n _ i (unless-zero _ Cause.start e) h)
 
     both : (i : ℕ) → i < n → (leZ (negℤ (pos maxSide)) (lo B i) ≡ true) × (leZ (lo B i) (hi B i) ≡ true)
     both i h = and-both (leZ (negℤ (pos maxSide)) (lo B i)) (leZ (lo B i) (hi B i)) (last i h .0)
@@ -190,7 +191,7 @@ recovery-sized {v} wf =
 
 -- how far the sides of an answer's two boxes go
 pub answer-near : {v : List ℤ} → Valid v → (ticks w : ℕ) (l : Law) (B : List ℤ) → Near (vars v) maxReached (reachOf v ticks w l B .end) × Near (vars v) maxReached (reachOf v ticks w l B .swept)
-unfolding reachOf reachRefusal answer
+unfolding reachOf unlessRefused answer
 answer-near {v} wf ticks w l B = by (reachRefusal v ticks w l B) refl
   where
     NearBoth : Answer → Type 0
@@ -205,10 +206,9 @@ answer-near {v} wf ticks w l B = by (reachRefusal v ticks w l B) refl
     walked h k (failure q n) = none
     walked h k (spent i e n) = none
 
-    by : (r : ℕ) → reachRefusal v ticks w l B ≡ r → NearBoth (ifAccepted r (answer (reach false 0 (machine v l) (clear (vars v) v 0) w (trim (vars v) B) ticks 0)))
+    by : (r : ℕ) → reachRefusal v ticks w l B ≡ r → NearBoth (unlessRefused r refused (answer (reach false 0 (machine v l) (clear (vars v) v 0) w (trim (vars v) B) ticks 0)))
     by (suc r) e = none
     by zero e =
-        let t = or-none (ticksRefusal ticks w) _ e in
-        let k = ticks-width ticks w (t .0) in
-        walked (trim-near (room wf) (start-sized (vars v) B (or-none (lawRefusal v l) _ (t .1) .1) .near)) (k .0)
-        (reach-takes false 0 (machine v l) (clear (vars v) v 0) w 9 (room wf) (k .1) (omega (arith, k .2)) (trim (vars v) B) ticks 0)
+        let passes = reach-passes v ticks w l B e in
+        walked (trim-near (room wf) (start-sized (vars v) B (passes .start) .near)) (passes .few)
+        (reach-takes false 0 (machine v l) (clear (vars v) v 0) w 9 (room wf) (passes .some) (omega (arith, passes .most)) (trim (vars v) B) ticks 0)

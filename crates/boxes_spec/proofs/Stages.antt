@@ -1,4 +1,4 @@
--- What a stage gives and how many rounds it takes, and how that goes through `andThen`, `orElse` and a test. Assumes nothing.
+-- What a stage gives and how many rounds it takes, and how that goes through `andThen`, `retry` and a test. Assumes nothing.
 use mathlib.Core.Path.{_≡_, refl, sym, ap, _∙_, subst}
 use mathlib.Core.Bool.{Bool, true, false, _&&_}
 use Prim.Native.Nat.{ℕ, suc, _+_, _≤_}

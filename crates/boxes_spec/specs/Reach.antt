@@ -1,6 +1,6 @@
 -- The reach (document 01, "One lifted step", its last paragraph), and the public reach with its refusals. All of it computes.
-use mathlib.Core.Bool.{Bool, true, false, not, cond, _&&_}
-use mathlib.Core.List.{List}
+use mathlib.Core.Bool.{Bool, true, false, not, _&&_}
+use mathlib.Core.List.{List, [], _∷_}
 use Prim.Native.Nat.{ℕ, zero, suc, _+_, _*_, _-_, min}
 use lib.Dec.{leb}
 use lib.IntN.{ℤ, pos, negℤ}
@@ -8,7 +8,7 @@ use lib.Signed.{leZ}
 use lib.ListN.{replicate}
 use Rattle.sheet_spec.specs.Limits.{maxSide, maxTicks, maxWidth, maxCap}
 use Rattle.sheet_spec.specs.Slots.{boxSize, vars, leastCommand, greatestCommand, unsafeBox}
-use Rattle.sheet_spec.specs.Refusals.{orElse}
+use Rattle.sheet_spec.specs.Refusals.{Cause, refuseUnless, unlessRefused, firstOf}
 use Rattle.sheet_spec.specs.Sheet.{refusal, values}
 use Rattle.sheet_spec.specs.Box.{lo, hi, all, any, meets}
 use Rattle.machine_spec.specs.Box.{hull, trim}
@@ -53,26 +53,29 @@ clear n v count B = not (any count (λ j. meets n B (unsafeBox v j)))
 
 -- ---- the public reach of a sheet v: no boxes to keep clear of, no allowance
 
--- 14: a command outside the head's
+-- a command outside the head's
 unfoldable pub lawRefusal : List ℤ → Law → ℕ
 lawRefusal v Baseline = 0
-lawRefusal v (Command u) = cond (leZ (leastCommand v) u && leZ u (greatestCommand v)) 0 14
+lawRefusal v (Command u) = refuseUnless (leZ (leastCommand v) u && leZ u (greatestCommand v)) Cause.command
 
 -- a variable's sides: in order and within ±1,000,000
 abbrev pub inRange : ℤ → ℤ → Bool
 inRange l h = leZ (negℤ (pos maxSide)) l && leZ l h && leZ h (pos maxSide)
 
--- 15: a box with a variable whose sides are not
+abbrev pub sideIn : List ℤ → ℕ → Bool
+sideIn B i = inRange (lo B i) (hi B i)
+
+-- a box with a variable whose sides are not
 unfoldable pub sidesRefusal : ℕ → List ℤ → ℕ
-sidesRefusal n B = cond (all n (λ i. inRange (lo B i) (hi B i))) 0 15
+sidesRefusal n B = refuseUnless (all n (sideIn B)) Cause.start
 
--- 16: the ticks or the width
+-- the ticks or the width
 unfoldable pub ticksRefusal : ℕ → ℕ → ℕ
-ticksRefusal ticks w = cond (leb ticks maxTicks && leb 1 w && leb w maxWidth) 0 16
+ticksRefusal ticks w = refuseUnless (leb ticks maxTicks && leb 1 w && leb w maxWidth) Cause.reach
 
--- the refusals of a reach, after the sheet's own
+-- the tests of a reach in their order, after the sheet's own
 unfoldable pub reachRefusal : List ℤ → ℕ → ℕ → Law → List ℤ → ℕ
-reachRefusal v ticks w l B = orElse (ticksRefusal ticks w) (orElse (lawRefusal v l) (sidesRefusal (vars v) B))
+reachRefusal v ticks w l B = firstOf (ticksRefusal ticks w ∷ lawRefusal v l ∷ sidesRefusal (vars v) B ∷ [])
 
 -- what a reach answers: a refusal number, or 0 and the two boxes with the rounds
 pub record Answer : Type 0 where
@@ -92,14 +95,10 @@ answer (ok r c) = record { refusal = 0; end = r .end; swept = r .swept; rounds =
 answer (failed why c) = refused 0
 answer (exhausted c) = refused 0
 
-abbrev pub ifAccepted : ℕ → Answer → Answer
-ifAccepted zero a = a
-ifAccepted (suc r) a = refused (suc r)
-
 -- a reach of an accepted sheet's value
 unfoldable pub reachOf : List ℤ → ℕ → ℕ → Law → List ℤ → Answer
-reachOf v ticks w l B = ifAccepted (reachRefusal v ticks w l B) (answer (reach false 0 (machine v l) (clear (vars v) v 0) w (trim (vars v) B) ticks 0))
+reachOf v ticks w l B = unlessRefused (reachRefusal v ticks w l B) refused (answer (reach false 0 (machine v l) (clear (vars v) v 0) w (trim (vars v) B) ticks 0))
 
 -- a reach of a sheet's file
 unfoldable pub reachFile : List ℕ → ℕ → ℕ → Law → List ℤ → Answer
-reachFile f ticks w l B = ifAccepted (refusal f) (reachOf (values f) ticks w l B)
+reachFile f ticks w l B = unlessRefused (refusal f) refused (reachOf (values f) ticks w l B)

@@ -7,9 +7,10 @@ ghost use Rattle.sheet_spec.specs.Slots.{recoveryBox, vars};
 ghost use Rattle.sheet_spec.specs.Valid.{Valid};
 ghost use Rattle.machine_spec.specs.Box.{trim};
 ghost use Rattle.decision_spec.specs.Question.{allowanceOf};
-ghost use Rattle.decision_spec.specs.Decision.{checkRecovery, decide, recoveryOf, roundsOf, decisionOn};
+ghost use Rattle.decision_spec.specs.Decision.{checkRecovery, decide, decisionOn, decisionTo, recoveryOf, roundsOf};
 ghost use Rattle.decision_answers.specs.Recovery.{checkReplyOf};
 ghost use Rattle.decision_answers.specs.Decision.{replyOf};
+ghost use Rattle.decision.specs.Limits.{DecisionAsked};
 
 pub mod attempt;
 
@@ -21,6 +22,7 @@ use decision_answers::Decision;
 use decision_answers::Recovery;
 use decision_answers::recovery_of;
 use decision_spec::Phase;
+use decision_spec::Question;
 use machine_spec::Law;
 use sheet::read_zeroed;
 use sheet_encoding::count;
@@ -37,25 +39,22 @@ fn larger(one: usize, other: usize) -> usize
     if one < other { other } else { one }
 }
 
-// The decision on an accepted sheet's value and a question's bytes.
-fn decide_on(sheet: &[i32; SLOTS], question: &[u8]) -> Decision
-    requires { ⌜ Valid (now sheet) ⌝ }
-    ensures { λ r. ⌜ replyOf r ≡ decisionOn (now (sheet .entry)) (now (question .entry)) ⌝ }
+// The decision on an accepted sheet's value and a question that is not refused.
+fn decision_to(sheet: &[i32; SLOTS], question: Question) -> Decision
+    requires { ⌜ DecisionAsked (now sheet) (question .measured) ⌝ }
+    ensures { λ r. ⌜ replyOf r ≡ decisionTo (now (sheet .entry)) question ⌝ }
 {
-    let n = count(sheet, VARS);
-    let refusal = decision_question::refusal(n, sheet, question);
-    if refusal != 0 {
-        return Decision::Refused { number: refusal };
-    }
-    let start = decision_question::measured(n, question);
+    let head = question.head;
+    let start = question.measured;
     let first = count(sheet, DELTA);
     let then = count(sheet, ALPHA);
     let budget = Budget {
         limited: true,
-        allowance: decision_question::allowance(question),
+        allowance: head.allowance,
     };
-    let commanded = Phase {
-        law: Law::Command(decision_question::command(question)),
+    let law = head.law;
+    let asked = Phase {
+        law: law,
         ticks: first,
     };
     let plain = Phase {
@@ -64,10 +63,23 @@ fn decide_on(sheet: &[i32; SLOTS], question: &[u8]) -> Decision
     };
     let plan = AttemptPlan {
         budget: budget,
-        phases: [commanded, plain],
+        phases: [asked, plain],
         count: 2,
     };
     attempts(plan, sheet, &start, larger(first, then))
+}
+
+// The decision on an accepted sheet's value and a question's bytes, which are read once.
+fn decide_on(sheet: &[i32; SLOTS], question: &[u8]) -> Decision
+    requires { ⌜ Valid (now sheet) ⌝ }
+    ensures { λ r. ⌜ replyOf r ≡ decisionOn (now (sheet .entry)) (now (question .entry)) ⌝ }
+{
+    let read = decision_question::read(count(sheet, VARS), sheet, question);
+    let refusal = read.refusal;
+    if refusal != 0 {
+        return Decision::Refused { number: refusal };
+    }
+    decision_to(sheet, read.question)
 }
 
 // The decision on a sheet's and a question's bytes.

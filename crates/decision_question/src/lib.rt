@@ -1,17 +1,23 @@
-// A question's bytes (document 01, "Sheet layout"): its refusals, 12 to 15, and its numbers, the allowance, the command and the
-// measured box. `pairs` also reads the start box of a reach from its bytes. The definitions are in decision_spec/specs/Question; 14 and
-// 15 are tested in `boxes_refusals`.
+// A question's bytes (document 01, "Sheet layout"), read once: the refusal, or the question as one value, whose head (allowance and law) is
+// read apart from the measured box. `pairs` also reads the start box of a reach from its bytes. The definitions are in
+// decision_spec/specs/Question, and specs/Read says what reading gives; laws and boxes are tested in `boxes_refusals`.
 ghost use mathlib.Core.Path.{_≡_};
-ghost use Prim.Native.Nat.{_+_, _*_, _≤_};
+ghost use Prim.Native.Nat.{_+_, _≤_};
 ghost use lib.ListN.{length};
-ghost use Rattle.sheet_spec.specs.Sizes.{pairBytes};
+ghost use Rattle.sheet_spec.specs.Sizes.{boxBytes};
 ghost use Rattle.sheet_spec.specs.Slots as slots;
-ghost use Rattle.decision_spec.specs.Question.{allowanceOf, commandOf, formRefusal, measured, pairs, questionLength, questionRefusal, sidesAt};
+ghost use Rattle.decision_spec.specs.Question.{formRefusal, pairs, questionHead, questionLength, sidesAt};
+ghost use Rattle.decision_question.specs.Read.{HeadReads, QuestionReads};
 use boxes_refusals::law_refusal;
 use boxes_refusals::sides_refusal;
+use decision_spec::Question;
+use decision_spec::QuestionHead;
 use machine_spec::Law;
 use sheet_encoding::bytes::four;
 use sheet_encoding::bytes::get_i32;
+use sheet_spec::limits::MAX_ALLOWANCE;
+use sheet_spec::refusals::ALLOWANCE;
+use sheet_spec::refusals::QUESTION;
 use sheet_spec::sizes::I32;
 use sheet_spec::sizes::LETTERS;
 use sheet_spec::sizes::PAIR_BYTES;
@@ -20,60 +26,50 @@ use sheet_spec::slots::BOX_SIZE;
 use sheet_spec::slots::N;
 use sheet_spec::slots::SLOTS;
 
+// The letters that a question starts with.
+const FIRST_LETTER: u8 = b'Q';
+
+const SECOND_LETTER: u8 = b'S';
+
 // Where the allowance, the command and the pairs of sides start, after the letters.
 const ALLOWANCE_AT: usize = LETTERS;
 
-const COMMAND_AT: usize = ALLOWANCE_AT + 4;
+const COMMAND_AT: usize = ALLOWANCE_AT + I32;
 
-pub const SIDES_AT: usize = COMMAND_AT + I32;
+const SIDES_AT: usize = COMMAND_AT + I32;
 
-pub const PAIR: usize = PAIR_BYTES;
+// The most bytes of a question.
+pub const LONGEST: usize = SIDES_AT + PAIR_BYTES * N;
 
-const FORM: u8 = 12;
+// What reading gives: a refusal, or 0 and the head.
+pub struct HeadRead {
+    pub refusal: u8,
+    pub head: QuestionHead,
+}
 
-const ALLOWANCE: u8 = 13;
+// The same with the whole question.
+pub struct QuestionRead {
+    pub refusal: u8,
+    pub question: Question,
+}
 
-const MAX_ALLOWANCE: u32 = 1000000;
-
-fn form_refusal(n: usize, question: &[u8]) -> u8
+// How many bytes a question on a sheet of n variables takes.
+pub fn question_length(n: usize) -> usize
     requires { ⌜ n ≤ slots.N ⌝ }
-    ensures { λ r. ⌜ r ≡ formRefusal n (now (question .entry)) ⌝ }
+    ensures { λ r. ⌜ r ≡ questionLength n ⌝ }
 {
-    if question.len() != SIDES_AT + PAIR * n {
-        return FORM;
-    }
-    if question[0] != b'Q' {
-        return FORM;
-    }
-    if question[1] != b'S' {
-        return FORM;
-    }
-    0
-}
-
-pub fn allowance(question: &[u8]) -> u32
-    requires { ⌜ sidesAt ≤ length (now question) ⌝ }
-    ensures { λ r. ⌜ r ≡ allowanceOf (now (question .entry)) ⌝ }
-{
-    four(question, ALLOWANCE_AT)
-}
-
-pub fn command(question: &[u8]) -> i32
-    requires { ⌜ sidesAt ≤ length (now question) ⌝ }
-    ensures { λ r. ⌜ r ≡ commandOf (now (question .entry)) ⌝ }
-{
-    get_i32(question, COMMAND_AT)
+    SIDES_AT + PAIR_BYTES * n
 }
 
 // n pairs of lower and upper side, from a place on.
 pub fn pairs(n: usize, bytes: &[u8], at: usize) -> [i64; BOX_SIZE]
-    requires { ⌜ (n ≤ slots.N) × (at + pairBytes * n ≤ length (now bytes)) ⌝ }
+    requires { ⌜ (n ≤ slots.N) × (at + boxBytes n ≤ length (now bytes)) ⌝ }
     ensures { λ r. ⌜ r ≡ pairs n (now (bytes .entry)) at ⌝ }
 {
     let mut sides: [i64; BOX_SIZE] = [0; BOX_SIZE];
     let mut i: usize = 0;
     while i < n {
-        let lower_at = at + PAIR * i;
+        let lower_at = at + PAIR_BYTES * i;
         let upper = i + N;
         sides[i] = get_i32(bytes, lower_at) as i64;
         sides[upper] = get_i32(bytes, lower_at + UPPER_AT) as i64;
@@ -82,30 +78,88 @@ pub fn pairs(n: usize, bytes: &[u8], at: usize) -> [i64; BOX_SIZE]
     sides
 }
 
-// The measured box.
-pub fn measured(n: usize, question: &[u8]) -> [i64; BOX_SIZE]
-    requires { ⌜ (n ≤ slots.N) × (questionLength n ≤ length (now question)) ⌝ }
-    ensures { λ r. ⌜ r ≡ measured n (now (question .entry)) ⌝ }
+fn form_refusal(size: usize, question: &[u8]) -> u8
+    requires { ⌜ sidesAt ≤ size ⌝ }
+    ensures { λ r. ⌜ r ≡ formRefusal size (now (question .entry)) ⌝ }
 {
-    pairs(n, question, SIDES_AT)
+    if question.len() != size {
+        return QUESTION;
+    }
+    if question[0] != FIRST_LETTER {
+        return QUESTION;
+    }
+    if question[1] != SECOND_LETTER {
+        return QUESTION;
+    }
+    0
 }
 
-// The first refusal of a question on a sheet of n variables, or 0.
-pub fn refusal(n: usize, sheet: &[i32; SLOTS], question: &[u8]) -> u8
-    requires { ⌜ (n ≡ slots.vars (now sheet)) × (n ≤ slots.N) ⌝ }
-    ensures { λ r. ⌜ r ≡ questionRefusal (now (sheet .entry)) (now (question .entry)) ⌝ }
+fn head(question: &[u8]) -> QuestionHead
+    requires { ⌜ sidesAt ≤ length (now question) ⌝ }
+    ensures { λ r. ⌜ r ≡ questionHead (now (question .entry)) ⌝ }
 {
-    let form = form_refusal(n, question);
+    QuestionHead {
+        allowance: four(question, ALLOWANCE_AT),
+        law: Law::Command(get_i32(question, COMMAND_AT)),
+    }
+}
+
+// The head of a question that is to have `size` bytes, and its tests in their order.
+pub fn read_head(sheet: &[i32; SLOTS], size: usize, question: &[u8]) -> HeadRead
+    requires { ⌜ sidesAt ≤ size ⌝ }
+    ensures { λ r. ⌜ HeadReads (now (sheet .entry)) size (now (question .entry)) r ⌝ }
+{
+    let form = form_refusal(size, question);
     if form != 0 {
-        return form;
+        let none = QuestionHead {
+            allowance: 0,
+            law: Law::Baseline,
+        };
+        return HeadRead {
+            refusal: form,
+            head: none,
+        };
     }
-    if MAX_ALLOWANCE < allowance(question) {
-        return ALLOWANCE;
+    let read = head(question);
+    if MAX_ALLOWANCE < read.allowance {
+        return HeadRead {
+            refusal: ALLOWANCE,
+            head: read,
+        };
     }
-    let law = law_refusal(sheet, Law::Command(command(question)));
-    if law != 0 {
-        return law;
+    let law = read.law;
+    HeadRead {
+        refusal: law_refusal(sheet, law),
+        head: read,
     }
-    let start = measured(n, question);
-    sides_refusal(n, &start)
+}
+
+// The question on a sheet of n variables.
+pub fn read(n: usize, sheet: &[i32; SLOTS], question: &[u8]) -> QuestionRead
+    requires { ⌜ (n ≡ slots.vars (now sheet)) × (n ≤ slots.N) ⌝ }
+    ensures { λ r. ⌜ QuestionReads (now (sheet .entry)) (now (question .entry)) r ⌝ }
+{
+    let of_head = read_head(sheet, question_length(n), question);
+    let head = of_head.head;
+    let refusal = of_head.refusal;
+    if refusal != 0 {
+        let none: [i64; BOX_SIZE] = [0; BOX_SIZE];
+        let refused = Question {
+            head: head,
+            measured: none,
+        };
+        return QuestionRead {
+            refusal: refusal,
+            question: refused,
+        };
+    }
+    let measured = pairs(n, question, SIDES_AT);
+    let asked = Question {
+        head: head,
+        measured: measured,
+    };
+    QuestionRead {
+        refusal: sides_refusal(n, &measured),
+        question: asked,
+    }
 }

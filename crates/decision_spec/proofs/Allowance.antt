@@ -1,34 +1,36 @@
 -- The rounds of a decision and of a recovery check: never past the allowance, and at most 370,000, so that an allowance of 730,000 is never spent. Their
 -- widths, and the parts of the packed answer. Assumes nothing.
 use mathlib.Core.Path.{_≡_, refl, sym, _∙_, subst}
-use mathlib.Core.Bool.{Bool, true, false, cond, _&&_}
+use mathlib.Core.Bool.{Bool, true, false}
 use mathlib.Core.List.{List, [], _∷_}
 use Prim.Native.Nat.{ℕ, zero, suc, _+_, _*_, _/_, _%_, _^_, _≤_, _<_, max}
 use native.Mathlib.Nat.{le-refl}
 use native.Mathlib.Omega.{arith}
-use lib.Dec.{eqb, leb}
-use lib.IntN.{ℤ, pos, negℤ}
-use lib.Signed.{leZ}
-use lib.ListN.{getD, length}
+use lib.Dec.{leb}
+use lib.IntN.{ℤ}
 use borrow.Author.Tests.{leb-true, leb-false}
-use Rattle.sheet_spec.specs.Slots.{vars, boxes, δ, α, ρ, leastCommand, greatestCommand, recoveryBox}
+use Rattle.sheet_spec.specs.Slots.{vars, boxes, δ, α, ρ, recoveryBox}
+use Rattle.sheet_spec.specs.Limits.{maxAllowance}
+use Rattle.sheet_spec.specs.Refusals.{Cause, greatestNumber, unlessRefused}
 use Rattle.sheet_spec.specs.Sheet.{refusal, values}
 use Rattle.sheet_spec.specs.Valid.{Valid}
 use Rattle.sheet_spec.proofs.Valid.{valid}
 use Rattle.sheet_spec.proofs.Causes.{refusal-most}
-use Rattle.sheet_spec.specs.Box.{lo, hi, all}
+use Rattle.sheet_spec.proofs.Laws.{unless-most}
+use Rattle.sheet_spec.proofs.FirstRefusal.{first-of-most}
 use Rattle.machine_spec.specs.Box.{within}
+use Rattle.machine_spec.specs.declared.Law.{Law}
 use Rattle.machine_spec.specs.Machine.{machine}
 use Rattle.sheet_spec.proofs.Box.{differ}
 use Rattle.machine_spec.proofs.Facts.{room}
 use Rattle.boxes_spec.specs.Step.{Result, ok, failed, exhausted}
-use Rattle.sheet_spec.specs.Refusals.{orElse}
-use Rattle.boxes_spec.specs.Reach.{clear, lawRefusal, sidesRefusal}
+use Rattle.boxes_spec.specs.Reach.{clear}
+use Rattle.boxes_spec.proofs.Refusals.{law-most, sides-most}
 use Rattle.boxes_spec.proofs.Stages.{Counted, Takes, value, failure, spent, counted-none, counted-less, counted-on, takes-map, takes-then, takes-if}
 use Rattle.boxes_spec.proofs.Settled.{reach-takes}
-use Rattle.decision_spec.specs.Question.{questionLength, formRefusal, allowanceRefusal, questionRefusal, allowanceOf, commandOf, measured}
+use Rattle.decision_spec.specs.Question.{questionLength, measured, questionHead, wellFormed, formRefusal, allowanceRefusal, headRefusal, questionRefusal, allowanceOf}
 use Rattle.decision_spec.specs.declared.Phase.{Phase}
-use Rattle.decision_spec.specs.Decision.{ticksOf, finish, follow, attempt, keep, finest, spent, Reply, refused, answered, decisionPhases, decisionOf, recoveryPhases, recoveryOf, unlessRefused, checkRecovery, decide, codeOf, widthOf, roundsOf, packed}
+use Rattle.decision_spec.specs.Decision.{ticksOf, finish, follow, attempt, keep, finest, spent, Reply, refused, answered, decisionPhases, decisionOf, recoveryPhases, recoveryOf, checkRecovery, decide, codeOf, widthOf, roundsOf, packed}
 use Rattle.decision_spec.proofs.Attempts.{outcome, replyFrom, reply-turn}
 
 -- ---- an attempt
@@ -130,9 +132,9 @@ module _ {v : List ℤ} (wf : Valid v) where
       concluded-on (omega arith) h (counted-none 0)
       (attempts-concluded (λ w c. attempt l a v w ps S c) l a (ticksOf ps) (λ w e c z h. attempt-takes l a wf w e z h ps S c) w w 0 9 z (le-refl w) (omega arith))
 
-  pub decision-answer : (B : List ℤ) (u : ℤ) (a : ℕ) → Answer true a (decisionOf v B u a)
+  pub decision-answer : (B : List ℤ) (l : Law) (a : ℕ) → Answer true a (decisionOf v B l a)
   unfolding decisionOf decisionPhases ticksOf
-  decision-answer B u a = phases-answer true a (decisionPhases v u) B (max (δ v) (α v)) (omega (arith, wf .δ-low)) (omega (arith, wf .sum-high)) (omega (arith, wf .sum-high))
+  decision-answer B l a = phases-answer true a (decisionPhases v l) B (max (δ v) (α v)) (omega (arith, wf .δ-low)) (omega (arith, wf .sum-high)) (omega (arith, wf .sum-high))
 
   pub recovery-answer : Answer false 0 (recoveryOf v)
   unfolding recoveryOf recoveryPhases ticksOf
@@ -140,25 +142,16 @@ module _ {v : List ℤ} (wf : Valid v) where
 
 -- ---- refusals
 
-cond-most : (t : Bool) (n : ℕ) → n ≤ 17 → cond t 0 n ≤ 17
-cond-most true n l = omega arith
-cond-most false n l = l
+head-most : (v : List ℤ) (size : ℕ) (g : List ℕ) → headRefusal v size g ≤ greatestNumber
+unfolding headRefusal formRefusal allowanceRefusal
+head-most v size g =
+    first-of-most _ (unless-most (wellFormed size g) Cause.question, (unless-most (leb (allowanceOf g) maxAllowance) Cause.allowance, (law-most v (questionHead g .law), tt)))
 
-or-most : {r s : ℕ} → r ≤ 17 → s ≤ 17 → orElse r s ≤ 17
-or-most {r = zero} h k = k
-or-most {r = suc r} h k = h
+question-most : (v : List ℤ) (g : List ℕ) → questionRefusal v g ≤ greatestNumber
+unfolding questionRefusal
+question-most v g = first-of-most _ (head-most v (questionLength (vars v)) g, (sides-most (vars v) (measured (vars v) g), tt))
 
-question-most : (v : List ℤ) (g : List ℕ) → questionRefusal v g ≤ 17
-unfolding questionRefusal formRefusal allowanceRefusal lawRefusal sidesRefusal
-question-most v g =
-    let u = commandOf g in
-    let B = measured (vars v) g in
-    or-most (cond-most (eqb (length g) (questionLength (vars v)) && eqb (getD g 0 0) 81 && eqb (getD g 1 0) 83) 12 (omega arith))
-    (or-most (cond-most (leb (allowanceOf g) 1000000) 13 (omega arith))
-    (or-most (cond-most (leZ (leastCommand v) u && leZ u (greatestCommand v)) 14 (omega arith))
-    (cond-most (all (vars v) (λ i. leZ (negℤ (pos 1000000)) (lo B i) && leZ (lo B i) (hi B i) && leZ (hi B i) (pos 1000000))) 15 (omega arith))))
-
-unless-answer : {l : Bool} {a : ℕ} (k : ℕ) {r : Reply} → k ≤ 17 → (k ≡ 0 → Answer l a r) → Answer l a (unlessRefused k r)
+unless-answer : {l : Bool} {a : ℕ} (k : ℕ) {r : Reply} → k ≤ greatestNumber → (k ≡ 0 → Answer l a r) → Answer l a (unlessRefused k refused r)
 unfolding unlessRefused widthOf roundsOf
 unless-answer zero h o = o refl
 unless-answer (suc k) h o = record { some = omega arith; wide = omega arith; counted = counted-less (omega arith) (counted-none 0); reason = tt }

@@ -9,18 +9,19 @@ use lib.Dec.{T, leb}
 use lib.IntN.{ℤ}
 use lib.ListN.{replicate}
 use Rattle.sheet_spec.specs.Slots.{vars, boxes, δ, α, ρ, recoveryBox}
+use Rattle.sheet_spec.specs.Refusals.{unlessRefused}
 use Rattle.sheet_spec.specs.Sheet.{refusal, values}
 use Rattle.sheet_spec.specs.Valid.{Valid}
 use Rattle.machine_spec.specs.Box.{In}
 use Rattle.machine_spec.specs.declared.Law.{Law}
-use Rattle.machine_spec.specs.declared.Law.the-variants.{Baseline, Command}
+use Rattle.machine_spec.specs.declared.Law.the-variants.{Baseline}
 use Rattle.machine_spec.proofs.Inside.{inside-in, within-inside}
 use Rattle.boxes_spec.specs.Step.{Result, ok, failed, exhausted, andThen}
 use Rattle.boxes_spec.specs.Reach.{clear}
 use Rattle.boxes_spec.proofs.Sound.{reach-sound, cleared-avoids}
-use Rattle.decision_spec.specs.Question.{questionRefusal, allowanceOf, commandOf, measured}
+use Rattle.decision_spec.specs.Question.{questionRefusal, questionOf}
 use Rattle.decision_spec.specs.declared.Phase.{Phase}
-use Rattle.decision_spec.specs.Decision.{finish, follow, attempt, finest, Reply, answered, decisionPhases, decisionOf, recoveryPhases, recoveryOf, unlessRefused, checkRecovery, decide, isKeep}
+use Rattle.decision_spec.specs.Decision.{finish, follow, attempt, finest, Reply, refused, answered, decisionPhases, decisionOf, recoveryPhases, recoveryOf, decisionTo, checkRecovery, decide, isKeep}
 use Rattle.decision_spec.proofs.Attempts.{outcome, replyFrom, reply-none, reply-turn}
 use Rattle.decision_spec.proofs.Cover.{Covered, covered-by}
 
@@ -110,16 +111,16 @@ module _ {v : List ℤ} (wf : Valid v) where
       let s = attempts-keep (λ w c. attempt false 0 v w (recoveryPhases v) (recoveryBox v) c) (ρ v) (ρ v) 0 t in
       rw append-nil at (attempt-sound false 0 wf (s .width) (recoveryPhases v) (recoveryBox v) (s .before) (s .gives) x b)
 
-  pub decision-sound : (u : ℤ) (a : ℕ) {B x : List ℤ} → T (isKeep (decisionOf v B u a)) → In (vars v) B x
-      → Covered v (replicate (δ v) (Command u) ++ replicate (α v) Baseline) x
+  pub decision-sound : (l : Law) (a : ℕ) {B x : List ℤ} → T (isKeep (decisionOf v B l a)) → In (vars v) B x
+      → Covered v (replicate (δ v) l ++ replicate (α v) Baseline) x
   unfolding decisionOf decisionPhases laws
-  decision-sound u a {B} {x} t b =
-      let s = attempts-keep (λ w c. attempt true a v w (decisionPhases v u) B c) _ _ 0 t in
-      rw append-nil at (attempt-sound true a wf (s .width) (decisionPhases v u) B (s .before) (s .gives) x b)
+  decision-sound l a {B} {x} t b =
+      let s = attempts-keep (λ w c. attempt true a v w (decisionPhases v l) B c) _ _ 0 t in
+      rw append-nil at (attempt-sound true a wf (s .width) (decisionPhases v l) B (s .before) (s .gives) x b)
 
 -- ---- from bytes
 
-unless-keep : (r : ℕ) (a : Reply) → T (isKeep (unlessRefused r a)) → (r ≡ 0) × T (isKeep a)
+unless-keep : (r : ℕ) (a : Reply) → T (isKeep (unlessRefused r refused a)) → (r ≡ 0) × T (isKeep a)
 unfolding unlessRefused isKeep
 unless-keep zero a t = (refl, t)
 unless-keep (suc r) a t = absurd t
@@ -129,6 +130,6 @@ unfolding checkRecovery
 check-keep f t = unless-keep (refusal f) (recoveryOf (values f)) t
 
 pub decide-keep : (f g : List ℕ) → T (isKeep (decide f g))
-    → (questionRefusal (values f) g ≡ 0) × T (isKeep (decisionOf (values f) (measured (vars (values f)) g) (commandOf g) (allowanceOf g)))
+    → (questionRefusal (values f) g ≡ 0) × T (isKeep (decisionTo (values f) (questionOf (vars (values f)) g)))
 unfolding decide
 decide-keep f g t = unless-keep (questionRefusal (values f) g) _ (unless-keep (refusal f) _ t .1)

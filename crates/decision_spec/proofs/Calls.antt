@@ -1,45 +1,29 @@
--- A refusal or the answer, and the lent buffer: one law for each way out of the code. Assumes nothing.
-use mathlib.Core.Path.{_≡_, refl, sym, ap}
+-- A refused call leaves the lent array or buffer as it was; and the room in a buffer, as the code tests it. Assumes nothing.
+use mathlib.Core.Path.{_≡_, refl}
 use mathlib.Core.List.{List}
-use Prim.Native.Nat.{ℕ, zero, suc, _≤_, _<_}
+use Prim.Native.Nat.{ℕ, _≤_, _<_}
 use borrow.Author.Tests.{le-leb, lt-leb}
+use lib.IntN.{ℤ}
 use lib.ListN.{length}
-use Rattle.boxes_spec.proofs.Refusals.{or-stop, or-go}
-use Rattle.decision_spec.specs.Decision.{refused, packed}
-use Rattle.decision_spec.specs.Call.{orRefused, orUnchanged, orRoom}
+use Rattle.sheet_spec.specs.Refusals.{Cause, number}
+use Rattle.sheet_spec.specs.Sheet.{refusal}
+use Rattle.sheet_spec.proofs.Laws.{stops}
+use Rattle.boxes_spec.specs.Reach.{Answer}
+use Rattle.decision_spec.specs.Call.{roomRefusal}
+use Rattle.decision_spec.specs.Calls.{readOut}
+use Rattle.decision_spec.specs.ReachCall.{reachedRefusal, reachedOut}
 
--- d is the definition's refusal, x the code's; the answer without one is a
-pub or-refused : (d a : ℕ) {x : ℕ} → x ≡ d → (x ≡ 0 → ⊥) → packed (refused x) ≡ orRefused d a
-unfolding orRefused
-or-refused zero a p n = absurd (n p)
-or-refused (suc d) a p n = ap (λ (i : ℕ). packed (refused i)) p
+pub read-refused : (f : List ℕ) (numbers : List ℤ) → (refusal f ≡ 0 → ⊥) → readOut f numbers ≡ numbers
+unfolding readOut
+read-refused f numbers some = stops (λ r. numbers) _ some
 
-pub or-answered : (d a : ℕ) → d ≡ 0 → a ≡ orRefused d a
-unfolding orRefused
-or-answered d a e = rw e refl
+pub reach-refused : (n : ℕ) (a : Answer) (out : List ℕ) → (reachedRefusal n a out ≡ 0 → ⊥) → reachedOut n a out ≡ out
+unfolding reachedOut
+reach-refused n a out some = stops (λ r. out) _ some
 
--- the buffer without a refusal is `new`
-module _ {A : Type 0} (d : ℕ) (new buffer : List A) where
-  pub or-unchanged : {x : ℕ} → x ≡ d → (x ≡ 0 → ⊥) → buffer ≡ orUnchanged d new buffer
-  unfolding orUnchanged
-  or-unchanged {x} p n = by d p
-    where
-      by : (i : ℕ) → x ≡ i → buffer ≡ orUnchanged i new buffer
-      by zero q = absurd (n q)
-      by (suc i) q = refl
+module _ (size : ℕ) (buffer : List ℕ) where
+  pub room-short : length buffer < size → number Cause.room ≡ roomRefusal size buffer
+  room-short short = rw (lt-leb size (length buffer) short) refl
 
-  pub or-written : d ≡ 0 → new ≡ orUnchanged d new buffer
-  unfolding orUnchanged
-  or-written e = rw e refl
-
--- r is the refusal before the room is tested, x the code's
-module _ (r size : ℕ) (buffer : List ℕ) {x : ℕ} (p : x ≡ r) where
-  pub room-stop : (x ≡ 0 → ⊥) → x ≡ orRoom r size buffer
-  room-stop n = or-stop _ p n
-
-  module _ (e : x ≡ 0) where
-    pub room-short : length buffer < size → 17 ≡ orRoom r size buffer
-    room-short h = rw (lt-leb size (length buffer) h) (or-go 17 p e)
-
-    pub room-enough : size ≤ length buffer → orRoom r size buffer ≡ 0
-    room-enough h = rw (le-leb size (length buffer) h) (sym (or-go 0 p e))
+  pub room-enough : size ≤ length buffer → 0 ≡ roomRefusal size buffer
+  room-enough enough = rw (le-leb size (length buffer) enough) refl

@@ -1,3 +1,4 @@
+pub mod Passes
 pub mod Calls
 pub mod ReadWriteCalls
 pub mod Everything

@@ -9,34 +9,35 @@ use borrow.Author.Tests.{eqb-false}
 use lib.IntN.{ℤ}
 use lib.ListN.{length, drop, length-drop}
 use lib.Seq.{length-take-le}
+use Rattle.sheet_spec.specs.Refusals.{greatestNumber, unlessRefused}
 use Rattle.sheet_spec.specs.Sheet.{refusal, values, length-of, writeRefusal, written, Same}
+use Rattle.sheet_spec.proofs.Laws.{goes-on}
 use Rattle.sheet_spec.proofs.Causes.{refusal-most, write-most}
 use Rattle.sheet_spec.proofs.RoundTrip.{passed}
 use Rattle.sheet_spec.proofs.ReadWrite.{length-read, read-then-write, answers-length, write-then-read}
 use Rattle.decision_spec.specs.Decision.{refused, packed, codeOf, widthOf, roundsOf}
-use Rattle.decision_spec.specs.Call.{orRefused}
+use Rattle.decision_spec.specs.Call.{refusedCall}
 use Rattle.decision_spec.specs.Calls.{readCall, readOut, writeCall, writeOut}
 use Rattle.decision_spec.specs.ReadWriteCalls.{isRefused, callBytes, CallsReadThenWrite, CallsWriteThenRead}
-use Rattle.decision_spec.proofs.Calls.{or-answered, or-written}
 
 -- an answer whose code is not 3 is that of no refusal
-accepted : (d a : ℕ) → d ≤ 17 → isRefused (orRefused d a) ≡ false → d ≡ 0
-unfolding orRefused packed codeOf widthOf roundsOf
+accepted : (d a : ℕ) → d ≤ greatestNumber → isRefused (unlessRefused d refusedCall a) ≡ false → d ≡ 0
+unfolding unlessRefused packed codeOf widthOf roundsOf
 accepted zero a l e = refl
 accepted (suc d) a l e = let q : packed (refused (suc d)) / 2 ^ 48 ≡ 3 = omega arith in absurd (eqb-false (packed (refused (suc d)) / 2 ^ 48) 3 e q)
 
 module _ (f : List ℕ) (e : refusal f ≡ 0) where
   read-length : readCall f ≡ length f
   unfolding readCall
-  read-length = sym (or-answered (refusal f) (length f) e)
+  read-length = goes-on refusedCall (length f) e
 
   read-values : (numbers : List ℤ) → readOut f numbers ≡ values f
   unfolding readOut
-  read-values numbers = sym (or-written (refusal f) (values f) numbers e)
+  read-values numbers = goes-on (λ r. numbers) (values f) e
 
 write-length : (v : List ℤ) (buffer : List ℕ) (place : ℕ) → writeRefusal v buffer place ≡ 0 → writeCall v buffer place ≡ length-of v
 unfolding writeCall
-write-length v buffer place e = sym (or-answered (writeRefusal v buffer place) (length-of v) e)
+write-length v buffer place e = goes-on refusedCall (length-of v) e
 
 pub calls-read-then-write : CallsReadThenWrite
 unfolding readCall writeOut

@@ -8,23 +8,28 @@ use native.Mathlib.Nat.{le-refl, le-trans, lt-of-lt-of-le}
 use native.Mathlib.Omega.{arith}
 use lib.Dec.{leb}
 use lib.IntN.{ℤ}
-use lib.ListN.{getD, take, drop}
+use lib.ListN.{getD, drop}
 use lib.Seq.{getD-take, drop-drop}
-use mir.Syntax.{w32}
 use borrow.Author.Tests.{lt-ltb, le-ltb, ltb-true, le-leb, leb-true}
-use Rattle.integers.specs.Bytes.{decode}
 use Rattle.sheet_spec.specs.Slots.{vars, boxes, δ, α, recoveryBox}
+use Rattle.sheet_spec.specs.Fields.{i32, decoded}
+use Rattle.sheet_spec.specs.Sizes.{letters, upperAt, pairBytes}
+use Rattle.sheet_spec.specs.Limits.{maxAllowance}
+use Rattle.sheet_spec.specs.Refusals.{Cause, unlessRefused}
 use Rattle.sheet_spec.specs.Sheet.{refusal, values}
+use Rattle.sheet_spec.proofs.Laws.{unless-zero}
 use Rattle.machine_spec.specs.Box.{boxOf, within}
+use Rattle.machine_spec.specs.declared.Law.{Law}
+use Rattle.machine_spec.specs.declared.Law.the-variants.{Command}
 use Rattle.machine_spec.specs.Machine.{machine}
 use Rattle.sheet_spec.proofs.Box.{differ}
 use Rattle.boxes_spec.specs.Step.{Result, ok, failed, exhausted}
 use Rattle.boxes_spec.specs.Reach.{clear}
-use Rattle.boxes_spec.proofs.Count.{count, cond-zero}
+use Rattle.boxes_spec.proofs.Count.{count}
 use Rattle.boxes_spec.proofs.Cut.{Cut, value, failure, spent, CutFrom, cut-value, cut-failure, cut-if, cut-then, reach-cut}
-use Rattle.decision_spec.specs.Question.{i32, formRefusal, allowanceRefusal, questionRefusal, allowanceOf, commandOf, pairs, measured}
+use Rattle.decision_spec.specs.Question.{commandAt, sidesAt, formRefusal, allowanceRefusal, headRefusal, questionRefusal, allowanceOf, commandOf, pairs, measured}
 use Rattle.decision_spec.specs.declared.Phase.{Phase}
-use Rattle.decision_spec.specs.Decision.{finish, follow, attempt, keep, finest, spent, Reply, refused, answered, decisionPhases, decisionWithin, decisionOf, unlessRefused, decide, roundsOf}
+use Rattle.decision_spec.specs.Decision.{finish, follow, attempt, keep, finest, spent, Reply, refused, answered, decisionPhases, decisionWithin, decisionOf, decide, roundsOf}
 use Rattle.decision_spec.proofs.Attempts.{outcome, replyFrom, reply-none, reply-turn}
 use Rattle.decision_spec.specs.Spent.{isSpent, CutAt, SpentOnValues, SameButAllowance, SpentOnBytes}
 
@@ -96,48 +101,48 @@ between {A} {A′} {reply} {reply′} {whole} h k k′ = by (isSpent reply′) r
         record { exactly = s ∙ sym (lt-ltb A (roundsOf reply′) (omega arith)); rounds = k .rounds; same = λ n. absurd (differ s n) }
     by false e = subst (CutAt A reply) (sym (k′ .same e)) k
 
-decision-cut : (v B : List ℤ) (u : ℤ) (A : ℕ) → CutAt A (decisionOf v B u A) (decisionWithin false 0 v B u)
+decision-cut : (v B : List ℤ) (l : Law) (A : ℕ) → CutAt A (decisionOf v B l A) (decisionWithin false 0 v B l)
 unfolding decisionOf
-decision-cut v B u A = attempts-cut _ _ (λ w c. attempt-cut A v w (decisionPhases v u) B c) (max (δ v) (α v)) (max (δ v) (α v)) 0 .cuts (omega arith)
+decision-cut v B l A = attempts-cut _ _ (λ w c. attempt-cut A v w (decisionPhases v l) B c) (max (δ v) (α v)) (max (δ v) (α v)) 0 .cuts (omega arith)
 
 pub spent-on-values : SpentOnValues
-spent-on-values v B u A = (decision-cut v B u A, λ A′ h. between h (decision-cut v B u A) (decision-cut v B u A′))
+spent-on-values v B l A = (decision-cut v B l A, λ A′ h. between h (decision-cut v B l A) (decision-cut v B l A′))
 
 -- ---- the decision on bytes
 
 module _ {g g′ : List ℕ} (s : SameButAllowance g g′) where
   -- the bytes after the allowance
-  same-from : (at : ℕ) → 6 ≤ at → drop at g ≡ drop at g′
+  same-from : (at : ℕ) → commandAt ≤ at → drop at g ≡ drop at g′
   same-from at h =
-      let q : 6 + (at - 6) ≡ at = omega arith in
-      rw q at (sym (drop-drop (at - 6) 6 g) ∙ ap (λ (r : List ℕ). drop (at - 6) r) (s .rest) ∙ drop-drop (at - 6) 6 g′)
+      let q : commandAt + (at - commandAt) ≡ at = omega arith in
+      rw q at (sym (drop-drop (at - commandAt) commandAt g) ∙ ap (λ (r : List ℕ). drop (at - commandAt) r) (s .rest) ∙ drop-drop (at - commandAt) commandAt g′)
 
-  same-number : (at : ℕ) → 6 ≤ at → i32 g at ≡ i32 g′ at
-  same-number at h = ap (λ (r : List ℕ). decode w32 (take 4 r)) (same-from at h)
+  same-number : (at : ℕ) → commandAt ≤ at → decoded i32 (drop at g) ≡ decoded i32 (drop at g′)
+  same-number at h = ap (decoded i32) (same-from at h)
 
   same-command : commandOf g ≡ commandOf g′
   unfolding commandOf
-  same-command = same-number 6 (omega arith)
+  same-command = same-number commandAt (omega arith)
 
   same-measured : (n : ℕ) → measured n g ≡ measured n g′
   unfolding measured pairs
-  same-measured n = λ t. boxOf n (λ i. same-number (10 + 8 * i) (omega arith) t) (λ i. same-number (10 + 8 * i + 4) (omega arith) t)
+  same-measured n = λ t. boxOf n (λ i. same-number (sidesAt + pairBytes * i) (omega arith) t) (λ i. same-number (sidesAt + pairBytes * i + upperAt) (omega arith) t)
 
-  same-mark : (i : ℕ) → i < 2 → getD g i 0 ≡ getD g′ i 0
-  same-mark i h = sym (getD-take 2 g i 0 h) ∙ ap (λ (r : List ℕ). getD r i 0) (s .mark) ∙ getD-take 2 g′ i 0 h
+  same-mark : (i : ℕ) → i < letters → getD g i 0 ≡ getD g′ i 0
+  same-mark i h = sym (getD-take letters g i 0 h) ∙ ap (λ (r : List ℕ). getD r i 0) (s .mark) ∙ getD-take letters g′ i 0 h
 
   same-refusal : (v : List ℤ) → allowanceRefusal g ≡ allowanceRefusal g′ → questionRefusal v g ≡ questionRefusal v g′
-  unfolding questionRefusal formRefusal
+  unfolding questionRefusal headRefusal formRefusal
   same-refusal v e = rw (s .size, same-mark 0 (omega arith), same-mark 1 (omega arith), e, same-command, same-measured (vars v)) refl
 
 -- a smaller allowance is not refused either
 less-allowed : (g g′ : List ℕ) → allowanceOf g < allowanceOf g′ → allowanceRefusal g′ ≡ 0 → allowanceRefusal g ≡ allowanceRefusal g′
 unfolding allowanceRefusal
 less-allowed g g′ h e =
-    let n = leb-true (allowanceOf g′) 1000000 (cond-zero (leb (allowanceOf g′) 1000000) 12 e) in
-    rw (le-leb (allowanceOf g) 1000000 (omega arith), le-leb (allowanceOf g′) 1000000 n) refl
+    let n = leb-true (allowanceOf g′) maxAllowance (unless-zero _ Cause.allowance e) in
+    rw (le-leb (allowanceOf g) maxAllowance (omega arith), le-leb (allowanceOf g′) maxAllowance n) refl
 
-unless-cut : {A : ℕ} (r : ℕ) {reply more : Reply} → CutAt A reply more → CutAt A (unlessRefused r reply) (unlessRefused r more)
+unless-cut : {A : ℕ} (r : ℕ) {reply more : Reply} → CutAt A reply more → CutAt A (unlessRefused r refused reply) (unlessRefused r refused more)
 unfolding unlessRefused isSpent roundsOf
 unless-cut zero k = k
 unless-cut (suc r) k = same-reply (refused (suc r)) refl (omega arith)
@@ -148,4 +153,4 @@ spent-on-bytes f g g′ s h e =
     let v = values f in
     unless-cut (refusal f)
     (rw (same-refusal s v (less-allowed g g′ h e), same-command s, same-measured s (vars v))
-    (unless-cut (questionRefusal v g′) (spent-on-values v (measured (vars v) g′) (commandOf g′) (allowanceOf g) .1 (allowanceOf g′) h)))
+    (unless-cut (questionRefusal v g′) (spent-on-values v (measured (vars v) g′) (Command (commandOf g′)) (allowanceOf g) .1 (allowanceOf g′) h)))

@@ -5,15 +5,17 @@ use Prim.Native.Nat.{ℕ, zero, suc, _+_, _*_, _/_, _^_, max}
 use lib.Dec.{leb}
 use lib.IntN.{ℤ}
 use Rattle.sheet_spec.specs.Slots.{vars, boxes, δ, α, ρ, recoveryBox}
+use Rattle.sheet_spec.specs.Refusals.{unlessRefused}
 use Rattle.sheet_spec.specs.Sheet.{refusal, values}
 use Rattle.machine_spec.specs.Box.{within}
 use Rattle.machine_spec.specs.declared.Law.{Law}
-use Rattle.machine_spec.specs.declared.Law.the-variants.{Baseline, Command}
+use Rattle.machine_spec.specs.declared.Law.the-variants.{Baseline}
 use Rattle.machine_spec.specs.Machine.{machine}
 use Rattle.boxes_spec.specs.Step.{Failure, unsettled, unrecovered, Result, ok, failed, exhausted, andThen}
 use Rattle.boxes_spec.specs.Reach.{Reached, reach, clear}
 use Rattle.decision_spec.specs.declared.Phase.{Phase}
-use Rattle.decision_spec.specs.Question.{questionRefusal, allowanceOf, commandOf, measured}
+use Rattle.decision_spec.specs.declared.Question.{Question}
+use Rattle.decision_spec.specs.Question.{questionOf, questionRefusal}
 
 -- ---- an attempt at a width
 
@@ -112,20 +114,20 @@ lastReply (a ∷ b ∷ others) = lastReply (b ∷ others)
 
 -- ---- the decision on values
 
--- δ ticks under the command, then α under the plain law
-unfoldable pub decisionPhases : List ℤ → ℤ → List Phase
-decisionPhases v u = phase (Command u) (δ v) ∷ phase Baseline (α v) ∷ []
+-- δ ticks under the law that is asked for, then α under the plain law
+unfoldable pub decisionPhases : List ℤ → Law → List Phase
+decisionPhases v l = phase l (δ v) ∷ phase Baseline (α v) ∷ []
 
 -- the attempts from the measured box B, with an allowance (if `limited`)
-abbrev pub decisionAttempts : Bool → ℕ → List ℤ → List ℤ → ℤ → List Attempt
-decisionAttempts limited allowance v B u =
-    attempts (λ w c. attempt limited allowance v w (decisionPhases v u) B c) (max (δ v) (α v)) (max (δ v) (α v)) 0
+abbrev pub decisionAttempts : Bool → ℕ → List ℤ → List ℤ → Law → List Attempt
+decisionAttempts limited allowance v B l =
+    attempts (λ w c. attempt limited allowance v w (decisionPhases v l) B c) (max (δ v) (α v)) (max (δ v) (α v)) 0
 
-abbrev pub decisionWithin : Bool → ℕ → List ℤ → List ℤ → ℤ → Reply
-decisionWithin limited allowance v B u = lastReply (decisionAttempts limited allowance v B u)
+abbrev pub decisionWithin : Bool → ℕ → List ℤ → List ℤ → Law → Reply
+decisionWithin limited allowance v B l = lastReply (decisionAttempts limited allowance v B l)
 
-unfoldable pub decisionOf : List ℤ → List ℤ → ℤ → ℕ → Reply
-decisionOf v B u allowance = decisionWithin true allowance v B u
+unfoldable pub decisionOf : List ℤ → List ℤ → Law → ℕ → Reply
+decisionOf v B l allowance = decisionWithin true allowance v B l
 
 -- ρ ticks under the plain law from the recovery box, with no allowance
 unfoldable pub recoveryPhases : List ℤ → List Phase
@@ -139,25 +141,21 @@ recoveryOf v = lastReply (recoveryAttempts v)
 
 -- ---- the operations on bytes
 
--- the reply, or the refusal before it
-unfoldable pub unlessRefused : ℕ → Reply → Reply
-unlessRefused zero a = a
-unlessRefused (suc r) a = refused (suc r)
+-- the decision on a sheet's value v and a question
+abbrev pub decisionTo : List ℤ → Question → Reply
+decisionTo v q = decisionOf v (q .measured) (q .head .law) (q .head .allowance)
 
--- the decision on a sheet's value v and a question's bytes g
+-- and on its bytes g
 abbrev pub decisionOn : List ℤ → List ℕ → Reply
-decisionOn v g = unlessRefused (questionRefusal v g) (decisionOf v (measured (vars v) g) (commandOf g) (allowanceOf g))
+decisionOn v g = unlessRefused (questionRefusal v g) refused (decisionTo v (questionOf (vars v) g))
 
 -- the recovery check of a sheet's bytes
 unfoldable pub checkRecovery : List ℕ → Reply
-checkRecovery f = unlessRefused (refusal f) (recoveryOf (values f))
+checkRecovery f = unlessRefused (refusal f) refused (recoveryOf (values f))
 
 -- the decision on a sheet's and a question's bytes
 unfoldable pub decide : List ℕ → List ℕ → Reply
-decide f g =
-    unlessRefused (refusal f)
-    (unlessRefused (questionRefusal (values f) g)
-    (decisionOf (values f) (measured (vars (values f)) g) (commandOf g) (allowanceOf g)))
+decide f g = unlessRefused (refusal f) refused (decisionOn (values f) g)
 
 -- ---- the answer as one 64-bit number: code, width and rounds
 

@@ -7,7 +7,9 @@ use Prim.Native.Nat.{ℕ, _<_}
 use lib.Dec.{ltb}
 use lib.IntN.{ℤ}
 use lib.ListN.{length, take, drop}
-use Rattle.decision_spec.specs.Question.{allowanceRefusal, allowanceOf}
+use Rattle.sheet_spec.specs.Sizes.{letters}
+use Rattle.machine_spec.specs.declared.Law.{Law}
+use Rattle.decision_spec.specs.Question.{commandAt, allowanceRefusal, allowanceOf}
 use Rattle.decision_spec.specs.Decision.{keep, finest, spent, Reply, refused, answered, roundsOf, decisionWithin, decisionOf, decide}
 
 unfoldable pub isSpent : Reply → Bool
@@ -25,18 +27,18 @@ pub record CutAt (A : ℕ) (reply more : Reply) : Type 0 where
   -- if not, the second has the same verdict, width and rounds
   pub same : isSpent reply ≡ false → reply ≡ more
 
--- the decision on any values, beside the same with no allowance and with every greater one
+-- the decision on any values under any law, beside the same with no allowance and with every greater one
 abbrev pub SpentOnValues : Type 0
 SpentOnValues =
-    (v B : List ℤ) (u : ℤ) (A : ℕ)
-    → CutAt A (decisionOf v B u A) (decisionWithin false 0 v B u)
-    × ((A′ : ℕ) → A < A′ → CutAt A (decisionOf v B u A) (decisionOf v B u A′))
+    (v B : List ℤ) (l : Law) (A : ℕ)
+    → CutAt A (decisionOf v B l A) (decisionWithin false 0 v B l)
+    × ((A′ : ℕ) → A < A′ → CutAt A (decisionOf v B l A) (decisionOf v B l A′))
 
--- two questions that differ in nothing but the allowance, bytes 2 to 5
+-- two questions that differ in nothing but the allowance, which stands between the mark and the command
 pub record SameButAllowance (g g′ : List ℕ) : Type 0 where
   pub size : length g ≡ length g′
-  pub mark : take 2 g ≡ take 2 g′
-  pub rest : drop 6 g ≡ drop 6 g′
+  pub mark : take letters g ≡ take letters g′
+  pub rest : drop commandAt g ≡ drop commandAt g′
 
 -- the decision on any bytes, beside the same with every greater allowance that is not refused. If anything else is refused, both replies are that refusal
 abbrev pub SpentOnBytes : Type 0

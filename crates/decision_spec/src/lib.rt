@@ -1,7 +1,19 @@
 // Question, attempt, decision, recovery check, listing and what every call of the C interface answers (document 01, "The
 // decision", "The floor listing"), as definitions; that an attempt covers what it keeps, and that counts stay within the
-// allowance. There is no function here: `decision`, `guard` and `listing` have the code that is equal to it.
+// allowance. There is no function here: `decision_question`, `decision`, `guard` and `listing` have the code that is equal to it.
 use machine_spec::Law;
+use sheet_spec::slots::BOX_SIZE;
+
+// The head of a question: how many rounds are allowed, and the law that is asked for.
+pub struct QuestionHead {
+    pub allowance: u32,
+    pub law: Law,
+}
+
+pub struct Question {
+    pub head: QuestionHead,
+    pub measured: [i64; BOX_SIZE],
+}
 
 // Some ticks under one law.
 pub struct Phase {

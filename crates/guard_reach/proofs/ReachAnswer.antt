@@ -9,8 +9,8 @@ use lib.Seq.{sets, sets-eq}
 use Rattle.integers.proofs.Lists.{sets-append}
 use Rattle.sheet_spec.specs.Slots.{_!_, vars}
 use Rattle.sheet_spec.specs.Sheet.{refusal, values}
-use Rattle.boxes_spec.specs.Reach.{Answer, reachOf, reachFile}
-use Rattle.boxes_spec.proofs.Refusals.{if-refused, if-accepted}
+use Rattle.sheet_spec.proofs.FirstRefusal.{found-stops, found-none}
+use Rattle.boxes_spec.specs.Reach.{Answer, refused, reachOf, reachFile}
 use Rattle.decision_spec.specs.Numbers.{numberBytes, sidesOf}
 use Rattle.decision_spec.specs.ReachCall.{startBox, lawOf, reachAnswer}
 use Rattle.guard_reach.proofs.Turn.{sides-length}
@@ -43,9 +43,9 @@ boxes-bytes l n E W h = bytes-same _ _ (4 * n) at
 module _ (f : List ℕ) (ticks w law : ℕ) (u : ℤ) (s : List ℕ) {r : ℕ} (p : r ≡ refusal f) where
   pub file-refused : (r ≡ 0 → ⊥) → r ≡ reachAnswer f ticks w law u s .refusal
   unfolding reachAnswer reachFile
-  file-refused n = ap (λ (a : Answer). a .refusal) (if-refused _ p n)
+  file-refused n = ap (λ (a : Answer). a .refusal) (found-stops refused _ p n)
 
   -- v and B are the code's value and start box
   pub file-reached : r ≡ 0 → {v B : List ℤ} → v ≡ values f → B ≡ startBox (vars (values f)) s → reachOf v ticks w (lawOf law u) B ≡ reachAnswer f ticks w law u s
   unfolding reachAnswer reachFile
-  file-reached e h k = rw (h, k) (if-accepted _ p e)
+  file-reached e h k = rw (h, k) (found-none refused _ p e)

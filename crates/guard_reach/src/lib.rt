@@ -16,12 +16,12 @@ use crate::numbers::put_sides;
 use boxes::ReachAnswer;
 use boxes::reach_of;
 use decision_answers::pack_refusal;
-use decision_question::PAIR;
 use decision_question::pairs;
 use machine_spec::Law;
 use sheet::read_zeroed;
 use sheet_encoding::count;
 use sheet_spec::refusals::ROOM;
+use sheet_spec::sizes::PAIR_BYTES;
 use sheet_spec::slots::BOX_SIZE;
 use sheet_spec::slots::SLOTS;
 use sheet_spec::slots::VARS;
@@ -31,7 +31,7 @@ fn start_box(n: usize, start: &[u8]) -> [i64; BOX_SIZE]
     requires { ⌜ n ≤ slots.N ⌝ }
     ensures { λ r. ⌜ r ≡ startBox n (now (start .entry)) ⌝ }
 {
-    if start.len() == PAIR * n {
+    if start.len() == PAIR_BYTES * n {
         return pairs(n, start, 0);
     }
     let mut b: [i64; BOX_SIZE] = [0; BOX_SIZE];
@@ -49,7 +49,7 @@ fn give_reached(n: usize, a: ReachAnswer, out: &mut [u8]) -> u64
     if refusal != 0 {
         return pack_refusal(refusal);
     }
-    if out.len() < 2 * PAIR * n {
+    if out.len() < 2 * PAIR_BYTES * n {
         return pack_refusal(ROOM);
     }
     let end = a.end;

@@ -18,17 +18,15 @@ use crate::lines::put_sheet_line;
 use decision::check_recovery;
 use decision::decide;
 use decision_answers::has_passed;
-use decision_question::PAIR;
-use decision_question::SIDES_AT;
+use decision_question::LONGEST;
 use listing_text::LINE;
 use sheet::read_zeroed;
 use sheet_encoding::count;
-use sheet_spec::slots::N;
 use sheet_spec::slots::SLOTS;
 use sheet_spec::slots::VARS;
 
 // The most bytes of a question.
-pub const QUESTION: usize = SIDES_AT + PAIR * N;
+pub const QUESTION: usize = LONGEST;
 
 // How far a listing is: the number of the next question, and whether one may follow.
 pub struct Progress {
@@ -66,7 +64,7 @@ fn question_length(sheet: &[u8]) -> usize
 {
     let mut v = [0i32; SLOTS];
     read_zeroed(sheet, &mut v);
-    SIDES_AT + PAIR * count(&v, VARS)
+    decision_question::question_length(count(&v, VARS))
 }
 
 // How many of the bytes still to come the next question takes.

@@ -21,12 +21,11 @@ use Rattle.machine_spec.specs.Accepted.{Lawful}
 use Rattle.machine_spec.specs.Machine.{machine, Tick}
 use Rattle.machine_spec.specs.Rate.{neutral}
 use Rattle.machine_spec.proofs.Sound.{cap-bounds}
-use Rattle.sheet_spec.specs.Refusals.{orElse}
-use Rattle.boxes_spec.specs.Reach.{lawRefusal, sidesRefusal}
 use Rattle.boxes_spec.proofs.Sound.{Ticks}
 use Rattle.boxes_spec.proofs.Ranges.{Sized, lawful, start-sized, recovery-sized}
-use Rattle.decision_spec.specs.Question.{questionRefusal, formRefusal, allowanceRefusal, allowanceOf, commandOf, measured}
-use Rattle.decision_spec.specs.Decision.{recoveryOf, decisionOf, isKeep}
+use Rattle.decision_spec.specs.Question.{questionOf, questionRefusal, allowanceOf, commandOf, measured}
+use Rattle.decision_spec.specs.Decision.{recoveryOf, decisionTo, isKeep}
+use Rattle.decision_spec.proofs.Passes.{question-passes}
 use Rattle.decision_spec.proofs.Cover.{Covered}
 use Rattle.decision_spec.proofs.Attempt.{recovery-sound, decision-sound}
 
@@ -76,28 +75,16 @@ hold {x} few s b c = record {
     between (pos n) a b h k = omega ints
     between (negsuc n) a b h k = omega ints
 
-or-none : (a b : ℕ) → orElse a b ≡ 0 → (a ≡ 0) × (b ≡ 0)
-or-none zero b e = (refl, e)
-or-none (suc a) b e = absurd (omega arith)
-
-module _ (v : List ℤ) (g : List ℕ) (e : questionRefusal v g ≡ 0) where
-  -- the refusals of the command and of the measured box
-  tested : (lawRefusal v (Command (commandOf g)) ≡ 0) × (sidesRefusal (vars v) (measured (vars v) g) ≡ 0)
-  unfolding questionRefusal
-  tested = or-none (lawRefusal v (Command (commandOf g))) _ (or-none (allowanceRefusal g) _ (or-none (formRefusal (vars v) g) _ e .1) .1)
-
-  pub command-lawful : Lawful v (Command (commandOf g))
-  command-lawful = lawful v (Command (commandOf g)) (tested .0)
-
-  measured-sized : Sized (vars v) maxSide (measured (vars v) g)
-  measured-sized = start-sized (vars v) (measured (vars v) g) (tested .1)
+-- the command of a question that is not refused
+pub command-lawful : (v : List ℤ) (g : List ℕ) → questionRefusal v g ≡ 0 → Lawful v (Command (commandOf g))
+command-lawful v g e = lawful v (Command (commandOf g)) (question-passes v g e .head .law)
 
 pub keep-held : {v x : List ℤ} (g : List ℕ) → Valid v → questionRefusal v g ≡ 0
-    → T (isKeep (decisionOf v (measured (vars v) g) (commandOf g) (allowanceOf g))) → In (vars v) (measured (vars v) g) x
+    → T (isKeep (decisionTo v (questionOf (vars v) g))) → In (vars v) (measured (vars v) g) x
     → Held v (replicate (δ v) (Command (commandOf g)) ++ replicate (α v) Baseline) x
 keep-held {v} g wf e t b =
     let few : length (replicate (δ v) (Command (commandOf g)) ++ replicate (α v) Baseline) ≤ maxTicks = simp (length-append, length-replicate) (wf .sum-high) in
-    hold few (measured-sized v g e) b (decision-sound wf (commandOf g) (allowanceOf g) t b)
+    hold few (start-sized (vars v) (measured (vars v) g) (question-passes v g e .start)) b (decision-sound wf (Command (commandOf g)) (allowanceOf g) t b)
 
 -- ---- the way back to the recovery box
 

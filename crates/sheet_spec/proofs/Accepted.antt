@@ -57,7 +57,7 @@ accepted f e =
       size = eqb-true _ _ (unless-zero (eqb (length f) (start s (records s))) Cause.length (t .at 2 (omega arith)));
       marks = mark-right (markedAt s f) s (contents f) (records s) (t .at 3 (omega arith));
       good = all-good (markedAt s f) s (contents f) (records s) (t .at 3 (omega arith));
-      values = goes-on (λ c. zeros) (contents f) e;
+      values = goes-on _ _ e;
     }
 
 -- ---- an accepted file's values pass the writer's tests: the counts are those that the head names

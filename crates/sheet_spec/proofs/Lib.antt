@@ -1,6 +1,7 @@
 pub mod Box
 pub mod Streams
 pub mod Laws
+pub mod FirstRefusal
 pub mod Records
 pub mod Tests
 pub mod Causes

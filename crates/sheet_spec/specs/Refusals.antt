@@ -1,5 +1,6 @@
 -- Why a call is refused, by number (document 01, "Refused calls"), and which of several refusals comes first.
 use mathlib.Core.Bool.{Bool, true, false}
+use mathlib.Core.List.{List, [], _∷_}
 use Prim.Native.Nat.{ℕ, zero, suc}
 
 pub data Cause : Type 0 where
@@ -71,11 +72,12 @@ unfoldable pub unlessRefused : {A : Type 0} → ℕ → (ℕ → A) → A → A
 unlessRefused zero refuse go = go
 unlessRefused (suc r) refuse go = refuse (suc r)
 
+-- the first refusal of a list of tests, each 0 where it passed; 0 where all did
+unfoldable pub firstOf : List ℕ → ℕ
+firstOf [] = 0
+firstOf (r ∷ rs) = unlessRefused r (λ c. c) (firstOf rs)
+
 -- the first of h 0, .. h (k - 1) that is not 0, or 0
 unfoldable pub firstRefusal : (ℕ → ℕ) → ℕ → ℕ
 firstRefusal h zero = 0
 firstRefusal h (suc k) = unlessRefused (firstRefusal h k) (λ c. c) (h k)
-
--- a refusal or, if it is 0, the next
-abbrev pub orElse : ℕ → ℕ → ℕ
-orElse x y = elim x [ zero ↦ y | suc c ↦ suc c ]

@@ -17,7 +17,7 @@ use Rattle.sheet_spec.specs.declared.Shape.{Shape}
 use Rattle.sheet_spec.specs.declared.Record.{Record}
 use Rattle.sheet_spec.specs.Layout.{headFields, fields, count}
 use Rattle.sheet_spec.specs.File.{shape, records, recordAt, recordLength, start, recordBytes, codedAll, badAll}
-use Rattle.sheet_spec.specs.Sheet.{valueRefusal, length-of, bytesOf, writeRefusal}
+use Rattle.sheet_spec.specs.Sheet.{valueRefusal, length-of, bytesOf}
 use Rattle.sheet_spec.specs.Written.{writtenLength, Wrote}
 use Rattle.sheet_spec.proofs.Records.{each-head}
 use Rattle.sheet_spec.proofs.Laws.{goes-on, number-is, stops}

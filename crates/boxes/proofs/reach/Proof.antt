@@ -4,8 +4,8 @@ use mathlib.Core.List.{List}
 use lib.IntN.{ℤ}
 use Rattle.sheet_spec.specs.Valid.{Valid}
 use Rattle.sheet_spec.proofs.Valid.{valid, zeros-are}
-use Rattle.boxes_spec.specs.Reach.{reachOf, reachFile}
-use Rattle.boxes_spec.proofs.Refusals.{if-refused, if-accepted}
+use Rattle.sheet_spec.proofs.FirstRefusal.{found-stops, found-none}
+use Rattle.boxes_spec.specs.Reach.{refused, reachOf, reachFile}
 use Rattle.boxes.proofs.reach.Statement.{statement}
 use Rattle.boxes.proofs.reach.Tie as tie
 
@@ -13,7 +13,7 @@ returns : tie.Need-returns
 unfolding reachFile
 returns c =
     let r = c .before .before in
-    c .refused .ensures ∙ if-refused _ (r .read-zeroed .ensures .0) (c .before .if1 .taken)
+    c .refused .ensures ∙ found-stops refused _ (r .read-zeroed .ensures .0) (c .before .if1 .taken)
 
 reach-of-requires : tie.Need-reach-of-requires
 reach-of-requires c κs =
@@ -28,7 +28,7 @@ returns-2 c =
     let s = r .before .before .before in
     c .reach-of .ensures
     ∙ ap (λ (v : List ℤ). reachOf v (s .args .ticks) (s .args .width) (s .args .law) (s .args .start .now)) (r .read-zeroed .ensures .1)
-    ∙ if-accepted _ (r .read-zeroed .ensures .0) (e .if1 .left)
+    ∙ found-none refused _ (r .read-zeroed .ensures .0) (e .if1 .left)
 
 pub reach-spec : {M : Type 1} → statement M
 reach-spec = tie.close (tie.spec (λ c κs. zeros-are) (λ c κs. tt) returns reach-of-requires returns-2)

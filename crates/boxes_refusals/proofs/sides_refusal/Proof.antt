@@ -8,8 +8,8 @@ use borrow.Author.Tests.{not-true, not-false}
 use lib.IntN.{ℤ}
 use Rattle.integers.proofs.Z.{told}
 use Rattle.sheet_spec.specs.Box.{all}
-use Rattle.boxes_spec.specs.Reach.{sidesRefusal}
-use Rattle.boxes_refusals.proofs.Turn.{sideIn, sides-more, sides-stop}
+use Rattle.boxes_spec.specs.Reach.{sideIn, sidesRefusal}
+use Rattle.boxes_refusals.proofs.Turn.{sides-more, sides-stop}
 use Rattle.boxes_refusals.proofs.sides_refusal.Statement.{statement}
 use Rattle.boxes_refusals.proofs.sides_refusal.Tie as tie
 

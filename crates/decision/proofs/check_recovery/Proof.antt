@@ -5,10 +5,10 @@ use lib.IntN.{ℤ}
 use Rattle.sheet_spec.specs.Slots.{vars, recoveryBox}
 use Rattle.sheet_spec.specs.Valid.{Valid}
 use Rattle.sheet_spec.proofs.Valid.{valid, zeros-are}
+use Rattle.sheet_spec.proofs.FirstRefusal.{found-stops, found-none}
 use Rattle.machine_spec.specs.Box.{trim}
-use Rattle.decision_spec.specs.Decision.{recoveryOf, checkRecovery}
+use Rattle.decision_spec.specs.Decision.{refused, recoveryOf, checkRecovery}
 use Rattle.decision_answers.specs.Recovery.{checkReplyOf}
-use Rattle.decision.proofs.Answer.{unless-refused, unless-passed}
 use Rattle.decision.proofs.RecoveryBox.{recovery-trimmed}
 use Rattle.decision.proofs.check_recovery.Statement.{statement}
 use Rattle.decision.proofs.check_recovery.Tie as tie
@@ -18,7 +18,7 @@ returns : tie.Need-returns
 unfolding checkReplyOf checkRecovery
 returns at-return =
     let at-read = at-return .before in
-    unless-refused _ _ (at-read .read-zeroed .ensures .0) (at-return .if1 .taken)
+    found-stops refused _ (at-read .read-zeroed .ensures .0) (at-return .if1 .taken)
 
 check-on-requires : tie.Need-check-on-requires
 check-on-requires c κs =
@@ -33,7 +33,7 @@ unfolding checkRecovery
 returns-2 at-return =
     let accepted = at-return .before .before in
     let read = accepted .before .read-zeroed .ensures in
-    at-return .check-on .ensures ∙ ap recoveryOf (read .1) ∙ unless-passed _ _ (read .0) (accepted .if1 .left)
+    at-return .check-on .ensures ∙ ap recoveryOf (read .1) ∙ found-none refused _ (read .0) (accepted .if1 .left)
 
 pub check-recovery-spec : {M : Type 1} → statement M
 check-recovery-spec = tie.close (tie.spec (λ c κs. zeros-are) returns check-on-requires returns-2)

@@ -1,30 +1,27 @@
--- `decide_on` is the decision of the definitions on an accepted sheet's value. Assumes nothing.
+-- `decide_on` is the decision of the definitions on an accepted sheet's value and a question's bytes. Assumes nothing.
 use mathlib.Core.Path.{_≡_, sym, ap, _∙_, subst}
 use mathlib.Core.List.{List}
 use Prim.Native.Nat.{ℕ, _≤_}
 use native.Mathlib.Omega.{arith}
 use lib.IntN.{ℤ}
-use lib.ListN.{length}
-use mir.Facts.{toZ-ofZ}
-use mir.Syntax.{w32}
-use mir.Val.{SFits}
 use borrow.Author.Needs.{needs}
 use Rattle.sheet_spec.specs.Slots.{N, vars}
+use Rattle.sheet_spec.proofs.FirstRefusal.{found-stops, found-none}
 use Rattle.machine_spec.proofs.Ranges.{near-as}
 use Rattle.machine_spec.proofs.InPlace.{trim-as}
-use Rattle.decision_spec.specs.Question.{questionLength, measured, questionRefusal}
-use Rattle.decision_spec.specs.Decision.{ticksOf}
+use Rattle.decision_spec.specs.declared.Question.{Question}
+use Rattle.decision_spec.specs.Question.{questionOf, measured, questionRefusal}
+use Rattle.decision_spec.specs.Decision.{refused, decisionTo}
 use Rattle.decision_answers.specs.Decision.{replyOf}
+use Rattle.decision_question.proofs.Measured.{measured-near, measured-trimmed}
 use Rattle.decision.specs.Limits.{startLimit}
-use Rattle.decision_question.proofs.Refusals.{asked-length, measured-near, measured-trimmed}
-use Rattle.decision.proofs.Answer.{unless-refused, unless-passed, plan-decides}
 use Rattle.decision.proofs.decide_on.Statement.{statement}
 use Rattle.decision.proofs.decide_on.Tie as tie
 
--- after the count of variables
-module _ (at-count : tie.After-count) where
+-- after the question was read
+module _ (at-read : tie.After-read) where
   abbrev at-start : tie.Start
-  at-start = at-count .before .before
+  at-start = at-read .before .before .before
 
   abbrev v : List ℤ
   v = at-start .args .sheet .now
@@ -35,99 +32,44 @@ module _ (at-count : tie.After-count) where
   room : vars v ≤ N
   room = omega (arith, at-start .pre .vars-high)
 
--- after the refusals
+-- it is not refused
 module _ (accepted : tie.Else1) where
-  abbrev at-count : tie.After-count
-  at-count = accepted .before .before
+  abbrev at-read : tie.After-read
+  at-read = accepted .before
 
-  passed : questionRefusal (v at-count) (g at-count) ≡ 0
-  passed = sym (accepted .before .refusal .ensures) ∙ accepted .if1 .left
+  question-is : at-read .read .result .question ≡ questionOf (vars (v at-read)) (g at-read)
+  question-is = at-read .read .ensures .question (accepted .if1 .left)
 
-  long : length (g at-count) ≡ questionLength (at-count .count .result)
-  long = asked-length (v at-count) (g at-count) passed ∙ ap questionLength (sym (at-count .count .ensures))
-
--- the start box
-module _ (at-box : tie.After-measured) where
-  abbrev accepted : tie.Else1
-  accepted = at-box .before
-
-  abbrev counted : tie.After-count
-  counted = at-count accepted
-
-  start : at-box .measured .result ≡ measured (vars (v counted)) (g counted)
-  start = at-box .measured .ensures ∙ ap (λ (i : ℕ). measured i (g counted)) (counted .count .ensures)
+  passed : questionRefusal (v at-read) (g at-read) ≡ 0
+  passed = sym (at-read .read .ensures .refusal) ∙ accepted .if1 .left
 
 count-requires : tie.Need-count-requires
 count-requires c κs = (omega arith, c .before .pre .head 0 (omega arith))
 
-refusal-requires : tie.Need-refusal-requires
-refusal-requires at-count κs = (at-count .count .ensures, omega (arith, at-count .count .ensures, room at-count))
+read-requires : tie.Need-read-requires
+read-requires c κs = (c .count .ensures, omega (arith, c .count .ensures, c .before .before .pre .vars-high))
 
 -- refused
 returns : tie.Need-returns
 unfolding replyOf
-returns at-return = unless-refused _ _ (at-return .before .refusal .ensures) (at-return .if1 .taken)
+returns at-return = found-stops refused _ (at-return .before .read .ensures .refusal) (at-return .if1 .taken)
 
-measured-requires : tie.Need-measured-requires
-measured-requires accepted κs = let c = at-count accepted in (omega (arith, c .count .ensures, room c), omega (arith, long accepted))
-
-count-requires-2 : tie.Need-count-requires-2
-count-requires-2 at-box κs = (omega arith, at-start (counted at-box) .pre .head 4 (omega arith))
-
-count-requires-3 : tie.Need-count-requires-3
-count-requires-3 c κs = (omega arith, at-start (counted (c .before)) .pre .head 5 (omega arith))
-
-allowance-requires : tie.Need-allowance-requires
-allowance-requires c κs = omega (arith, long (accepted (c .before .before)))
-
-command-requires : tie.Need-command-requires
-command-requires c κs = omega (arith, long (accepted (c .before .before .before)))
-
-attempts-requires : tie.Need-attempts-requires
-unfolding ticksOf
-attempts-requires c κs =
-    let at-plain = c .before .before .before .before in
-    let at-box = at-plain .before .before in
-    let n = counted at-box in
-    let wf = at-start n .pre in
-    let δ-is = at-plain .before .count2 .ensures in
-    let α-is = at-plain .count3 .ensures in
-    let width-is = c .larger .ensures in
+decision-to-requires : tie.Need-decision-to-requires
+decision-to-requires accepted κs =
+    let r = at-read accepted in
+    let box-is = ap (λ (q : Question). q .measured) (question-is accepted) in
     record {
-      sheet = wf;
-      start = near-as (start at-box) (measured-near (v n) (g n) (passed (accepted at-box)));
-      trimmed = trim-as (vars (v n)) (start at-box) (measured-trimmed (vars (v n)) (g n) (room n));
-      phases = omega arith;
-      among = omega arith;
-      ticks = omega (arith, δ-is, α-is, wf .sum-high);
-      some = omega (arith, δ-is, α-is, width-is, wf .δ-low);
-      most = omega (arith, δ-is, α-is, width-is, wf .sum-high);
+      sheet = at-start r .pre;
+      start = near-as box-is (measured-near (v r) (g r) (passed accepted));
+      trimmed = trim-as (vars (v r)) box-is (measured-trimmed (vars (v r)) (g r) (room r));
     }
 
 -- decided
 returns-2 : tie.Need-returns-2
 returns-2 at-return =
-    let at-width = at-return .before in
-    let at-command = at-width .before .before in
-    let at-plain = at-command .before .before in
-    let at-box = at-plain .before .before in
-    let f : SFits w32 (at-command .command .result) = search needs in
-    at-return .attempts .ensures
-    ∙ plan-decides (v (counted at-box)) (start at-box) (toZ-ofZ f ∙ at-command .command .ensures) (at-command .before .allowance .ensures) (at-plain .before .count2 .ensures) (at-plain .count3 .ensures) (at-width .larger .ensures)
-    ∙ unless-passed _ _ (accepted at-box .before .refusal .ensures) (accepted at-box .if1 .left)
+    let accepted = at-return .before in
+    at-return .decision-to .ensures ∙ ap (decisionTo (v (at-read accepted))) (question-is accepted)
+    ∙ found-none refused _ (at-read accepted .read .ensures .refusal) (accepted .if1 .left)
 
 pub decide-on-spec : {M : Type 1} → statement M
-decide-on-spec =
-    tie.close
-    (tie.spec
-    count-requires
-    refusal-requires
-    returns
-    measured-requires
-    count-requires-2
-    count-requires-3
-    allowance-requires
-    command-requires
-    (λ c κs. search needs)
-    attempts-requires
-    returns-2)
+decide-on-spec = tie.close (tie.spec count-requires read-requires returns decision-to-requires returns-2)

@@ -37,8 +37,6 @@ pub form-refusal-spec : {M : Type 1} → statement M
 form-refusal-spec =
     tie.close
     (tie.spec
-    (λ c. search needs)
-    (λ c. search needs)
     returns
     (λ c. search needs)
     returns-2

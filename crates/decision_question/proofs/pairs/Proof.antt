@@ -7,7 +7,6 @@ use mir.Syntax.{w32}
 use mir.Val.{SFits}
 use borrow.Author.Needs.{needs}
 use Rattle.integers.proofs.Z.{up32, from32}
-use Rattle.sheet_spec.specs.Fields.{decoded}
 use Rattle.machine_spec.specs.Box.{boxOf}
 use Rattle.machine_spec.proofs.Box.{sides-more}
 use Rattle.decision_spec.specs.Question.{pairs}
@@ -25,7 +24,7 @@ unfolding pairs boxOf
 loop-holds at-start = (omega arith, refl)
 
 loop-again : tie.Need-loop-again Inv-loop μ-loop
-unfolding pairs decoded
+unfolding pairs
 loop-again at-upper =
     let at-lower = at-upper .before in
     let at-loop = at-lower .before .before in

@@ -1,7 +1,7 @@
 -- `reach_call` answers and writes what the definitions say. Assumes nothing.
 use mathlib.Core.Path.{_≡_, sym, ap, _∙_, subst}
-use mathlib.Core.List.{List}
-use Prim.Native.Nat.{ℕ, _*_}
+use mathlib.Core.List.{List, []}
+use Prim.Native.Nat.{ℕ}
 use native.Mathlib.Omega.{arith}
 use lib.IntN.{ℤ}
 use mir.Facts.{toZ-ofZ}
@@ -9,15 +9,16 @@ use borrow.Author.Needs.{needs}
 use Rattle.sheet_spec.specs.Slots.{vars}
 use Rattle.sheet_spec.specs.Sheet.{values}
 use Rattle.sheet_spec.specs.Valid.{Valid}
+use Rattle.sheet_spec.proofs.FirstRefusal.{found-stops, first-fails}
 use Rattle.sheet_spec.proofs.Valid.{valid, zeros-are}
 use Rattle.machine_spec.specs.Box.{Near}
 use Rattle.machine_spec.specs.declared.Law.{Law}
 use Rattle.boxes_spec.specs.Reach.{maxReached, Answer, reachOf}
 use Rattle.boxes.specs.ReachAnswer.{answerOf}
+use Rattle.decision_spec.specs.Call.{refusedCall}
 use Rattle.decision_spec.specs.ReachCall.{startBox, lawOf, reachedRefusal, reachedCall, reachedOut, reachAnswer, reachCall, reachOut}
 use Rattle.machine_spec.proofs.Ranges.{near-by}
 use Rattle.boxes_spec.proofs.Ranges.{answer-near}
-use Rattle.decision_spec.proofs.Calls.{or-refused, or-unchanged, room-stop}
 use Rattle.guard_reach.proofs.ReachAnswer.{file-refused, file-reached}
 use Rattle.guard_reach.proofs.reach_call.Statement.{statement}
 use Rattle.guard_reach.proofs.reach_call.Tie as tie
@@ -68,10 +69,12 @@ module _ (c : tie.After-reach-of) where
 returns : tie.Need-returns
 unfolding reachCall reachOut reachedRefusal reachedCall reachedOut
 returns c =
-    let t = c .before in
-    let a = s (t .before) .args in
-    let q = room-stop _ (16 * vars (values (a .sheet .now))) (a .out .now) (file-refused (a .sheet .now) (a .ticks) (a .width) (a .law) (a .command) (a .start .now) (t .before .read-zeroed .ensures .0) (t .if1 .taken)) (t .if1 .taken) in
-    (c .pack-refusal .ensures ∙ or-refused _ _ q (t .if1 .taken), or-unchanged _ _ (a .out .now) q (t .if1 .taken))
+    let refused = c .before in
+    let some = refused .if1 .taken in
+    let a = s (refused .before) .args in
+    let of-file = file-refused (a .sheet .now) (a .ticks) (a .width) (a .law) (a .command) (a .start .now) (refused .before .read-zeroed .ensures .0) some in
+    let is = first-fails of-file [] _ tt some in
+    (c .pack-refusal .ensures ∙ found-stops refusedCall _ is some, found-stops (λ r. a .out .now) _ is some)
 
 count-requires : tie.Need-count-requires
 count-requires c κs = (omega arith, accepted (c .before) .head 0 (omega arith))

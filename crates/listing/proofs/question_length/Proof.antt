@@ -2,10 +2,10 @@
 use mathlib.Core.Path.{_≡_, _∙_, sym, subst, ap}
 use Prim.Native.Nat.{_≤_}
 use native.Mathlib.Omega.{arith}
-use borrow.Author.Needs.{needs}
 use Rattle.sheet_spec.proofs.Valid.{zeros-are}
 use Rattle.sheet_spec.specs.Slots.{N, vars}
 use Rattle.sheet_spec.specs.Sheet.{values}
+use Rattle.decision_spec.specs.Question.{questionLength}
 use Rattle.listing.proofs.Vars.{Counted, counted}
 use Rattle.listing.proofs.question_length.Statement.{statement}
 use Rattle.listing.proofs.question_length.Tie as tie
@@ -25,15 +25,13 @@ read c =
     let e = c .count .ensures ∙ ap vars (c .before .before .read-zeroed .ensures .1) in
     record { is = e; high = rw e (counted (c .before .before .before .before .before .args .sheet .now) .high) }
 
-mul-result : tie.Need-mul-result
-mul-result c = omega (arith, read c .high)
-
-add-result : tie.Need-add-result
-add-result c = omega (arith, read c .high)
+question-length-requires : tie.Need-question-length-requires
+question-length-requires c κs = read c .high
 
 returns : tie.Need-returns
-returns c = (omega (arith, read c .is), omega (arith, read c .high))
+returns c =
+    let r = read (c .before) in
+    (c .question-length .ensures ∙ ap questionLength (r .is), omega (arith, c .question-length .ensures, r .high))
 
 pub question-length-spec : {M : Type 1} → statement M
-question-length-spec =
-    tie.close (tie.spec (λ c κs. zeros-are) count-requires mul-result add-result returns)
+question-length-spec = tie.close (tie.spec (λ c κs. zeros-are) count-requires question-length-requires returns)

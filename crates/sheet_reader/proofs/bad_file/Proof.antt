@@ -1,8 +1,7 @@
 -- `bad_file`: the marks and the numbers of every record. The invariant: those of the first r were tested, and the next record is at `at`.
 -- The measure: the records left. Assumes nothing.
-use mathlib.Core.List.{List}
 use mathlib.Core.Path.{_∙_, _≡_, ap, ap₂, refl}
-use Prim.Native.Nat.{_+_, _-_, _≤_, _<_, ℕ}
+use Prim.Native.Nat.{_+_, _-_, _≤_, _<_}
 use native.Mathlib.Omega.{arith}
 use lib.ListN.{length}
 use borrow.Author.Needs.{needs}

@@ -1,10 +1,9 @@
 -- `bad_fields`: the tests of a record's fields, by its kind. Assumes nothing.
 use mathlib.Core.Path.{_≡_, _∙_, ap, subst, sym}
-use Prim.Native.Nat.{ℕ, _<_}
+use Prim.Native.Nat.{ℕ}
 use native.Mathlib.Omega.{arith}
 use borrow.Author.Needs.{needs}
 use Rattle.sheet_spec.specs.Fields.{bad}
-use Rattle.sheet_spec.specs.Limits.{maxBoxes}
 use Rattle.sheet_spec.specs.declared.Record.{Record}
 use Rattle.sheet_spec.specs.File.{HasRoom}
 use Rattle.sheet_spec.specs.Layout.{count, fields}
