@@ -49,8 +49,8 @@ pub struct HeadRead {
 
 // The same with the whole question.
 pub struct QuestionRead {
-    pub refusal: u8,
     pub question: Question,
+    pub refusal: u8,
 }
 
 // How many bytes a question on a sheet of n variables takes.
@@ -145,21 +145,21 @@ pub fn read(n: usize, sheet: &[i32; SLOTS], question: &[u8]) -> QuestionRead
     if refusal != 0 {
         let none: [i64; BOX_SIZE] = [0; BOX_SIZE];
         let refused = Question {
-            head: head,
             measured: none,
+            head: head,
         };
         return QuestionRead {
-            refusal: refusal,
             question: refused,
+            refusal: refusal,
         };
     }
     let measured = pairs(n, question, SIDES_AT);
     let asked = Question {
-        head: head,
         measured: measured,
+        head: head,
     };
     QuestionRead {
-        refusal: sides_refusal(n, &measured),
         question: asked,
+        refusal: sides_refusal(n, &measured),
     }
 }

@@ -5,6 +5,7 @@ pub mod Everything
 pub mod Accepted
 pub mod Starred
 pub mod Attempts
+pub mod Failures
 pub mod Cover
 pub mod Attempt
 pub mod Allowance

@@ -10,9 +10,10 @@ pub struct QuestionHead {
     pub law: Law,
 }
 
+// The box comes first, so that a copy of the question has no gap before it.
 pub struct Question {
-    pub head: QuestionHead,
     pub measured: [i64; BOX_SIZE],
+    pub head: QuestionHead,
 }
 
 // Some ticks under one law.
