@@ -8,7 +8,7 @@ use Rattle.sheet_spec.specs.Slots.{δ, α, ρ, recoveryBox}
 use Rattle.machine_spec.specs.declared.Law.{Law}
 use Rattle.machine_spec.specs.declared.Law.the-variants.{Baseline}
 use Rattle.decision_spec.specs.Decision.{phase, attempts, lastReply, decisionPhases, decisionOf, recoveryPhases, recoveryOf}
-use Rattle.decision.specs.AttemptPlan.{attemptOf}
+use Rattle.decision_attempt.specs.AttemptPlan.{attemptOf}
 
 -- the law that is asked for, for δ ticks, then the baseline for α
 pub plan-decides : (v B : List ℤ) (l : Law) (allowed : ℕ) {first plain width : ℕ} → first ≡ δ v → plain ≡ α v → width ≡ max first plain

@@ -1,3 +1,2 @@
-pub mod Turn
 mod RecoveryBox
 mod Answer

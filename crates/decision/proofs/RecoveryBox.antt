@@ -20,7 +20,7 @@ use Rattle.machine_spec.proofs.Box.{sides-length, sides-lo, sides-hi}
 use Rattle.machine_spec.proofs.Facts as facts
 use Rattle.machine_spec.proofs.Ranges.{trim-near}
 use Rattle.boxes_spec.proofs.Ranges.{recovery-sized}
-use Rattle.decision.specs.Limits.{startLimit}
+use Rattle.decision_attempt.specs.Limits.{startLimit}
 
 -- ---- nothing beyond the variables. Variable i has the slots i + q·N of a box: its lower side with q = 0, its upper side with q = 1
 

@@ -1,3 +1,1 @@
-pub mod AttemptPlan
-pub mod AttemptResult
 pub mod Limits

@@ -1,6 +1,6 @@
 // The decision and the recovery check (document 01, "The decision") on any bytes. What they answer is equal to the definitions
 // in decision_spec/specs/Decision.antt; safety/specs/Run.antt says what these are for, that every run of the machine is safe. The
-// attempts at ever smaller widths are in `attempt`, a question's bytes in `decision_question`.
+// attempts at ever smaller widths are in `decision_attempt`, a question's bytes in `decision_question`.
 ghost use mathlib.Core.Path.{_≡_};
 ghost use Prim.Native.Nat.{_≤_, max};
 ghost use Rattle.sheet_spec.specs.Slots.{recoveryBox, vars};
@@ -11,16 +11,13 @@ ghost use Rattle.decision_spec.specs.Decision.{checkRecovery, decide, decisionO
 ghost use Rattle.decision_answers.specs.Recovery.{checkReplyOf};
 ghost use Rattle.decision_answers.specs.Decision.{replyOf};
 ghost use Rattle.decision.specs.Limits.{DecisionAsked};
-
-pub mod attempt;
-
-use crate::attempt::AttemptPlan;
-use crate::attempt::attempts;
 use boxes_shape::compare::box_at;
 use boxes_step::Budget;
 use decision_answers::Decision;
 use decision_answers::Recovery;
 use decision_answers::recovery_of;
+use decision_attempt::AttemptPlan;
+use decision_attempt::attempts;
 use decision_spec::Phase;
 use decision_spec::Question;
 use machine_spec::Law;

@@ -10,7 +10,7 @@ use Rattle.machine_spec.proofs.Ranges.{near-as}
 use Rattle.machine_spec.proofs.InPlace.{trim-as}
 use Rattle.decision_spec.specs.Decision.{ticksOf, recoveryOf}
 use Rattle.decision_answers.specs.Decision.{replyOf}
-use Rattle.decision.specs.Limits.{startLimit}
+use Rattle.decision_attempt.specs.Limits.{startLimit}
 use Rattle.decision_spec.proofs.Allowance.{recoveryOf-unspent}
 use Rattle.decision.proofs.Answer.{plan-checks}
 use Rattle.decision.proofs.RecoveryBox.{recovery-near}

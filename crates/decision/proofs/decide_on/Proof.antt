@@ -14,7 +14,7 @@ use Rattle.decision_spec.specs.Question.{questionOf, measured, questionRefusal}
 use Rattle.decision_spec.specs.Decision.{refused, decisionTo}
 use Rattle.decision_answers.specs.Decision.{replyOf}
 use Rattle.decision_question.proofs.Measured.{measured-near, measured-trimmed}
-use Rattle.decision.specs.Limits.{startLimit}
+use Rattle.decision_attempt.specs.Limits.{startLimit}
 use Rattle.decision.proofs.decide_on.Statement.{statement}
 use Rattle.decision.proofs.decide_on.Tie as tie
 

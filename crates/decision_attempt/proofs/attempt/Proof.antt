@@ -14,13 +14,13 @@ use Rattle.machine_spec.proofs.Ranges.{near-less}
 use Rattle.boxes.proofs.Turn.{not-ended}
 use Rattle.decision_spec.specs.declared.Phase.{Phase}
 use Rattle.decision_spec.specs.Decision.{phase, ticksOf}
-use Rattle.decision.specs.declared.attempt.AttemptPlan.{AttemptPlan}
-use Rattle.decision.specs.AttemptPlan.{phasesOf}
-use Rattle.decision.specs.AttemptResult.{summary}
-use Rattle.decision.specs.Limits.{startLimit}
-use Rattle.decision.proofs.Turn.{next-phase, Following, following-starts, following-ends, following-on, following-stops}
-use Rattle.decision.proofs.attempt.attempt.Statement.{statement}
-use Rattle.decision.proofs.attempt.attempt.Tie as tie
+use Rattle.decision_attempt.specs.declared.AttemptPlan.{AttemptPlan}
+use Rattle.decision_attempt.specs.AttemptPlan.{phasesOf}
+use Rattle.decision_attempt.specs.AttemptResult.{summary}
+use Rattle.decision_attempt.specs.Limits.{startLimit}
+use Rattle.decision_attempt.proofs.Turn.{next-phase, Following, following-starts, following-ends, following-on, following-stops}
+use Rattle.decision_attempt.proofs.attempt.Statement.{statement}
+use Rattle.decision_attempt.proofs.attempt.Tie as tie
 
 -- after the first k phases, at the box E and after d rounds
 record Invariant (plan : AttemptPlan) (v S : List ℤ) (w c : ℕ) (E : List ℤ) (d k : ℕ) : Type 0 where

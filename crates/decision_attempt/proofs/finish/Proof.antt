@@ -6,9 +6,9 @@ use native.Mathlib.Omega.{arith}
 use lib.IntN.{ℤ}
 use Rattle.sheet_spec.specs.Slots.{vars, recoveryBox}
 use Rattle.machine_spec.specs.Box.{within}
-use Rattle.decision.proofs.Turn.{within-trim, finish-inside, finish-outside}
-use Rattle.decision.proofs.attempt.finish.Statement.{statement}
-use Rattle.decision.proofs.attempt.finish.Tie as tie
+use Rattle.decision_attempt.proofs.Turn.{within-trim, finish-inside, finish-outside}
+use Rattle.decision_attempt.proofs.finish.Statement.{statement}
+use Rattle.decision_attempt.proofs.finish.Tie as tie
 
 -- after the test
 module _ (at-test : tie.After-within) where

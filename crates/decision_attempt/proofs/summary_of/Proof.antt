@@ -9,12 +9,12 @@ use Rattle.sheet_spec.specs.Box.{lowestMet}
 use Rattle.boxes.specs.declared.steps.ReachResult.{ReachResult}
 use Rattle.boxes.specs.declared.steps.ReachResult.the-variants as reach
 use Rattle.boxes.specs.ReachResult.{resultOf, reachedOf, Names}
-use Rattle.decision.specs.declared.attempt.Failure.the-variants.{Unsafe}
-use Rattle.decision.specs.declared.attempt.AttemptResult.{AttemptResult}
-use Rattle.decision.specs.declared.attempt.AttemptResult.the-variants.{Failed}
-use Rattle.decision.specs.AttemptResult.{failureOf, summary}
-use Rattle.decision.proofs.attempt.summary_of.Statement.{statement}
-use Rattle.decision.proofs.attempt.summary_of.Tie as tie
+use Rattle.decision_attempt.specs.declared.Failure.the-variants.{Unsafe}
+use Rattle.decision_attempt.specs.declared.AttemptResult.{AttemptResult}
+use Rattle.decision_attempt.specs.declared.AttemptResult.the-variants.{Failed}
+use Rattle.decision_attempt.specs.AttemptResult.{failureOf, summary}
+use Rattle.decision_attempt.proofs.summary_of.Statement.{statement}
+use Rattle.decision_attempt.proofs.summary_of.Tie as tie
 
 -- the reach is of a case, for which the answer is a
 of-case : {reached case : ReachResult} {a : AttemptResult} → reached ≡ case

@@ -13,10 +13,10 @@ use Rattle.boxes_spec.specs.Step.{unsettled, unsafe, unrecovered, Result, ok, f
 use Rattle.boxes_spec.specs.Step as step
 use Rattle.decision_spec.specs.declared.Phase.{Phase}
 use Rattle.decision_spec.specs.Decision.{phaseReach}
-use Rattle.decision.specs.declared.attempt.Failure.{Failure}
-use Rattle.decision.specs.declared.attempt.Failure.the-variants.{Unsettled, Unsafe, Unrecovered}
-use Rattle.decision.specs.declared.attempt.AttemptResult.{AttemptResult}
-use Rattle.decision.specs.declared.attempt.AttemptResult.the-variants.{Succeeded, Failed, Exhausted}
+use Rattle.decision_attempt.specs.declared.Failure.{Failure}
+use Rattle.decision_attempt.specs.declared.Failure.the-variants.{Unsettled, Unsafe, Unrecovered}
+use Rattle.decision_attempt.specs.declared.AttemptResult.{AttemptResult}
+use Rattle.decision_attempt.specs.declared.AttemptResult.the-variants.{Succeeded, Failed, Exhausted}
 
 -- a failure on the sheet v: of a swept box, the lowest number of a no-go box that it meets
 unfoldable pub failureOf : List ℤ → step.Failure → Failure

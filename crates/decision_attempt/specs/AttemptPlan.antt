@@ -6,7 +6,7 @@ use lib.ListN.{take}
 use Rattle.boxes_spec.specs.Step.{Result}
 use Rattle.decision_spec.specs.declared.Phase.{Phase}
 use Rattle.decision_spec.specs.Decision.{attempt}
-use Rattle.decision.specs.declared.attempt.AttemptPlan.{AttemptPlan}
+use Rattle.decision_attempt.specs.declared.AttemptPlan.{AttemptPlan}
 
 abbrev pub phasesOf : AttemptPlan → List Phase
 phasesOf plan = take (plan .count) (plan .phases)

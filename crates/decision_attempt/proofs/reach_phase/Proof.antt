@@ -2,9 +2,9 @@
 use mathlib.Core.Path.{_≡_, _∙_}
 use native.Mathlib.Omega.{arith}
 use borrow.Author.Needs.{needs}
-use Rattle.decision.proofs.Turn.{plant-reach, names-all}
-use Rattle.decision.proofs.attempt.reach_phase.Statement.{statement}
-use Rattle.decision.proofs.attempt.reach_phase.Tie as tie
+use Rattle.decision_attempt.proofs.Turn.{plant-reach, names-all}
+use Rattle.decision_attempt.proofs.reach_phase.Statement.{statement}
+use Rattle.decision_attempt.proofs.reach_phase.Tie as tie
 
 count-requires : tie.Need-count-requires
 count-requires at-plant κs = (omega arith, at-plant .before .pre .sheet .head 2 (omega arith))

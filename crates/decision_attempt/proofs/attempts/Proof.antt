@@ -6,11 +6,11 @@ use Prim.Native.Nat.{ℕ, _+_, _*_, _≤_}
 use native.Mathlib.Omega.{arith}
 use lib.IntN.{ℤ}
 use borrow.Author.Needs.{needs}
-use Rattle.decision.specs.declared.attempt.AttemptPlan.{AttemptPlan}
-use Rattle.decision.specs.AttemptPlan.{attemptOf}
-use Rattle.decision.proofs.Turn.{failed-count, Attempting, attempting-starts, attempting-keeps, attempting-spent, attempting-finest, attempting-on}
-use Rattle.decision.proofs.attempt.attempts.Statement.{statement}
-use Rattle.decision.proofs.attempt.attempts.Tie as tie
+use Rattle.decision_attempt.specs.declared.AttemptPlan.{AttemptPlan}
+use Rattle.decision_attempt.specs.AttemptPlan.{attemptOf}
+use Rattle.decision_attempt.proofs.Turn.{failed-count, Attempting, attempting-starts, attempting-keeps, attempting-spent, attempting-finest, attempting-on}
+use Rattle.decision_attempt.proofs.attempts.Statement.{statement}
+use Rattle.decision_attempt.proofs.attempts.Tie as tie
 
 -- at the width w after c rounds, from the width W on
 record Invariant (plan : AttemptPlan) (v S : List ℤ) (W w c : ℕ) : Type 0 where

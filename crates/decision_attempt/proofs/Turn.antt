@@ -30,18 +30,18 @@ use Rattle.machine_spec.proofs.Ranges.{near-less}
 use Rattle.boxes.proofs.Bounds.{reach-near}
 use Rattle.integers.proofs.Tests.{pick-yes, pick-no}
 use Rattle.decision_answers.specs.declared.Decision.the-variants.{Keep, Finest, Spent}
-use Rattle.decision.specs.declared.attempt.AttemptPlan.{AttemptPlan}
-use Rattle.decision.specs.declared.attempt.Failure.{Failure}
-use Rattle.decision.specs.declared.attempt.Failure.the-variants.{Unrecovered}
-use Rattle.decision.specs.declared.attempt.AttemptResult.{AttemptResult}
-use Rattle.decision.specs.declared.attempt.AttemptResult.the-variants.{Succeeded, Failed, Exhausted}
+use Rattle.decision_attempt.specs.declared.AttemptPlan.{AttemptPlan}
+use Rattle.decision_attempt.specs.declared.Failure.{Failure}
+use Rattle.decision_attempt.specs.declared.Failure.the-variants.{Unrecovered}
+use Rattle.decision_attempt.specs.declared.AttemptResult.{AttemptResult}
+use Rattle.decision_attempt.specs.declared.AttemptResult.the-variants.{Succeeded, Failed, Exhausted}
 use Rattle.decision_spec.specs.declared.Phase.{Phase}
 use Rattle.decision_spec.specs.Decision.{ticksOf, finish, phaseReach, follow, attempt, keep, finest, Reply, answered}
 use Rattle.decision_spec.specs.Decision as decision
 use Rattle.decision_answers.specs.Decision.{replyOf}
-use Rattle.decision.specs.AttemptResult.{failureOf, summary}
-use Rattle.decision.specs.AttemptPlan.{phasesOf, attemptOf}
-use Rattle.decision.specs.Limits.{startLimit}
+use Rattle.decision_attempt.specs.AttemptResult.{failureOf, summary}
+use Rattle.decision_attempt.specs.AttemptPlan.{phasesOf, attemptOf}
+use Rattle.decision_attempt.specs.Limits.{startLimit}
 use Rattle.decision_spec.proofs.Attempts.{outcome, replyFrom, reply-turn}
 use Rattle.decision_spec.proofs.Allowance.{Spends, attempt-takes}
 

@@ -1,0 +1,3 @@
+pub mod AttemptPlan
+pub mod AttemptResult
+pub mod Limits
