@@ -24,9 +24,9 @@ rowLimit = 9000000000000000000
 abbrev pub termLimit : ℕ
 termLimit = word * word
 
--- nor is a neighborhood's reach from its face
-abbrev pub reachLimit : ℕ
-reachLimit = (maxTicks + 1) * maxCap
+-- nor how far a neighborhood reaches in from its face: one cap more than a step has ticks
+abbrev pub neighborhoodLimit : ℕ
+neighborhoodLimit = (maxTicks + 1) * maxCap
 
 -- ---- a row of the sheet
 
@@ -69,10 +69,10 @@ pub record BandAsked (p : Plant) (v B : List ℤ) (i band : ℕ) (z : ℤ) : Typ
 
 -- ---- the rates of a round
 
--- a box can be cut off at `reach` from a face of S: one cap more than a step has ticks
+-- a box can be cut off at `reach` from a face of S
 pub record NarrowAsked (S : List ℤ) (reach : ℤ) (i : ℕ) : Type 0 where
   pub room : i < N
-  pub near : Bound reach reachLimit
+  pub near : Bound reach neighborhoodLimit
   pub start : (up : Bool) → Bound (side up S i) limit
 
 -- the rates of a step of k ticks from the box S can be worked out with the working box E

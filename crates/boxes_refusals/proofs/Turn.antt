@@ -4,7 +4,7 @@ use mathlib.Core.Bool.{true, false}
 use mathlib.Core.List.{List}
 use Prim.Native.Nat.{ℕ, _+_, _<_}
 use lib.IntN.{ℤ}
-use Rattle.sheet_spec.specs.Box.{lo, hi, all}
+use Rattle.sheet_spec.specs.Box.{all}
 use Rattle.sheet_spec.proofs.Box.{all-more, all-stop}
 use Rattle.sheet_spec.specs.Refusals.{Cause, number}
 use Rattle.sheet_spec.proofs.Laws.{unless-zero}

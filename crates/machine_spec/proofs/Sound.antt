@@ -4,7 +4,6 @@ use mathlib.Core.Path.{_≡_, refl}
 use mathlib.Core.Bool.{Bool, true, false, not, cond}
 use mathlib.Core.List.{List}
 use Prim.Native.Nat.{ℕ, _≤_, _<_}
-use native.Mathlib.Omega.{arith}
 use lib.Dec.{T}
 use lib.IntN.{ℤ, pos, negℤ, natAbs, _-ℤ_}
 use lib.Signed.{_≤ℤ_, ≤ℤ-refl}
@@ -13,7 +12,6 @@ use Rattle.integers.proofs.Z.{ints, min-is, max-is, neg}
 use Rattle.sheet_spec.specs.Slots.{_!_, Row}
 use Rattle.sheet_spec.specs.Valid.{Between, Valid}
 use Rattle.machine_spec.specs.Box.{In}
-use Rattle.machine_spec.specs.declared.Law.{Law}
 use Rattle.machine_spec.specs.Machine.{Machine, varsOf, bandsOf, bandVarOf, cap, rowOf, bandHolds, clamp, numerator, change, Tick}
 use Rattle.machine_spec.specs.Rate.{outer, outermost, weighted, bound, bandMet, part, commandOver, neutral, bandRate, rate}
 use Rattle.machine_spec.proofs.Face.{Beyond, beyond-refl, beyond-trans, beyond-sum, sum-beyond, span, change-mono, cond-one, outer-one, outermost-one, outermost-at}

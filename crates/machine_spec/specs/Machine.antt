@@ -25,7 +25,7 @@ pub record Machine : Type 0 where
 abbrev pub machine : List ℤ → Law → Machine
 machine v l = record { law = l; sheet = v }
 
--- its variables, its bands, and the variable whose number has the band
+-- how many variables and bands it has, and the band variable
 abbrev pub varsOf : Machine → ℕ
 varsOf m = vars (m .sheet)
 

@@ -2,7 +2,7 @@
 use mathlib.Core.Path.{_≡_, refl}
 use mathlib.Core.Bool.{Bool, true, false}
 use mathlib.Core.List.{[], _∷_}
-use Prim.Native.Nat.{ℕ, _+_}
+use Prim.Native.Nat.{_+_}
 use lib.Dec.{lit<, lit≤}
 use lib.IntN.{pos}
 use Rattle.sheet_spec.specs.Slots.{recoveryBox, unsafeBox}

@@ -1,6 +1,6 @@
 -- What a run keeps up from tick to tick: the state is covered by the laws to come, and is so far inside ±2,000,000 that these ticks cannot lead out of it.
 -- Assumes nothing.
-use mathlib.Core.Path.{_≡_, refl}
+use mathlib.Core.Path.{_≡_}
 use mathlib.Core.Bool.{true, false}
 use mathlib.Core.List.{List, [], _∷_, _++_, append-nil}
 use Prim.Native.Nat.{ℕ, zero, suc, _+_, _*_, _≤_, _<_, max}

@@ -1,6 +1,6 @@
 -- `rounds` does what eight rounds of the definition do. Invariant: what is left to do of the definition's rounds, from the working
 -- box and the count that the loop has. Measure: the rounds left. Assumes nothing.
-use mathlib.Core.Path.{_≡_, sym, _∙_}
+use mathlib.Core.Path.{_≡_, _∙_}
 use mathlib.Core.Bool.{true}
 use mathlib.Core.List.{List}
 use Prim.Native.Nat.{ℕ, _≤_, _+_, _*_}

@@ -15,7 +15,7 @@ use Rattle.integers.proofs.Z.{told, up32, bound-lit, bound-less, bound-mul, fit
 use Rattle.sheet_spec.specs.Slots.{_!_, N, boxSize, vars, cap}
 use Rattle.sheet_spec.specs.Limits.{maxTicks}
 use Rattle.machine_spec.specs.Rate.{neighborhood, faceRate}
-use Rattle.boxes_rates.specs.Limits.{reachLimit, RatesAsked}
+use Rattle.boxes_rates.specs.Limits.{neighborhoodLimit, RatesAsked}
 use Rattle.boxes_arithmetic.proofs.Bounds.{wide, times-low}
 use Rattle.boxes_rates.proofs.Cut.{cut-below, cut-back}
 use Rattle.machine_spec.proofs.Facts.{cap-low, cap-near}
@@ -47,7 +47,7 @@ module _ (at-start : tie.Start) where
   abbrev reach : ℤ
   reach = pos (at-start .args .ticks + 1) *ℤ cap v (at-start .args .i)
 
-  reach-bound : Bound reach reachLimit
+  reach-bound : Bound reach neighborhoodLimit
   reach-bound = bound-mul {B = maxTicks + 1} (bound-less (bound-lit (pos (at-start .args .ticks + 1))) (omega (arith, asked .ticks))) (cap-near (asked .plant .sheet) (at-start .args .i) var)
 
   reach-fits : SFits w64 reach

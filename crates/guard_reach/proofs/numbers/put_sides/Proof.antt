@@ -1,7 +1,7 @@
 -- `put_sides` puts the sides of a box's variables into an array: after i turns, those of the first i. Assumes nothing.
 use mathlib.Core.Path.{_≡_, refl}
 use mathlib.Core.Bool.{true, false}
-use Prim.Native.Nat.{_≤_, _-_, _+_}
+use Prim.Native.Nat.{_≤_, _-_}
 use native.Mathlib.Omega.{arith}
 use lib.Seq.{sets}
 use Rattle.decision_spec.specs.Numbers.{sidesOf}
