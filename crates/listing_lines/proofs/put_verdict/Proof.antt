@@ -2,8 +2,8 @@
 use native.Mathlib.Omega.{arith}
 use Rattle.listing_text.proofs.Puts.{then}
 use borrow.Author.Needs.{needs}
-use Rattle.listing.proofs.lines.put_verdict.Statement.{statement}
-use Rattle.listing.proofs.lines.put_verdict.Tie as tie
+use Rattle.listing_lines.proofs.put_verdict.Statement.{statement}
+use Rattle.listing_lines.proofs.put_verdict.Tie as tie
 
 returns : tie.Need-returns
 returns c = (then (c .before .before .before .before .put .ensures) (then (c .before .before .put-field .ensures .0) (c .put-field2 .ensures .0)), omega arith)

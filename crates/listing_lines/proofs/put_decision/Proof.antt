@@ -2,8 +2,8 @@
 use borrow.Author.Needs.{needs}
 use Rattle.decision_answers.specs.Decision.{replyOf}
 use Rattle.decision_spec.specs.Listing.{decisionWord, replyText}
-use Rattle.listing.proofs.lines.put_decision.Statement.{statement}
-use Rattle.listing.proofs.lines.put_decision.Tie as tie
+use Rattle.listing_lines.proofs.put_decision.Statement.{statement}
+use Rattle.listing_lines.proofs.put_decision.Tie as tie
 
 returns : tie.Need-returns
 unfolding replyOf replyText decisionWord

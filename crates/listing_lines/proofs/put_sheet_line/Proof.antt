@@ -2,8 +2,8 @@
 use native.Mathlib.Omega.{arith}
 use Rattle.listing_text.proofs.Puts.{then}
 use borrow.Author.Needs.{needs}
-use Rattle.listing.proofs.lines.put_sheet_line.Statement.{statement}
-use Rattle.listing.proofs.lines.put_sheet_line.Tie as tie
+use Rattle.listing_lines.proofs.put_sheet_line.Statement.{statement}
+use Rattle.listing_lines.proofs.put_sheet_line.Tie as tie
 
 returns : tie.Need-returns
 returns c =

@@ -2,8 +2,8 @@
 use borrow.Author.Needs.{needs}
 use Rattle.decision_answers.specs.Recovery.{checkReplyOf}
 use Rattle.decision_spec.specs.Listing.{checkWord, replyText}
-use Rattle.listing.proofs.lines.put_recovery.Statement.{statement}
-use Rattle.listing.proofs.lines.put_recovery.Tie as tie
+use Rattle.listing_lines.proofs.put_recovery.Statement.{statement}
+use Rattle.listing_lines.proofs.put_recovery.Tie as tie
 
 returns : tie.Need-returns
 unfolding checkReplyOf replyText checkWord
