@@ -10,7 +10,7 @@ use lib.Dec.{leb}
 use lib.IntN.{ℤ}
 use borrow.Author.Tests.{leb-true, leb-false}
 use Rattle.sheet_spec.specs.Slots.{vars, boxes, δ, α, ρ, recoveryBox}
-use Rattle.sheet_spec.specs.Limits.{maxAllowance}
+use Rattle.sheet_spec.specs.Limits.{maxAllowance, maxTicks, maxWidth}
 use Rattle.sheet_spec.specs.Refusals.{Cause, greatestNumber, unlessRefused}
 use Rattle.sheet_spec.specs.Sheet.{refusal, values}
 use Rattle.sheet_spec.specs.Valid.{Valid}
@@ -123,10 +123,10 @@ attempts-fuel attemptAt (suc fuel) w c z f =
 
 -- a reply to a question or a sheet; of a refusal the width is its number
 abbrev pub Answer : Bool → ℕ → Reply → Type 0
-Answer l a r = Concluded l a 0 370000 1000 r
+Answer l a r = Concluded l a 0 370000 maxWidth r
 
 module _ {v : List ℤ} (wf : Valid v) where
-  phases-answer : (l : Bool) (a : ℕ) (ps : List Phase) (S : List ℤ) (w : ℕ) → 0 < w → w ≤ 1000 → ticksOf ps ≤ 1000 → Answer l a (replyFrom (λ w c. attempt l a v w ps S c) w w 0)
+  phases-answer : (l : Bool) (a : ℕ) (ps : List Phase) (S : List ℤ) (w : ℕ) → 0 < w → w ≤ maxWidth → ticksOf ps ≤ maxTicks → Answer l a (replyFrom (λ w c. attempt l a v w ps S c) w w 0)
   unfolding mostATick
   phases-answer l a ps S w z h t =
       concluded-on (omega arith) h (counted-none 0)

@@ -2,6 +2,7 @@
 use mathlib.Core.Path.{_≡_, sym, ap, _∙_, subst}
 use Prim.Native.Nat.{_≤_}
 use borrow.Author.Needs.{needs}
+use Rattle.sheet_spec.specs.Limits.{maxWidth}
 use Rattle.decision_spec.specs.Decision.{Reply, widthOf, packed, checkRecovery}
 use Rattle.decision_answers.specs.Decision.{replyOf}
 use Rattle.decision_spec.proofs.Allowance.{check-answer}
@@ -22,5 +23,5 @@ guard-recovery-spec =
     (tie.spec
     (λ c κs. search needs)
     (λ c κs. search needs)
-    (λ c κs. subst (λ (r : Reply). widthOf r ≤ 1000) (sym (checks c)) (check-answer _ .wide))
+    (λ c κs. subst (λ (r : Reply). widthOf r ≤ maxWidth) (sym (checks c)) (check-answer _ .wide))
     returns)
