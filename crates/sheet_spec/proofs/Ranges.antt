@@ -26,7 +26,7 @@ abs-in {l} (negsuc n) r = absurd (let z : ⊥ = omega (ints, r .low) in z)
 pub small : (v : List ℤ) → Each (InRange v) headFields headSize → Small (shape v)
 unfolding headFields _▸_
 small v h = record {
-  vars = abs-in (v ! varsSlot) (h .at varsSlot (omega arith)) .1;
+  vars = omega (arith, abs-in (v ! varsSlot) (h .at varsSlot (omega arith)) .1);
   bands = abs-in (v ! bandsSlot) (h .at bandsSlot (omega arith)) .1;
   boxes = abs-in (v ! boxesSlot) (h .at boxesSlot (omega arith)) .1;
 }

@@ -189,7 +189,7 @@ module _ (f : List ℕ) where
   recovery-beyond e i q b h k =
       let wf = valid f e in
       values-beyond (recoverySlot + i + q * N)
-      (λ t. recovery-free (shape (values f)) (record { vars = wf .vars-high; bands = wf .bands-high; boxes = wf .boxes-high }) i q b h k (t .r) (t .below) (t .taken .j) (t .taken .below) (t .taken .is))
+      (λ t. recovery-free (shape (values f)) (record { vars = omega (arith, wf .vars-high); bands = wf .bands-high; boxes = wf .boxes-high }) i q b h k (t .r) (t .below) (t .taken .j) (t .taken .below) (t .taken .is))
 
 -- an array of zeros, as the code makes one
 pub zeros-are : replicate slots (pos 0) ≡ zeros
