@@ -1,13 +1,14 @@
 // A question's bytes (document 01, "Sheet layout"), read once: the refusal, or the question as one value, whose head (allowance and law) is
 // read apart from the measured box. `pairs` also reads the start box of a reach from its bytes. The definitions are in
-// decision_spec/specs/Question, and specs/Read says what reading gives; laws and boxes are tested in `boxes_refusals`.
+// decision_spec/specs/Question, and specs/HeadRead and specs/QuestionRead say what reading gives; laws and boxes are tested in `boxes_refusals`.
 ghost use mathlib.Core.Path.{_≡_};
 ghost use Prim.Native.Nat.{_+_, _≤_};
 ghost use lib.ListN.{length};
 ghost use Rattle.sheet_spec.specs.Sizes.{boxBytes};
 ghost use Rattle.sheet_spec.specs.Slots as slots;
 ghost use Rattle.decision_spec.specs.Question.{formRefusal, pairs, questionHead, questionLength, sidesAt};
-ghost use Rattle.decision_question.specs.Read.{HeadReads, QuestionReads};
+ghost use Rattle.decision_question.specs.HeadRead.{HeadReads};
+ghost use Rattle.decision_question.specs.QuestionRead.{QuestionReads};
 use boxes_refusals::law_refusal;
 use boxes_refusals::sides_refusal;
 use decision_spec::Question;

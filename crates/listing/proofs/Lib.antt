@@ -1,5 +1,5 @@
 pub mod LongFile
-pub mod Steps
+pub mod ListingSteps
 pub mod Vars
 mod Moved
 mod NextLength

@@ -1,2 +1,3 @@
 pub mod Limits
-pub mod Steps
+pub mod ListingSteps
+pub mod Listed

@@ -8,6 +8,6 @@ use Rattle.decision_spec.specs.Question.{questionLength}
 abbrev pub longestSheet : ℕ
 longestSheet = 20 + 2 * N + maxBands * (14 + N * (2 * N + 12)) + (2 + 8 * N) * (maxBoxes + 1)
 
--- the bytes of the longest question. A question's step looks at no more of the bytes still to come (proofs/Steps)
+-- the bytes of the longest question. A question's step looks at no more of the bytes still to come (proofs/ListingSteps)
 abbrev pub longestQuestion : ℕ
 longestQuestion = questionLength N

@@ -1,6 +1,6 @@
 // The floor listing (document 01) on bytes, step by step: the sheet's line, then a line for each question. A step says how many of the
 // questions' bytes it took, the next question's number, and whether one may follow; a program only reads the files and writes the
-// lines. The steps are equal to those of specs/Steps.antt, whose lines are the listing; `listing_lines` has their text.
+// lines. The steps are equal to those of specs/ListingSteps.antt, whose lines are the listing; `listing_lines` has their text.
 ghost use mathlib.Core.Path.{_≡_};
 ghost use Prim.Native.Nat.{_+_, _-_, _^_, _≤_, _<_};
 ghost use lib.ListN.{length, take, drop};
@@ -9,7 +9,8 @@ ghost use Rattle.sheet_spec.specs.Sheet.{values};
 ghost use Rattle.decision_spec.specs.Question.{questionLength};
 ghost use Rattle.decision_spec.specs.Listing.{nextLength, questionLine};
 ghost use Rattle.listing_text.specs.Limits.{Put, lineRoom};
-ghost use Rattle.listing.specs.Steps.{ListedAs, sheetStep, questionStep};
+ghost use Rattle.listing.specs.Listed.{ListedAs};
+ghost use Rattle.listing.specs.ListingSteps.{sheetStep, questionStep};
 use decision::check_recovery;
 use decision::decide;
 use decision_answers::has_passed;

@@ -1,4 +1,4 @@
--- `form_refusal` gives 12 for a question of another length or with other letters, and 0 for any other. Assumes nothing.
+-- `form_refusal` refuses a question of another length or with other letters, and no other. Assumes nothing.
 use borrow.Author.Needs.{needs}
 use borrow.Author.Tests.{eq-eqb, ne-eqb}
 use Rattle.decision_spec.specs.Question.{formRefusal}

@@ -4,7 +4,7 @@ use mathlib.Core.Bool.{true, false≢true}
 use Prim.Native.Nat.{_+_}
 use borrow.Author.Needs.{needs}
 use Rattle.listing.specs.declared.Progress.{Progress}
-use Rattle.listing.proofs.Steps.{step-counts}
+use Rattle.listing.proofs.ListingSteps.{step-counts}
 use Rattle.floor_listing.proofs.answer_next.Statement.{statement}
 use Rattle.floor_listing.proofs.answer_next.Tie as tie
 

@@ -10,8 +10,8 @@ use borrow.Author.Needs.{needs}
 use Rattle.sheet_spec.specs.Sheet.{values}
 use Rattle.decision_spec.specs.Listing.{nextLength, questionLine}
 use Rattle.listing_text.proofs.Puts.{put-as}
-use Rattle.listing.specs.Steps.{questionStep}
-use Rattle.listing.proofs.Steps.{ended, step-closed, step-none, step-some, listed-as}
+use Rattle.listing.specs.ListingSteps.{questionStep}
+use Rattle.listing.proofs.ListingSteps.{ended, step-closed, step-none, step-some, listed-as}
 use Rattle.listing.proofs.question_step.Statement.{statement}
 use Rattle.listing.proofs.question_step.Tie as tie
 

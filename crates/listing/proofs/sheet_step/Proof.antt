@@ -4,7 +4,7 @@ use borrow.Author.Needs.{needs}
 use Rattle.decision_spec.specs.Decision.{isKeep}
 use Rattle.decision_spec.specs.Listing.{sheetLine}
 use Rattle.listing.specs.declared.Progress.{Progress}
-use Rattle.listing.specs.Steps.{sheetStep}
+use Rattle.listing.specs.ListingSteps.{sheetStep}
 use Rattle.listing.proofs.sheet_step.Statement.{statement}
 use Rattle.listing.proofs.sheet_step.Tie as tie
 

@@ -4,14 +4,8 @@ use mathlib.Core.List.{List}
 use Prim.Native.Nat.{ℕ}
 use lib.IntN.{ℤ}
 use Rattle.sheet_spec.specs.Slots.{vars}
-use Rattle.decision_spec.specs.Question.{questionHead, questionOf, headRefusal, questionRefusal}
-use Rattle.decision_question.specs.declared.HeadRead.{HeadRead}
+use Rattle.decision_spec.specs.Question.{questionOf, questionRefusal}
 use Rattle.decision_question.specs.declared.QuestionRead.{QuestionRead}
-
--- of the head, where the bytes are to be `size`
-pub record HeadReads (v : List ℤ) (size : ℕ) (g : List ℕ) (r : HeadRead) : Type 0 where
-  pub refusal : r .refusal ≡ headRefusal v size g
-  pub head : r .refusal ≡ 0 → r .head ≡ questionHead g
 
 pub record QuestionReads (v : List ℤ) (g : List ℕ) (r : QuestionRead) : Type 0 where
   pub refusal : r .refusal ≡ questionRefusal v g

@@ -1,5 +1,5 @@
 -- The listing step by step, for a program that has a part of the questions' file at hand: the sheet's step, then a step for each
--- question. proofs/Steps proves the two statements.
+-- question. proofs/ListingSteps proves the two statements.
 use mathlib.Core.Path.{_≡_}
 use mathlib.Core.Bool.{true, false, _&&_}
 use mathlib.Core.List.{List, [], _++_}
@@ -9,9 +9,7 @@ use lib.ListN.{length, take, drop}
 use Rattle.sheet_spec.specs.Sheet.{values}
 use Rattle.decision_spec.specs.Decision.{checkRecovery, isKeep}
 use Rattle.decision_spec.specs.Listing.{sheetLine, questionLine, nextLength, listing}
-use Rattle.listing_text.specs.Limits.{Put, lineRoom}
 use Rattle.listing.specs.declared.Progress.{Progress}
-use Rattle.listing.specs.declared.Listed.{Listed}
 use Rattle.listing.specs.Limits.{longestSheet, longestQuestion}
 
 -- ---- a step
@@ -37,13 +35,6 @@ questionStep f p g =
       }
       | false ↦ record { line = []; taken = 0; next = record { ordinal = p .ordinal; more = false } }
     ]
-
--- the code's answer r to the step s, whose line was put into a buffer from the first byte on
-pub record ListedAs (s : Step) (before after : List ℕ) (r : Listed) : Type 0 where
-  pub line : Put (s .line) before 0 after (r .end)
-  pub room : r .end ≤ lineRoom
-  pub taken : r .taken ≡ s .taken
-  pub next : r .next ≡ s .next
 
 -- ---- all steps
 

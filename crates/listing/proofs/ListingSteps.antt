@@ -16,7 +16,8 @@ use Rattle.decision_spec.specs.Listing.{sheetLine, questionLine, nextLength, qu
 use Rattle.listing.specs.declared.Progress.{Progress}
 use Rattle.listing.specs.declared.Listed.{Listed}
 use Rattle.listing.specs.Limits.{longestQuestion}
-use Rattle.listing.specs.Steps.{Step, ListedAs, sheetStep, questionStep, stepLines, allLines, StepOnPart, StepsAreListing}
+use Rattle.listing.specs.Listed.{ListedAs}
+use Rattle.listing.specs.ListingSteps.{Step, sheetStep, questionStep, stepLines, allLines, StepOnPart, StepsAreListing}
 use Rattle.listing.proofs.LongFile.{listing-cut}
 use Rattle.listing.proofs.NextLength.{next-some, next-most, next-part}
 
