@@ -8,6 +8,7 @@ use lib.ListN.{replicate}
 use Rattle.sheet_spec.specs.Slots.{N}
 use Rattle.sheet_spec.specs.Sheet.{values}
 use Rattle.sheet_spec.specs.SheetA.{fileA}
+use Rattle.sheet_spec.specs.Refusals.{Cause, number}
 use Rattle.machine_spec.specs.declared.Law.{Law}
 use Rattle.machine_spec.specs.declared.Law.the-variants.{Baseline, Command}
 use Rattle.machine_spec.specs.Machine.{machine}
@@ -52,6 +53,6 @@ no-ticks : answers Baseline 1 (box (pos 5) (pos 7)) ≡ record { refusal = 0; en
 unfolding everything box answers
 no-ticks = refl
 
-refusals : (answers (Command (pos 26)) 0 (box (pos 1) (pos 0)) ≡ refused 16) × (answers (Command (pos 26)) 1 (box (pos 1) (pos 0)) ≡ refused 14) × (answers Baseline 1 (box (pos 1) (pos 0)) ≡ refused 15)
+refusals : (answers (Command (pos 26)) 0 (box (pos 1) (pos 0)) ≡ refused (number Cause.reach)) × (answers (Command (pos 26)) 1 (box (pos 1) (pos 0)) ≡ refused (number Cause.command)) × (answers Baseline 1 (box (pos 1) (pos 0)) ≡ refused (number Cause.start))
 unfolding everything box answers
 refusals = (refl, refl, refl)

@@ -46,6 +46,14 @@ unfolding boxOf
 sides-length zero f g = length-replicate boxSize (pos 0)
 sides-length (suc n) f g = simp length-set (sides-length n f g)
 
+-- only the sides of variables below n count
+pub sides-same : (n : ℕ) (f g f′ g′ : ℕ → ℤ) → ((i : ℕ) → i < n → (f i ≡ f′ i) × (g i ≡ g′ i)) → boxOf n f g ≡ boxOf n f′ g′
+unfolding boxOf
+sides-same zero f g f′ g′ h = refl
+sides-same (suc n) f g f′ g′ h =
+    let e = h n (omega arith) in
+    rw (sides-same n f g f′ g′ (λ i l. h i (omega arith)), e .0, e .1) refl
+
 module _ (f g : ℕ → ℤ) where
   pub sides-lo : (n i : ℕ) → n ≤ N → i < n → lo (boxOf n f g) i ≡ f i
   unfolding boxOf

@@ -10,17 +10,9 @@ use lib.Seq.{getD-set-other, set-set, set-comm}
 use Rattle.sheet_spec.specs.Slots.{N}
 use Rattle.sheet_spec.specs.Box.{lo, hi}
 use Rattle.machine_spec.specs.Box.{boxOf, trim, hull, moved}
-use Rattle.machine_spec.proofs.Box.{sides-lo, sides-hi}
+use Rattle.machine_spec.proofs.Box.{sides-lo, sides-hi, sides-same}
 
 -- ---- boxes that trimming leaves as they are
-
--- only the sides of variables below n count
-pub sides-same : (n : ℕ) (f g f′ g′ : ℕ → ℤ) → ((i : ℕ) → i < n → (f i ≡ f′ i) × (g i ≡ g′ i)) → boxOf n f g ≡ boxOf n f′ g′
-unfolding boxOf
-sides-same zero f g f′ g′ h = refl
-sides-same (suc n) f g f′ g′ h =
-    let e = h n (omega arith) in
-    rw (sides-same n f g f′ g′ (λ i l. h i (omega arith)), e .0, e .1) refl
 
 module _ (n : ℕ) (k : n ≤ N) where
   pub trim-sides : (f g : ℕ → ℤ) → trim n (boxOf n f g) ≡ boxOf n f g

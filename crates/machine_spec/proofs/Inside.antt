@@ -14,7 +14,7 @@ use Rattle.machine_spec.specs.Box.{side, In, boxOf, trim, hull, within, 
 use Rattle.machine_spec.specs.Machine.{Machine, varsOf}
 use Rattle.machine_spec.specs.Rate.{outer, faceRate, rates}
 use Rattle.sheet_spec.proofs.Box.{le-is, all-of}
-use Rattle.machine_spec.proofs.Box.{sides-lo, sides-hi, hull-lo, hull-hi, moved-lo, moved-hi, trim-lo, trim-hi, within-at}
+use Rattle.machine_spec.proofs.Box.{sides-lo, sides-hi, sides-same, hull-lo, hull-hi, moved-lo, moved-hi, trim-lo, trim-hi, within-at}
 use Rattle.machine_spec.proofs.Face.{Beyond, beyond-refl, beyond-trans, outer-left, outer-right, outer-in}
 
 -- ---- the sides of a box that is made of others
@@ -97,18 +97,15 @@ module _ {n : ℕ} (room : n ≤ N) (A B : List ℤ) where
 pub trim-holds : {n : ℕ} → n ≤ N → (B : List ℤ) → Inside n B (trim n B)
 trim-holds {n} room B = record { at = λ up i h. rw (trim-side n i room h up B) (beyond-refl up (side up B i)) }
 
-sides-same : (n : ℕ) (f g f′ g′ : ℕ → ℤ) → ((i : ℕ) → i < n → f i ≡ f′ i) → ((i : ℕ) → i < n → g i ≡ g′ i) → boxOf n f g ≡ boxOf n f′ g′
-unfolding boxOf
-sides-same zero f g f′ g′ h k = refl
-sides-same (suc n) f g f′ g′ h k = rw (sides-same n f g f′ g′ (λ i l. h i (omega arith)) (λ i l. k i (omega arith)), h n (omega arith), k n (omega arith)) refl
-
 -- and that of a box with a hull that it lies in is that hull
 pub hull-absorbs : {n : ℕ} → n ≤ N → (A B C : List ℤ) → Inside n A (hull n B C) → hull n A (hull n B C) ≡ hull n B C
 unfolding hull
 hull-absorbs {n} room A B C s =
     let H = hull n B C in
-    sides-same n _ _ _ _ (λ i h. (let e : minZ (lo A i) (lo H i) ≡ lo H i = omega (ints, min-is (lo A i) (lo H i), s .at false i h .order) in e ∙ hull-lo n i room h B C))
-    (λ i h. (let e : maxZ (hi A i) (hi H i) ≡ hi H i = omega (ints, max-is (hi A i) (hi H i), s .at true i h .order) in e ∙ hull-hi n i room h B C))
+    sides-same n _ _ _ _ (λ i h.
+    let low : minZ (lo A i) (lo H i) ≡ lo H i = omega (ints, min-is (lo A i) (lo H i), s .at false i h .order) in
+    let high : maxZ (hi A i) (hi H i) ≡ hi H i = omega (ints, max-is (hi A i) (hi H i), s .at true i h .order) in
+    (low ∙ hull-lo n i room h B C, high ∙ hull-hi n i room h B C))
 
 -- ---- no variable's lower side is above its upper one
 

@@ -10,6 +10,7 @@ use Rattle.integers.specs.Bytes.{beBytes, encode}
 use Rattle.sheet_spec.specs.Slots.{N, bandSlot, rowSlot, recoverySlot, unsafeSlot}
 use Rattle.sheet_spec.specs.Sheet.{zeros, bytesOf}
 use Rattle.sheet_spec.specs.SheetA.{fileA}
+use Rattle.sheet_spec.specs.Refusals.{Cause, number}
 use Rattle.decision_spec.specs.Decision.{keep, finest, spent, Reply, refused, answered, checkRecovery, decide}
 use Rattle.safety.specs.Run.{Period, Run}
 use Rattle.safety.proofs.Everything.{everything}
@@ -96,11 +97,11 @@ unfoldable pub opened : ℕ
 unfolding everything encode sidesBytes ask replies periodsA momentsA statesA bandB boxB fileB periodsB momentsB statesB states allows ticks follows holds measures runs
 opened = 0
 
-repliesA : replies fileA periodsA ≡ answered keep 4 4 ∷ answered spent 4 4 ∷ answered finest 1 5 ∷ refused 14 ∷ answered keep 4 4 ∷ []
+repliesA : replies fileA periodsA ≡ answered keep 4 4 ∷ answered spent 4 4 ∷ answered finest 1 5 ∷ refused (number Cause.command) ∷ answered keep 4 4 ∷ []
 unfolding opened
 repliesA = refl
 
-repliesB : checkRecovery fileB ∷ replies fileB periodsB ≡ answered keep 1 10 ∷ answered keep 2 15 ∷ refused 14 ∷ []
+repliesB : checkRecovery fileB ∷ replies fileB periodsB ≡ answered keep 1 10 ∷ answered keep 2 15 ∷ refused (number Cause.command) ∷ []
 unfolding opened
 repliesB = refl
 

@@ -8,6 +8,7 @@ use lib.Seq.{sets}
 use Rattle.sheet_spec.specs.Slots.{N, bandSlot, rowSlot, recoverySlot, unsafeSlot}
 use Rattle.sheet_spec.specs.Sheet.{zeros, refusal, values, bytesOf, length-of, writeRefusal, written}
 use Rattle.sheet_spec.specs.SheetA.{fileA}
+use Rattle.sheet_spec.specs.Refusals.{Cause, number}
 use Rattle.sheet_spec.proofs.Everything.{everything}
 
 -- ---- sheet A
@@ -91,6 +92,6 @@ writtenA : written valueA buffer 5 ≡ replicate 5 7 ++ (fileA ++ replicate 5 7)
 unfolding everything valueA buffer
 writtenA = refl
 
-roomA : (writeRefusal valueA buffer 11 ≡ 17) × (written valueA buffer 11 ≡ buffer) × (writeRefusal valueA buffer (2 ^ 64) ≡ 17) × (writeRefusal (sets valueA 4 (pos 997 ∷ [])) buffer 11 ≡ 3)
+roomA : (writeRefusal valueA buffer 11 ≡ number Cause.room) × (written valueA buffer 11 ≡ buffer) × (writeRefusal valueA buffer (2 ^ 64) ≡ number Cause.room) × (writeRefusal (sets valueA 4 (pos 997 ∷ [])) buffer 11 ≡ number Cause.times)
 unfolding everything valueA buffer
 roomA = (refl, refl, refl, refl)

@@ -1,4 +1,4 @@
--- `sides_refusal` gives 15 for a box with a variable whose sides are not in range, and 0 for any other. Invariant: the sides of the
+-- `sides_refusal` refuses a box with a variable whose sides are not in range, and no other. Invariant: the sides of the
 -- first i variables are in range. Measure: the variables left. Assumes nothing.
 use mathlib.Core.Path.{_≡_, refl, sym, _∙_}
 use mathlib.Core.List.{List}

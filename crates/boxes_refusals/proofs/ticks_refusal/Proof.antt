@@ -1,4 +1,4 @@
--- `ticks_refusal` gives 16 for ticks or a width that a reach does not have, and 0 for any other. Assumes nothing.
+-- `ticks_refusal` refuses ticks or a width that a reach does not have, and no other. Assumes nothing.
 use mathlib.Core.Path.{refl}
 use native.Mathlib.Omega.{arith}
 use borrow.Author.Tests.{le-leb, lt-leb}

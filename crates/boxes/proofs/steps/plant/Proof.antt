@@ -10,13 +10,13 @@ use mir.Facts.{toZ-ofZ, fits-natAbs}
 use mir.Syntax.{w32, w64}
 use mir.Val.{Fits, toZ, ofZ}
 use borrow.Author.Needs.{needs}
-use Rattle.sheet_spec.specs.Slots.{_!_}
+use Rattle.sheet_spec.specs.Slots.{_!_, varsSlot, bandsSlot, bandVarSlot, leastSlot}
 use Rattle.sheet_spec.specs.Valid.{Valid}
 use Rattle.boxes.proofs.steps.plant.Statement.{statement}
 use Rattle.boxes.proofs.steps.plant.Tie as tie
 
--- a number of the head as a count
-counts : {v : List ℤ} → Valid v → (i : ℕ) → i < 7 → T (nonNeg (toZ w32 (ofZ w32 (v ! i)))) × Fits w64 (natAbs (toZ w32 (ofZ w32 (v ! i))))
+-- a number of the head, before its commands, as a count
+counts : {v : List ℤ} → Valid v → (i : ℕ) → i < leastSlot → T (nonNeg (toZ w32 (ofZ w32 (v ! i)))) × Fits w64 (natAbs (toZ w32 (ofZ w32 (v ! i))))
 counts wf i h = let f = wf .fits i in rw (toZ-ofZ f) (yes-nonNeg (wf .head i h), fits-natAbs tt f)
 
 -- the plant's numbers are the sheet's
@@ -26,9 +26,9 @@ returns c =
       refl,
       record {
         sheet = wf;
-        n = ap natAbs (toZ-ofZ (wf .fits 0));
-        bands = ap natAbs (toZ-ofZ (wf .fits 1));
-        var = ap natAbs (toZ-ofZ (wf .fits 3));
+        n = ap natAbs (toZ-ofZ (wf .fits varsSlot));
+        bands = ap natAbs (toZ-ofZ (wf .fits bandsSlot));
+        var = ap natAbs (toZ-ofZ (wf .fits bandVarSlot));
       },
     )
 
@@ -37,9 +37,9 @@ plant-spec =
     tie.close
     (tie.spec
     (λ c. search needs)
-    (λ c. counts (c .before .pre) 0 (omega arith))
+    (λ c. counts (c .before .pre) varsSlot (omega arith))
     (λ c. search needs)
-    (λ c. counts (c .before .before .pre) 1 (omega arith))
+    (λ c. counts (c .before .before .pre) bandsSlot (omega arith))
     (λ c. search needs)
-    (λ c. counts (c .before .before .before .pre) 3 (omega arith))
+    (λ c. counts (c .before .before .before .pre) bandVarSlot (omega arith))
     returns)

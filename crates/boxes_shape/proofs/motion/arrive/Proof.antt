@@ -11,8 +11,8 @@ use Rattle.integers.specs.Order.{minZ, maxZ}
 use Rattle.sheet_spec.specs.Slots.{N}
 use Rattle.sheet_spec.specs.Box.{lo, hi}
 use Rattle.machine_spec.specs.Box.{trim, hull, moved}
-use Rattle.machine_spec.proofs.Box.{sides-lo, sides-hi}
-use Rattle.machine_spec.proofs.InPlace.{filled, filled-none, filled-more, turn-lo, turn-hi-set, filled-sides, sides-same}
+use Rattle.machine_spec.proofs.Box.{sides-lo, sides-hi, sides-same}
+use Rattle.machine_spec.proofs.InPlace.{filled, filled-none, filled-more, turn-lo, turn-hi-set, filled-sides}
 use Rattle.machine_spec.specs.Rate.{outer}
 use Rattle.boxes_shape.specs.Limits.{ArriveSideDone, movedSide}
 use Rattle.boxes_shape.proofs.Sides.{side-movable}
