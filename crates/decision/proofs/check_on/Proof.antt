@@ -4,7 +4,7 @@ use mathlib.Core.List.{List}
 use Prim.Native.Nat.{ℕ}
 use native.Mathlib.Omega.{arith}
 use lib.IntN.{ℤ}
-use Rattle.sheet_spec.specs.Slots.{vars, recoveryBox}
+use Rattle.sheet_spec.specs.Slots.{vars, recoveryBox, varsSlot, ρSlot}
 use Rattle.machine_spec.specs.Box.{trim}
 use Rattle.machine_spec.proofs.Ranges.{near-as}
 use Rattle.machine_spec.proofs.InPlace.{trim-as}
@@ -37,13 +37,13 @@ module _ (at-attempts : tie.After-attempts) where
   answered = at-attempts .attempts .ensures ∙ plan-checks (v at-box) (start at-box ∙ at-start at-box .pre .1) (at-attempts .before .before .count2 .ensures)
 
 count-requires : tie.Need-count-requires
-count-requires c κs = (omega arith, c .pre .0 .head 0 (omega arith))
+count-requires c κs = (omega arith, c .pre .0 .head varsSlot (omega arith))
 
 box-at-requires : tie.Need-box-at-requires
 box-at-requires c κs = (omega (arith, c .count .ensures, c .before .pre .0 .vars-high), omega arith)
 
 count-requires-2 : tie.Need-count-requires-2
-count-requires-2 at-box κs = (omega arith, at-start at-box .pre .0 .head 6 (omega arith))
+count-requires-2 at-box κs = (omega arith, at-start at-box .pre .0 .head ρSlot (omega arith))
 
 attempts-requires : tie.Need-attempts-requires
 unfolding ticksOf

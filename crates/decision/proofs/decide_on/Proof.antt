@@ -5,7 +5,7 @@ use Prim.Native.Nat.{ℕ, _≤_}
 use native.Mathlib.Omega.{arith}
 use lib.IntN.{ℤ}
 use borrow.Author.Needs.{needs}
-use Rattle.sheet_spec.specs.Slots.{N, vars}
+use Rattle.sheet_spec.specs.Slots.{N, vars, varsSlot}
 use Rattle.sheet_spec.proofs.FirstRefusal.{found-stops, found-none}
 use Rattle.machine_spec.proofs.Ranges.{near-as}
 use Rattle.machine_spec.proofs.InPlace.{trim-as}
@@ -44,7 +44,7 @@ module _ (accepted : tie.Else1) where
   passed = sym (at-read .read .ensures .refusal) ∙ accepted .if1 .left
 
 count-requires : tie.Need-count-requires
-count-requires c κs = (omega arith, c .before .pre .head 0 (omega arith))
+count-requires c κs = (omega arith, c .before .pre .head varsSlot (omega arith))
 
 read-requires : tie.Need-read-requires
 read-requires c κs = (c .count .ensures, omega (arith, c .count .ensures, c .before .before .pre .vars-high))

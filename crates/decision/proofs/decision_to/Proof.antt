@@ -4,6 +4,7 @@ use mathlib.Core.List.{List}
 use native.Mathlib.Omega.{arith}
 use lib.IntN.{ℤ}
 use borrow.Author.Needs.{needs}
+use Rattle.sheet_spec.specs.Slots.{δSlot, αSlot}
 use Rattle.decision_spec.specs.Decision.{ticksOf}
 use Rattle.decision.proofs.Answer.{plan-decides}
 use Rattle.decision.proofs.decision_to.Statement.{statement}
@@ -21,10 +22,10 @@ module _ (at-width : tie.After-larger) where
   at-start = at-first .before .before .before
 
 count-requires : tie.Need-count-requires
-count-requires c κs = (omega arith, c .before .before .pre .sheet .head 4 (omega arith))
+count-requires c κs = (omega arith, c .before .before .pre .sheet .head δSlot (omega arith))
 
 count-requires-2 : tie.Need-count-requires-2
-count-requires-2 c κs = (omega arith, c .before .before .before .pre .sheet .head 5 (omega arith))
+count-requires-2 c κs = (omega arith, c .before .before .before .pre .sheet .head αSlot (omega arith))
 
 attempts-requires : tie.Need-attempts-requires
 unfolding ticksOf

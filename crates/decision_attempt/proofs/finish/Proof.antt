@@ -4,7 +4,7 @@ use mathlib.Core.List.{List}
 use Prim.Native.Nat.{ℕ}
 use native.Mathlib.Omega.{arith}
 use lib.IntN.{ℤ}
-use Rattle.sheet_spec.specs.Slots.{vars, recoveryBox}
+use Rattle.sheet_spec.specs.Slots.{vars, recoveryBox, varsSlot}
 use Rattle.machine_spec.specs.Box.{within}
 use Rattle.decision_attempt.proofs.Turn.{within-trim, finish-inside, finish-outside}
 use Rattle.decision_attempt.proofs.finish.Statement.{statement}
@@ -34,7 +34,7 @@ pub finish-spec : {M : Type 1} → statement M
 finish-spec =
     tie.close
     (tie.spec
-    (λ c κs. (omega arith, c .pre .head 0 (omega arith)))
+    (λ c κs. (omega arith, c .pre .head varsSlot (omega arith)))
     (λ c κs. (omega (arith, c .count .ensures, c .before .pre .vars-high), omega arith))
     (λ c κs. let at-count = c .before .before in omega (arith, at-count .count .ensures, at-count .before .pre .vars-high))
     (λ c. let t = c .before in finish-inside (v t) (E t) _ (sym (inside-is t) ∙ c .if1 .taken))

@@ -2,12 +2,13 @@
 use mathlib.Core.Path.{_≡_, _∙_}
 use native.Mathlib.Omega.{arith}
 use borrow.Author.Needs.{needs}
+use Rattle.sheet_spec.specs.Slots.{boxesSlot}
 use Rattle.decision_attempt.proofs.Turn.{plant-reach, names-all}
 use Rattle.decision_attempt.proofs.reach_phase.Statement.{statement}
 use Rattle.decision_attempt.proofs.reach_phase.Tie as tie
 
 count-requires : tie.Need-count-requires
-count-requires at-plant κs = (omega arith, at-plant .before .pre .sheet .head 2 (omega arith))
+count-requires at-plant κs = (omega arith, at-plant .before .pre .sheet .head boxesSlot (omega arith))
 
 reach-requires : tie.Need-reach-requires
 reach-requires c κs =

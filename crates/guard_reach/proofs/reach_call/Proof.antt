@@ -6,7 +6,7 @@ use native.Mathlib.Omega.{arith}
 use lib.IntN.{ℤ}
 use mir.Facts.{toZ-ofZ}
 use borrow.Author.Needs.{needs}
-use Rattle.sheet_spec.specs.Slots.{vars}
+use Rattle.sheet_spec.specs.Slots.{vars, varsSlot}
 use Rattle.sheet_spec.specs.Sheet.{values}
 use Rattle.sheet_spec.specs.Valid.{Valid}
 use Rattle.sheet_spec.proofs.FirstRefusal.{found-stops, first-fails}
@@ -77,7 +77,7 @@ returns c =
     (c .pack-refusal .ensures ∙ found-stops refusedCall _ is some, found-stops (λ r. a .out .now) _ is some)
 
 count-requires : tie.Need-count-requires
-count-requires c κs = (omega arith, accepted (c .before) .head 0 (omega arith))
+count-requires c κs = (omega arith, accepted (c .before) .head varsSlot (omega arith))
 
 start-box-requires : tie.Need-start-box-requires
 start-box-requires c κs = omega (arith, c .count .ensures, accepted (c .before .before) .vars-high)
