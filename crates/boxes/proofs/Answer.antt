@@ -1,4 +1,4 @@
--- What a reach answers, refused or reachedOf. Assumes nothing.
+-- What a reach answers, refused or not. Assumes nothing.
 use mathlib.Core.Path.{_≡_, refl, sym, ap, _∙_}
 use mathlib.Core.Bool.{false}
 use mathlib.Core.List.{List}
@@ -25,7 +25,7 @@ pub record Refusal (v : List ℤ) (ticks w : ℕ) (l : Law) (B : List ℤ) (a : 
   pub is : a ≡ reachRefusal v ticks w l B
 
 -- what holds of a reach of T ticks at the width w from S that is not refused
-pub record Accepted (n T w : ℕ) (S : List ℤ) : Type 0 where
+pub record Reachable (n T w : ℕ) (S : List ℤ) : Type 0 where
   pub some : 0 < w
   pub most : w ≤ maxWidth
   pub ticks : T ≤ maxTicks
@@ -41,7 +41,7 @@ module _ {v : List ℤ} (wf : Valid v) {ticks w : ℕ} {l : Law} {B : List ℤ} 
     start-is : S ≡ trim (vars v) B
     start-is = s ∙ ap (λ (i : ℕ). trim i B) p
 
-    pub reachable : Accepted (vars v) ticks w S
+    pub reachable : Reachable (vars v) ticks w S
     reachable =
         let passes = reach-passes v ticks w l B (sym (r .is) ∙ e) in
         record {
