@@ -36,11 +36,11 @@ isEnded (Unsafe left number c) = false
 isEnded (Exhausted c) = false
 
 -- the ticks that it covers, if it ended
-unfoldable pub ticksOf : ReachResult → ℕ
-ticksOf (Ended t c) = t
-ticksOf (Unsettled c) = 0
-ticksOf (Unsafe left number c) = 0
-ticksOf (Exhausted c) = 0
+unfoldable pub coveredOf : ReachResult → ℕ
+coveredOf (Ended t c) = t
+coveredOf (Unsettled c) = 0
+coveredOf (Unsafe left number c) = 0
+coveredOf (Exhausted c) = 0
 
 -- if a no-go box was met, its number is j
 unfoldable pub Names : ℕ → ReachResult → Type 0
@@ -65,5 +65,5 @@ pub record TestedDone (p : ReachPlan) (v : List ℤ) (left c : ℕ) (A : List �
 pub record ReachDone (p : ReachPlan) (v : List ℤ) (T c : ℕ) (A : List ℤ) (r : ReachResult) (B W : List ℤ) : Type 0 where
   pub same : reachedOf B W r ≡ reachOn p v A T c
   pub names : Names (lowestOn p v W) r
-  pub covered : isEnded r ≡ true → ticksOf r ≡ T
+  pub covered : isEnded r ≡ true → coveredOf r ≡ T
   pub trimmed : trim (vars v) B ≡ B

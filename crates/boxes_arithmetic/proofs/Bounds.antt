@@ -31,5 +31,5 @@ floor-bound {z = pos n} q h = record { at-most = omega (arith, div-le-self n q, 
 floor-bound {z = negsuc n} q h = record { at-most = omega (arith, div-le-self n q, h .at-most) }
 
 -- what lies within a cap goes no further than it
-pub within-bound : {b : ℕ} {c z : ℤ} → Bound c b → Between (negℤ c) c z → Bound z b
-within-bound {b} {c} h k = bound-in (omega (ints, k .low, h .at-most, neg c, neg (pos b))) (omega (ints, k .high, h .at-most))
+pub between-bound : {b : ℕ} {c z : ℤ} → Bound c b → Between (negℤ c) c z → Bound z b
+between-bound {b} {c} h k = bound-in (omega (ints, k .low, h .at-most, neg c, neg (pos b))) (omega (ints, k .high, h .at-most))

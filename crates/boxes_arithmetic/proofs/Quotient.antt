@@ -19,7 +19,7 @@ division-neg d = record { dividend = bound-neg (d .dividend); positive = d .posi
 pub capped-neg : {c z : ℤ} → Capped c z → Capped c (negℤ z)
 capped-neg {c} {z} w = record {
   small = w .small;
-  within = record { low = omega (ints, w .within .high, neg c, neg z); high = omega (ints, w .within .low, neg c, neg z) };
+  between = record { low = omega (ints, w .between .high, neg c, neg z); high = omega (ints, w .between .low, neg c, neg z) };
 }
 
 -- ---- z and the clamped f, by where f lies
@@ -44,9 +44,9 @@ module _ (c z f : ℤ) (w : Between (negℤ c) c z) where
       omega (ints, w .low, w .high, neg c, neg z, neg f, neg (minZ (negℤ z) (maxZ (negℤ c) (minZ f c))), min-is (negℤ z) (maxZ (negℤ c) (minZ f c)), max-is (negℤ c) (minZ f c), min-is f c, max-is z (maxZ (negℤ c) (minZ (negℤ f) c)), max-is (negℤ c) (minZ (negℤ f) c), min-is (negℤ f) c)
 
   -- the greater of z and of the clamped f lies within the cap
-  pub raised-within : Between (negℤ c) c (maxZ z (clamp c f))
+  pub raised-between : Between (negℤ c) c (maxZ z (clamp c f))
   unfolding clamp
-  raised-within =
+  raised-between =
       let greater = max-is z (maxZ (negℤ c) (minZ f c)) in
       let clamped = max-is (negℤ c) (minZ f c) in
       let cut = min-is f c in
@@ -68,13 +68,13 @@ module _ (x : ℤ) (b : ℕ) (y : ℤ) (one : pos 1 ≤ℤ pos b) where
 
 pub kept : {c z x q : ℤ} → DivisionAsked x q → Capped c z → (z *ℤ q) ≤ℤ x → z ≡ minZ z (clamp c (floorDiv x (natAbs q)))
 kept {q = negsuc b} d w h = absurd (d .positive .le)
-kept {c} {z} {x} {q = pos b} d w h = above c z (floorDiv x b) (w .within) (at-least x b z (d .positive) h)
+kept {c} {z} {x} {q = pos b} d w h = above c z (floorDiv x b) (w .between) (at-least x b z (d .positive) h)
 
 pub saturated : {c z x q : ℤ} → DivisionAsked x q → Capped c z → x ≤ℤ (negℤ c *ℤ q) → negℤ c ≡ minZ z (clamp c (floorDiv x (natAbs q)))
 saturated {q = negsuc b} d w h = absurd (d .positive .le)
-saturated {c} {z} {x} {q = pos b} d w h = below c z (floorDiv x b) (w .within) (at-most x b (negℤ c) (d .positive) h)
+saturated {c} {z} {x} {q = pos b} d w h = below c z (floorDiv x b) (w .between) (at-most x b (negℤ c) (d .positive) h)
 
 pub divided : {c z x q : ℤ} → DivisionAsked x q → Capped c z → x <ℤ (z *ℤ q) → (negℤ c *ℤ q) <ℤ x → floorDiv x (natAbs q) ≡ minZ z (clamp c (floorDiv x (natAbs q)))
 divided {q = negsuc b} d w h l = absurd (d .positive .le)
 divided {c} {z} {x} {q = pos b} d w h l =
-    between c z (floorDiv x b) (w .within) (at-least x b (negℤ c) (d .positive) (omega ints)) (at-most x b z (d .positive) (omega ints))
+    between c z (floorDiv x b) (w .between) (at-least x b (negℤ c) (d .positive) (omega ints)) (at-most x b z (d .positive) (omega ints))

@@ -23,4 +23,4 @@ pub record DivisionAsked (x q : ℤ) : Type 0 where
 -- z lies from −cap to cap
 pub record Capped (cap z : ℤ) : Type 0 where
   pub small : Bound cap maxCap
-  pub within : Between (negℤ cap) cap z
+  pub between : Between (negℤ cap) cap z

@@ -12,7 +12,7 @@ use Rattle.sheet_spec.specs.Box.{lo, hi}
 use Rattle.machine_spec.specs.declared.Law.{Law}
 use Rattle.machine_spec.specs.declared.Law.the-variants.{Baseline, Command}
 use Rattle.machine_spec.specs.Machine.{machine, safetyEnd, bandMeets}
-use Rattle.machine_spec.specs.Rate.{outer, outermost, bandMet, commandOver}
+use Rattle.machine_spec.specs.Rate.{outer, outermost, bandMet, offeredOver}
 use Rattle.boxes_rates.specs.declared.Plant.{Plant}
 use Rattle.boxes_rates.specs.Plant.{Describes}
 use Rattle.sheet_spec.proofs.Box.{le-is, le-not}
@@ -24,13 +24,13 @@ outermost-more up z n f = rw add-one refl
 -- the bounds of the commands that the law offers in band k
 module _ {l : Law} (up : Bool) (v : List ℤ) (k : ℕ) (B : List ℤ) where
   -- under the plain law the safety range
-  pub over-plain : l ≡ Baseline → commandOver up (machine v l) k B ≡ safetyEnd up v k
-  unfolding commandOver
+  pub over-plain : l ≡ Baseline → offeredOver up (machine v l) k B ≡ safetyEnd up v k
+  unfolding offeredOver
   over-plain e = rw e refl
 
   -- one command is the least and the greatest
-  pub over-one : {u : ℤ} → l ≡ Command u → commandOver up (machine v l) k B ≡ u
-  unfolding commandOver
+  pub over-one : {u : ℤ} → l ≡ Command u → offeredOver up (machine v l) k B ≡ u
+  unfolding offeredOver
   over-one e = rw e refl
 
 -- band k and the numbers from l to h

@@ -11,7 +11,7 @@ use Rattle.sheet_spec.specs.Slots.{N, rowSize, slots, vars, bands, cap, Row, ro
 use Rattle.sheet_spec.specs.Valid.{Between}
 use Rattle.machine_spec.specs.Box.{side, Near}
 use Rattle.machine_spec.specs.Machine.{Machine}
-use Rattle.machine_spec.specs.Rate.{bound, commandOver, outer}
+use Rattle.machine_spec.specs.Rate.{bound, offeredOver, outer}
 use Rattle.boxes_arithmetic.specs.Limits.{Capped, limit, word}
 use Rattle.boxes_rates.specs.declared.Plant.{Plant}
 use Rattle.boxes_rates.specs.Plant.{Describes}
@@ -38,7 +38,7 @@ pub record RowAsked (n row : ℕ) (B : List ℤ) : Type 0 where
 
 -- t is the outer one of b·u over the commands u that the law offers in a band, over any box
 pub record CommandTerm (up : Bool) (m : Machine) (r : Row) (band : ℕ) (t : ℤ) : Type 0 where
-  pub same : (B : List ℤ) → t ≡ outer up (r .b *ℤ commandOver false m band B) (r .b *ℤ commandOver true m band B)
+  pub same : (B : List ℤ) → t ≡ outer up (r .b *ℤ offeredOver false m band B) (r .b *ℤ offeredOver true m band B)
   pub near : Bound t termLimit
 
 -- x is the row's N bounded over the box B and over the commands whose outer term is t
@@ -65,7 +65,7 @@ pub record RateAsked (p : Plant) (v B : List ℤ) (i : ℕ) : Type 0 where
 pub record BandAsked (p : Plant) (v B : List ℤ) (i band : ℕ) (z : ℤ) : Type 0 where
   pub rate : RateAsked p v B i
   pub among : band < bands v
-  pub within : Between (negℤ (cap v i)) (cap v i) z
+  pub between : Between (negℤ (cap v i)) (cap v i) z
 
 -- ---- the rates of a round
 

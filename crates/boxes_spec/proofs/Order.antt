@@ -20,7 +20,7 @@ use Rattle.machine_spec.proofs.Inside.{lift-side, Inside, inside-refl, inside-t
 use Rattle.machine_spec.proofs.Bands.{has-band}
 use Rattle.machine_spec.proofs.Neighborhood.{near-in, neighborhood-part, neighborhood-inside, neighborhood-ordered, neighborhoods-touch}
 use Rattle.machine_spec.proofs.Facts.{room, cap-low}
-use Rattle.machine_spec.proofs.Sound.{rate-within}
+use Rattle.machine_spec.proofs.Sound.{rate-between}
 use Rattle.machine_spec.proofs.Order.{rate-mono, rates-ordered}
 use Rattle.boxes_spec.specs.Step.{lifted, grown, endBox}
 use Rattle.boxes_spec.proofs.Settled.{Working, starts, grows}
@@ -92,7 +92,7 @@ module _ {m : Machine} (wf : Accepted m) (S : List ℤ) (k : ℕ) (o : Ordered (
   end-ordered = record {
     at = λ i h.
         rw (lift-side m i (room (wf .sheet)) h false S k E k, lift-side m i (room (wf .sheet)) h true S k E k)
-        (faces-ordered k (cap m i) (lo S i) (hi S i) _ _ (cap-low (wf .sheet) i h) (o .at i h) (rate-within false m _ i (cap-low (wf .sheet) i h) .high) (rate-within true m _ i (cap-low (wf .sheet) i h) .low)
+        (faces-ordered k (cap m i) (lo S i) (hi S i) _ _ (cap-low (wf .sheet) i h) (o .at i h) (rate-between false m _ i (cap-low (wf .sheet) i h) .high) (rate-between true m _ i (cap-low (wf .sheet) i h) .low)
         (λ n.
         let U = neighborhood true S (pos (k + 1) *ℤ cap m i) E i in
         let u = corner (face-ordered wf S k o s true i h) in

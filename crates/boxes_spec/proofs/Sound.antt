@@ -21,7 +21,7 @@ use Rattle.machine_spec.proofs.Face.{Beyond, beyond-refl, beyond-trans, beyond-
 use Rattle.machine_spec.proofs.Inside.{hull-side, lift-side, in-side, in-by, meets-by, Inside, inside-in, within-inside, hull-left, hull-right}
 use Rattle.machine_spec.proofs.Neighborhood.{inward, near-in}
 use Rattle.machine_spec.proofs.Facts.{room, cap-low}
-use Rattle.machine_spec.proofs.Sound.{rate-bounds, cap-bounds, beyond-neutral, rate-within}
+use Rattle.machine_spec.proofs.Sound.{rate-bounds, cap-bounds, beyond-neutral, rate-between}
 use Rattle.boxes_spec.specs.Step.{lifted, settles, endBox, ok, Step, step, swept}
 use Rattle.boxes_spec.specs.Reach.{Reached, reach, clear}
 use Rattle.boxes_spec.proofs.Stages.{value-of}
@@ -86,7 +86,7 @@ module _ (m : Machine) (wf : Valid (m .sheet)) (S : List ℤ) (k : ℕ) (E : Lis
   lies-next {x} {y} j s l t a = record {
     at = λ up i h.
         let e : In (varsOf m) E x = inside-in (within-inside _ E s) (lies-hull {j = j} {d = k - 1} (omega arith) a) in
-        face-next up k j (cap m i) (side up S i) (x ! i) (y ! i) _ l (cap-low wf i h) (a .at up i h) (beyond-neutral (rate-within up m _ i (cap-low wf i h)) up) (cap-bounds wf t i h up)
+        face-next up k j (cap m i) (side up S i) (x ! i) (y ! i) _ l (cap-low wf i h) (a .at up i h) (beyond-neutral (rate-between up m _ i (cap-low wf i h)) up) (cap-bounds wf t i h up)
         (λ near. rate-bounds wf t i h up _ (near-in (room wf) S _ i h up e near));
   }
 

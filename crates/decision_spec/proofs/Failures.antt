@@ -5,7 +5,7 @@ use mathlib.Core.List.{List, [], _∷_, map}
 use Prim.Native.Nat.{ℕ}
 use lib.IntN.{ℤ, pos}
 use Rattle.sheet_spec.specs.Slots.{vars, boxes}
-use Rattle.sheet_spec.specs.Box.{lowest, lowestMet}
+use Rattle.sheet_spec.specs.Box.{lowestPassing, lowestMet}
 use Rattle.sheet_spec.specs.Sheet.{values}
 use Rattle.sheet_spec.specs.SheetA.{fileA}
 use Rattle.machine_spec.specs.declared.Law.the-variants.{Command}
@@ -28,7 +28,7 @@ failed l h =
 
 -- the no-go box starts at 130: the first step meets it
 pub met : failed 128 130 ≡ (4 ∷ 4 ∷ 0 ∷ []) ∷ (2 ∷ 4 ∷ 0 ∷ []) ∷ (1 ∷ 4 ∷ 0 ∷ []) ∷ []
-unfolding everything lowest lowestMet
+unfolding everything lowestPassing lowestMet
 met = refl
 
 -- the recovery box ends at 100: it is missed

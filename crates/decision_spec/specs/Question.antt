@@ -7,7 +7,7 @@ use lib.Dec.{leb, eqb}
 use lib.IntN.{ℤ}
 use lib.ListN.{getD, length, take, drop}
 use Rattle.integers.specs.Bytes.{be}
-use Rattle.sheet_spec.specs.Fields.{i32, width, decoded}
+use Rattle.sheet_spec.specs.Fields.{i32, bytesIn, decoded}
 use Rattle.sheet_spec.specs.Sizes.{letters, upperAt, pairBytes, boxBytes}
 use Rattle.sheet_spec.specs.Limits.{maxAllowance}
 use Rattle.sheet_spec.specs.Slots.{vars}
@@ -30,10 +30,10 @@ allowanceAt = letters
 
 -- the allowance is unsigned, and has as many bytes as a command
 abbrev pub commandAt : ℕ
-commandAt = allowanceAt + width i32
+commandAt = allowanceAt + bytesIn i32
 
 abbrev pub sidesAt : ℕ
-sidesAt = commandAt + width i32
+sidesAt = commandAt + bytesIn i32
 
 -- how many bytes a question on a sheet of n variables takes
 abbrev pub questionLength : ℕ → ℕ
@@ -42,7 +42,7 @@ questionLength n = sidesAt + boxBytes n
 -- ---- what they say
 
 unfoldable pub allowanceOf : List ℕ → ℕ
-allowanceOf g = be (take (width i32) (drop allowanceAt g))
+allowanceOf g = be (take (bytesIn i32) (drop allowanceAt g))
 
 unfoldable pub commandOf : List ℕ → ℤ
 commandOf g = decoded i32 (drop commandAt g)

@@ -4,7 +4,7 @@ ghost use mathlib.Core.Path.{_≡_};
 ghost use Prim.Native.Nat.{_+_, _*_, _≤_};
 ghost use lib.ListN.{length};
 ghost use lib.Seq.{sets};
-ghost use Rattle.sheet_spec.specs.Fields.{i32, width};
+ghost use Rattle.sheet_spec.specs.Fields.{i32, bytesIn};
 ghost use Rattle.sheet_spec.specs.Slots as slots;
 ghost use Rattle.machine_spec.specs.Box.{Near};
 ghost use Rattle.boxes_spec.specs.Reach.{maxReached};
@@ -17,7 +17,7 @@ use sheet_spec::slots::SLOTS;
 
 // Writes the first `count` numbers of v.
 pub fn put_numbers(out: &mut [u8], v: &[i32; SLOTS], count: usize)
-    requires { ⌜ (count ≤ slots.slots) × (width i32 * count ≤ length (now out)) ⌝ }
+    requires { ⌜ (count ≤ slots.slots) × (bytesIn i32 * count ≤ length (now out)) ⌝ }
     ensures { λ _. ⌜ now (out .exit) ≡ sets (now (out .entry)) 0 (numberBytes (now (v .entry)) count) ⌝ }
 {
     let mut k: usize = 0;

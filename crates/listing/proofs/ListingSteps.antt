@@ -17,21 +17,21 @@ use Rattle.listing.specs.declared.Progress.{Progress}
 use Rattle.listing.specs.declared.Listed.{Listed}
 use Rattle.listing.specs.Limits.{longestQuestion}
 use Rattle.listing.specs.Listed.{ListedAs}
-use Rattle.listing.specs.ListingSteps.{Step, sheetStep, questionStep, stepLines, allLines, StepOnPart, StepsAreListing}
+use Rattle.listing.specs.ListingSteps.{ListingStep, sheetStep, questionStep, stepLines, allLines, StepOnPart, StepsAreListing}
 use Rattle.listing.proofs.LongFile.{listing-cut}
 use Rattle.listing.proofs.NextLength.{next-some, next-most, next-part}
 
 -- ---- one step
 
 -- the step that ends the listing, and the step of question i
-abbrev pub ended : ℕ → Step
+abbrev pub ended : ℕ → ListingStep
 ended i = record { line = []; taken = 0; next = record { ordinal = i; more = false } }
 
-abbrev pub asked : List ℕ → ℕ → ℕ → List ℕ → Step
+abbrev pub asked : List ℕ → ℕ → ℕ → List ℕ → ListingStep
 asked f i taken question = record { line = questionLine f i question; taken = taken; next = record { ordinal = suc i; more = true } }
 
 -- a step by whether there is a question, how many bytes it takes, and which
-abbrev stepBy : List ℕ → ℕ → Bool → ℕ → List ℕ → Step
+abbrev stepBy : List ℕ → ℕ → Bool → ℕ → List ℕ → ListingStep
 stepBy f i some taken question = elim some [ true ↦ asked f i taken question | false ↦ ended i ]
 
 counts : (f : List ℕ) (i : ℕ) (some : Bool) (taken : ℕ) (question : List ℕ) → stepBy f i some taken question .next .more ≡ true → stepBy f i some taken question .next .ordinal ≡ i + 1
@@ -58,8 +58,8 @@ module _ (f : List ℕ) (p : Progress) (g : List ℕ) where
   step-counts = counts f (p .ordinal) (p .more && ltb 0 (length g)) (nextLength (values f) g) (take (nextLength (values f) g) g)
 
 -- the code's answer to a step is its answer to an equal one
-pub listed-as : {s t : Step} {before after : List ℕ} {r : Listed} → s ≡ t → ListedAs t before after r → ListedAs s before after r
-listed-as {s} {t} {before} {after} {r} e = subst (λ (step : Step). ListedAs step before after r) (sym e)
+pub listed-as : {s t : ListingStep} {before after : List ℕ} {r : Listed} → s ≡ t → ListedAs t before after r → ListedAs s before after r
+listed-as {s} {t} {before} {after} {r} e = subst (λ (step : ListingStep). ListedAs step before after r) (sym e)
 
 -- ---- a step on a part
 
@@ -83,7 +83,7 @@ abbrev going : ℕ → Progress
 going i = record { ordinal = i; more = true }
 
 module _ (f : List ℕ) (held : ℕ → ℕ) (enough : (i : ℕ) → longestQuestion ≤ held i) where
-  abbrev after : ℕ → List ℕ → Step → List ℕ
+  abbrev after : ℕ → List ℕ → ListingStep → List ℕ
   after fuel g s = s .line ++ stepLines f held fuel (s .next) (drop (s .taken) g)
 
   turn : (fuel i : ℕ) (g : List ℕ) → stepLines f held (suc fuel) (going i) g ≡ after fuel g (questionStep f (going i) g)

@@ -12,7 +12,7 @@ use lib.ListN.{length, take, drop, set, length-take}
 use lib.Seq.{take-all, take-take, take-nil, getD-take}
 use borrow.Author.Tests.{le-leb}
 use Rattle.sheet_spec.specs.Slots.{headSize}
-use Rattle.sheet_spec.specs.Fields.{Field, width, numberOf, decoded, offset, filled, bad}
+use Rattle.sheet_spec.specs.Fields.{Field, bytesIn, numberOf, decoded, offset, filled, bad}
 use Rattle.sheet_spec.specs.declared.Shape.{Shape}
 use Rattle.sheet_spec.specs.declared.Record.the-variants.{Head}
 use Rattle.sheet_spec.specs.Layout.{headFields}
@@ -70,7 +70,7 @@ filled-cut : (p : ℕ → Field) (f : List ℕ) (k at j : ℕ) (v : List ℤ) �
 unfolding filled offset decoded
 filled-cut p f k at zero v h = refl
 filled-cut p f k at (suc j) v h =
-    let e = piece f k (width (p j .kind)) (at + offset p j) (omega arith) in
+    let e = piece f k (bytesIn (p j .kind)) (at + offset p j) (omega arith) in
     rw (filled-cut p f k at j v (omega arith)) (ap (λ (bs : List ℕ). set (filled p f at j v) (p j .slot) (numberOf (p j .kind) bs)) e)
 
 never-none : (b : Bool) (h : List ℤ) → tooLong b h ≡ 0 → ⊥

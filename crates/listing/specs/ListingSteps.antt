@@ -15,17 +15,17 @@ use Rattle.listing.specs.Limits.{longestSheet, longestQuestion}
 -- ---- a step
 
 -- its line, how many of the bytes still to come it took, and how far the listing is then
-pub record Step : Type 0 where
+pub record ListingStep : Type 0 where
   pub line : List ℕ
   pub taken : ℕ
   pub next : Progress
 
 -- the sheet's line; the questions follow only after pass, from number 1 on
-unfoldable pub sheetStep : List ℕ → Step
+unfoldable pub sheetStep : List ℕ → ListingStep
 sheetStep f = record { line = sheetLine f; taken = 0; next = record { ordinal = 1; more = isKeep (checkRecovery f) } }
 
 -- the next question's line, where g are the bytes still to come. The listing ends if there are none
-unfoldable pub questionStep : List ℕ → Progress → List ℕ → Step
+unfoldable pub questionStep : List ℕ → Progress → List ℕ → ListingStep
 questionStep f p g =
     elim (p .more && ltb 0 (length g)) [
       | true ↦ record {

@@ -16,12 +16,12 @@ pub record Spelled (x : ℕ) (buffer : List ℕ) (from rest : ℕ) : Type 0 wher
   pub fuel : ℕ
   pub enough : rest ≤ fuel
   pub same : digitsTo (suc fuel) rest (drop (suc from) buffer) ≡ digits x
-  pub within : from < length buffer
+  pub in-buffer : from < length buffer
   pub room : rest < 10 ^ suc from
 
 pub none : (x : ℕ) {buffer : List ℕ} {from : ℕ} → drop (suc from) buffer ≡ [] → from < length buffer → x < 10 ^ suc from → Spelled x buffer from x
 unfolding digits
-none x e w r = record { fuel = x; enough = omega arith; same = rw e; within = w; room = r }
+none x e w r = record { fuel = x; enough = omega arith; same = rw e; in-buffer = w; room = r }
 
 tenth : (i rest : ℕ) → 10 ≤ rest → rest < 10 ^ suc i → (0 < i) × (rest / 10 < 10 ^ i)
 tenth zero rest h k = let z : ⊥ = omega arith in absurd z
@@ -41,8 +41,8 @@ module _ {x : ℕ} {buffer : List ℕ} {from rest : ℕ} (s : Spelled x buffer f
         record {
           fuel = s .fuel - 1;
           enough = omega (arith, s .enough);
-          same = rw (f, e, before buffer from (48 + rest % 10) (s .within)) (sym (pick-no (ltb rest 10) _ _ (le-ltb rest 10 h)) ∙ s .same);
-          within = simp length-set (omega (arith, s .within));
+          same = rw (f, e, before buffer from (48 + rest % 10) (s .in-buffer)) (sym (pick-no (ltb rest 10) _ _ (le-ltb rest 10 h)) ∙ s .same);
+          in-buffer = simp length-set (omega (arith, s .in-buffer));
           room = rw e (t .1);
         },
       )
@@ -52,6 +52,6 @@ module _ {x : ℕ} {buffer : List ℕ} {from rest : ℕ} (s : Spelled x buffer f
   unfolding digitsTo
   last size e h =
       take-all (size - from) _ (simp (length-drop, length-set) (omega arith))
-      ∙ before buffer from (48 + rest) (s .within)
+      ∙ before buffer from (48 + rest) (s .in-buffer)
       ∙ sym (pick-yes (ltb rest 10) _ _ (lt-ltb rest 10 h))
       ∙ s .same

@@ -15,7 +15,7 @@ use Rattle.integers.proofs.Z.{ints, flat, le-true, min-is, max-is}
 use Rattle.integers.proofs.Division.{floor-hi, ceil-lo}
 use Rattle.sheet_spec.specs.Slots.{N, rowAt}
 use Rattle.machine_spec.specs.declared.Law.the-variants.{Baseline}
-use Rattle.machine_spec.specs.Machine.{Machine, machine, rowOf, commandAt, clamp, numerator, change, Allowed, Tick}
+use Rattle.machine_spec.specs.Machine.{Machine, machine, rowOf, offeredAt, clamp, numerator, change, Allowed, Tick}
 use Rattle.machine_spec.proofs.Everything.{everything}
 
 -- two variables and one band; each variable changes by the command, which lies in 0..1
@@ -29,7 +29,7 @@ v = (pos 2 ∷ pos 1 ∷ pos 1 ∷ pos 0 ∷ pos 4 ∷ pos 4 ∷ pos 4 ∷ pos 0
 abbrev m : Machine
 m = machine v Baseline
 
-commands : (x : List ℤ) → (commandAt false m 0 x ≡ pos 0) × (commandAt true m 0 x ≡ pos 1)
+commands : (x : List ℤ) → (offeredAt false m 0 x ≡ pos 0) × (offeredAt true m 0 x ≡ pos 1)
 unfolding everything
 commands x = (refl, refl)
 

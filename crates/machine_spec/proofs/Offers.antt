@@ -12,54 +12,54 @@ use Rattle.sheet_spec.specs.Valid.{Between, Valid}
 use Rattle.machine_spec.specs.declared.Law.{Law}
 use Rattle.machine_spec.specs.declared.Law.the-variants.{Baseline, Command}
 use Rattle.machine_spec.specs.Box.{In}
-use Rattle.machine_spec.specs.Machine.{Machine, machine, varsOf, bandsOf, commandAt, Offered}
+use Rattle.machine_spec.specs.Machine.{Machine, machine, varsOf, bandsOf, offeredAt, Offered}
 use Rattle.machine_spec.specs.Accepted.{Lawful, Accepted}
-use Rattle.machine_spec.specs.Rate.{commandOver}
+use Rattle.machine_spec.specs.Rate.{offeredOver}
 use Rattle.machine_spec.proofs.Face.{Beyond, beyond-refl}
 use Rattle.machine_spec.proofs.Inside.{Inside, Ordered, corner}
 
 module _ (m : Machine) (k : ℕ) where
   -- neither the least nor the greatest command at a state of the box is beyond its bound
-  over-beyond : (B x : List ℤ) → In (varsOf m) B x → (up : Bool) → Beyond up (commandOver up m k B) (commandAt up m k x)
-  unfolding commandAt commandOver
-  over-beyond B x b up = beyond-refl up (commandAt up m k x)
+  over-beyond : (B x : List ℤ) → In (varsOf m) B x → (up : Bool) → Beyond up (offeredOver up m k B) (offeredAt up m k x)
+  unfolding offeredAt offeredOver
+  over-beyond B x b up = beyond-refl up (offeredAt up m k x)
 
   -- OFFERED COMMANDS LIE WITHIN THE BOUNDS over a box that holds the state
-  pub offered-within : (B x : List ℤ) {u : ℤ} → In (varsOf m) B x → Offered m k x u → Between (commandOver false m k B) (commandOver true m k B) u
-  offered-within B x b o = record { low = omega (ints, over-beyond B x b false .order, o .low); high = omega (ints, over-beyond B x b true .order, o .high) }
+  pub offered-between : (B x : List ℤ) {u : ℤ} → In (varsOf m) B x → Offered m k x u → Between (offeredOver false m k B) (offeredOver true m k B) u
+  offered-between B x b o = record { low = omega (ints, over-beyond B x b false .order, o .low); high = omega (ints, over-beyond B x b true .order, o .high) }
 
   -- a wider box has wider bounds
-  pub over-wider : (A B : List ℤ) → Ordered (varsOf m) A → Inside (varsOf m) A B → (up : Bool) → Beyond up (commandOver up m k B) (commandOver up m k A)
-  unfolding commandOver
-  over-wider A B o s up = beyond-refl up (commandOver up m k B)
+  pub over-wider : (A B : List ℤ) → Ordered (varsOf m) A → Inside (varsOf m) A B → (up : Bool) → Beyond up (offeredOver up m k B) (offeredOver up m k A)
+  unfolding offeredOver
+  over-wider A B o s up = beyond-refl up (offeredOver up m k B)
 
 -- ---- of an accepted machine
 
 module _ {v : List ℤ} (wf : Valid v) (k : ℕ) (h : k < bands v) where
-  ordered-at : (l : Law) → Lawful v l → (x : List ℤ) → commandAt false (machine v l) k x ≤ℤ commandAt true (machine v l) k x
-  unfolding commandAt
+  ordered-at : (l : Law) → Lawful v l → (x : List ℤ) → offeredAt false (machine v l) k x ≤ℤ offeredAt true (machine v l) k x
+  unfolding offeredAt
   ordered-at Baseline t x = wf .safety k h
   ordered-at (Command u) t x = ≤ℤ-refl u
 
   head-near : {u : ℤ} → Between (leastCommand v) (greatestCommand v) u → Bound u maxCommand
   head-near b = bound-in (omega (ints, wf .commands-low, b .low)) (omega (ints, wf .commands-high, b .high))
 
-  near-over : (l : Law) → Lawful v l → (up : Bool) (B : List ℤ) → Bound (commandOver up (machine v l) k B) maxCommand
-  unfolding commandOver
+  near-over : (l : Law) → Lawful v l → (up : Bool) (B : List ℤ) → Bound (offeredOver up (machine v l) k B) maxCommand
+  unfolding offeredOver
   near-over Baseline t false B = head-near (record { low = wf .safety-low k h; high = omega (ints, wf .safety k h, wf .safety-high k h) })
   near-over Baseline t true B = head-near (record { low = omega (ints, wf .safety-low k h, wf .safety k h); high = wf .safety-high k h })
   near-over (Command u) t up B = head-near t
 
 module _ {m : Machine} (wf : Accepted m) (k : ℕ) (h : k < bandsOf m) where
   -- some command is offered at every state
-  pub offers-some : (x : List ℤ) → commandAt false m k x ≤ℤ commandAt true m k x
+  pub offers-some : (x : List ℤ) → offeredAt false m k x ≤ℤ offeredAt true m k x
   offers-some x = ordered-at (wf .sheet) k h (m .law) (wf .law) x
 
   -- so the bounds over a box that is not empty are in order
-  pub over-ordered : (B : List ℤ) → Ordered (varsOf m) B → commandOver false m k B ≤ℤ commandOver true m k B
+  pub over-ordered : (B : List ℤ) → Ordered (varsOf m) B → offeredOver false m k B ≤ℤ offeredOver true m k B
   over-ordered B o =
       let c = corner o in
       omega (ints, over-beyond m k B B c false .order, offers-some B, over-beyond m k B B c true .order)
 
-  pub over-near : (up : Bool) (B : List ℤ) → Bound (commandOver up m k B) maxCommand
+  pub over-near : (up : Bool) (B : List ℤ) → Bound (offeredOver up m k B) maxCommand
   over-near up B = near-over (wf .sheet) k h (m .law) (wf .law) up B

@@ -17,7 +17,7 @@ use Rattle.machine_spec.proofs.Inside.{Inside, Ordered}
 use Rattle.machine_spec.proofs.Facts.{cap-low, divisor}
 use Rattle.machine_spec.proofs.Offers.{over-wider, over-ordered}
 use Rattle.machine_spec.proofs.Bands.{Band, meets-read, meets-show, meets-wider}
-use Rattle.machine_spec.proofs.Sound.{change-within, beyond-neutral, rate-bounds}
+use Rattle.machine_spec.proofs.Sound.{change-between, beyond-neutral, rate-bounds}
 use Rattle.machine_spec.proofs.Progress.{goes-on}
 
 -- ---- a wider box has wider rates
@@ -60,7 +60,7 @@ module _ {m : Machine} (wf : Accepted m) (A B : List ℤ) (o : Ordered (varsOf m
       (λ t. change-mono up (cap m i) (rowOf m k i) _ _ (divisor (wf .sheet) k i g h)
       (bound-mono up (varsOf m) (rowOf m k i) (part m k A) (part m k B) (part-ordered k t) (part-inside k t) (over-ordered wf k g _ (part-ordered k t))
       (over-wider m k _ _ (part-ordered k t) (part-inside k t) false .order) (over-wider m k _ _ (part-ordered k t) (part-inside k t) true .order)))
-      (beyond-neutral (change-within up (cap m i) (rowOf m k i) _ (cap-low (wf .sheet) i h)) up)
+      (beyond-neutral (change-between up (cap m i) (rowOf m k i) _ (cap-low (wf .sheet) i h)) up)
 
   pub rate-mono : (up : Bool) (i : ℕ) → i < varsOf m → Beyond up (rate up m B i) (rate up m A i)
   unfolding rate

@@ -12,7 +12,7 @@ use Rattle.integers.proofs.Z.{ints, flat}
 use Rattle.integers.proofs.Division.{floor-le-ceil, ceil-mono}
 use Rattle.sheet_spec.specs.Slots.{_!_, N, Row}
 use Rattle.machine_spec.specs.Box.{boxOf}
-use Rattle.machine_spec.specs.Machine.{Machine, varsOf, bandsOf, bandVarOf, cap, rowOf, commandAt, numerator, change, Tick}
+use Rattle.machine_spec.specs.Machine.{Machine, varsOf, bandsOf, bandVarOf, cap, rowOf, offeredAt, numerator, change, Tick}
 use Rattle.machine_spec.specs.Accepted.{Accepted}
 use Rattle.machine_spec.proofs.Box.{sides-lo, sides-length}
 use Rattle.machine_spec.proofs.Face.{clamp-mono}
@@ -64,7 +64,7 @@ goes-on {m} x wf b = record {
 }
   where
     u : ℤ
-    u = commandAt false m (b .band) x
+    u = offeredAt false m (b .band) x
 
     f : ℕ → ℤ
     f i = change false (cap m i) (rowOf m (b .band) i) (numerator (varsOf m) (rowOf m (b .band) i) x u)

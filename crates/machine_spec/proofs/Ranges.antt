@@ -23,7 +23,7 @@ use Rattle.machine_spec.proofs.Inside.{hull-side, moved-side, trim-side
 use Rattle.machine_spec.proofs.Neighborhood.{inward, cut, sides-one}
 use Rattle.machine_spec.proofs.Facts.{room, cap-low, cap-near}
 use Rattle.machine_spec.proofs.Offers.{over-near}
-use Rattle.machine_spec.proofs.Sound.{rate-within}
+use Rattle.machine_spec.proofs.Sound.{rate-between}
 
 pub near-less : {n b c : ℕ} {B : List ℤ} → b ≤ c → Near n b B → Near n c B
 near-less h k = record { at = λ up i l. bound-less (k .at up i l) h }
@@ -90,7 +90,7 @@ neighborhood-near {b} {S} {E} {reach} room z s e up i h = record { at = λ face 
 module _ {v : List ℤ} (wf : Valid v) (l : Law) where
   rate-near : (up : Bool) (B : List ℤ) (i : ℕ) → i < vars v → Bound (rate up (machine v l) B i) maxCap
   rate-near up B i h =
-      let w = rate-within up (machine v l) B i (cap-low wf i h) in
+      let w = rate-between up (machine v l) B i (cap-low wf i h) in
       bound-in (omega (ints, w .low, neg (cap v i), wf .caps i h .high)) (omega (ints, w .high, wf .caps i h .high))
 
   pub rates-near : (S : List ℤ) (k : ℕ) (E : List ℤ) → Near (vars v) maxCap (rates (machine v l) S k E)

@@ -13,10 +13,10 @@ use Rattle.sheet_spec.specs.Slots.{_!_, Row}
 use Rattle.sheet_spec.specs.Valid.{Between, Valid}
 use Rattle.machine_spec.specs.Box.{In}
 use Rattle.machine_spec.specs.Machine.{Machine, varsOf, bandsOf, bandVarOf, cap, rowOf, bandHolds, clamp, numerator, change, Tick}
-use Rattle.machine_spec.specs.Rate.{outer, outermost, weighted, bound, bandMet, part, commandOver, neutral, bandRate, rate}
+use Rattle.machine_spec.specs.Rate.{outer, outermost, weighted, bound, bandMet, part, offeredOver, neutral, bandRate, rate}
 use Rattle.machine_spec.proofs.Face.{Beyond, beyond-refl, beyond-trans, beyond-sum, sum-beyond, span, change-mono, cond-one, outer-one, outermost-one, outermost-at}
 use Rattle.machine_spec.proofs.Facts.{cap-low, divisor}
-use Rattle.machine_spec.proofs.Offers.{offered-within}
+use Rattle.machine_spec.proofs.Offers.{offered-between}
 use Rattle.machine_spec.proofs.Bands.{meets-read, meets-show, meets-wider}
 
 -- ---- a row over a box that holds the state, and over commands that hold the one used
@@ -30,7 +30,7 @@ bound-holds up n r B x u v w b h k =
 pub record InPart (m : Machine) (B : List ℤ) (k : ℕ) (x : List ℤ) (u : ℤ) : Type 0 where
   pub meets : T (bandMet m k B)
   pub state : In (varsOf m) (part m k B) x
-  pub command : Between (commandOver false m k (part m k B)) (commandOver true m k (part m k B)) u
+  pub command : Between (offeredOver false m k (part m k B)) (offeredOver true m k (part m k B)) u
 
 -- the part of a box that a band's row is bounded over holds those of the box's states that are in the band
 pub part-holds : (m : Machine) (k : ℕ) (B x : List ℤ) → In (varsOf m) B x → T (bandHolds m k x) → In (varsOf m) (part m k B) x
@@ -40,7 +40,7 @@ pub tick-in-part : {m : Machine} {x y : List ℤ} (B : List ℤ) → Valid (m .s
 tick-in-part {m} {x} B wf b t = let s = part-holds m (t .band) B x b (t .holds) in record {
   meets = meets-show (meets-wider (b .low (bandVarOf m) (wf .var)) (b .high (bandVarOf m) (wf .var)) (meets-read (t .holds)));
   state = s;
-  command = offered-within m (t .band) (part m (t .band) B) x s (t .offered);
+  command = offered-between m (t .band) (part m (t .band) B) x s (t .offered);
 }
 
 -- ---- the rates
@@ -58,14 +58,14 @@ share-bounds {m} {B} {k} {x} {u} up i c q =
     (change-mono up (cap m i) (rowOf m k i) _ _ q (bound-holds up (varsOf m) (rowOf m k i) (part m k B) x _ u _ (c .state) (c .command .low) (c .command .high)))
 
 -- a change lies within the cap
-clamp-within : (c z : ℤ) → pos 0 ≤ℤ c → Between (negℤ c) c (clamp c z)
+clamp-between : (c z : ℤ) → pos 0 ≤ℤ c → Between (negℤ c) c (clamp c z)
 unfolding clamp
-clamp-within c z h = record { low = omega (ints, max-is (negℤ c) (minZ z c)); high = omega (ints, max-is (negℤ c) (minZ z c), min-is z c, neg c) }
+clamp-between c z h = record { low = omega (ints, max-is (negℤ c) (minZ z c)); high = omega (ints, max-is (negℤ c) (minZ z c), min-is z c, neg c) }
 
-pub change-within : (up : Bool) (c : ℤ) (r : Row) (n : ℤ) → pos 0 ≤ℤ c → Between (negℤ c) c (change up c r n)
+pub change-between : (up : Bool) (c : ℤ) (r : Row) (n : ℤ) → pos 0 ≤ℤ c → Between (negℤ c) c (change up c r n)
 unfolding change
-change-within false c r n h = clamp-within c _ h
-change-within true c r n h = clamp-within c _ h
+change-between false c r n h = clamp-between c _ h
+change-between true c r n h = clamp-between c _ h
 
 -- what lies within the cap is no further out than the one neutral value, and no further in than the other
 pub neutral-beyond : {c y : ℤ} → Between (negℤ c) c y → (up : Bool) → Beyond up (neutral (not up) c) y
@@ -84,8 +84,8 @@ unfolding outer neutral
 outer-neutral {c} {z} h false = omega (ints, min-is z c, h .high)
 outer-neutral {c} {z} h true = omega (ints, max-is z (negℤ c), h .low)
 
-pub outer-within : {c z : ℤ} → Between (negℤ c) c z → (up : Bool) (r : Row) (n : ℤ) → Between (negℤ c) c (outer up z (change up c r n))
-outer-within {c} h up r n = outer-one (Between (negℤ c) c) up h (change-within up c r n (omega (ints, h .low, h .high, neg c)))
+pub outer-between : {c z : ℤ} → Between (negℤ c) c z → (up : Bool) (r : Row) (n : ℤ) → Between (negℤ c) c (outer up z (change up c r n))
+outer-between {c} h up r n = outer-one (Between (negℤ c) c) up h (change-between up c r n (omega (ints, h .low, h .high, neg c)))
 
 module _ {m : Machine} {x y : List ℤ} (wf : Valid (m .sheet)) (t : Tick m x y) (i : ℕ) (h : i < varsOf m) where
   allowed : (up : Bool) → Beyond up (change up (cap m i) (rowOf m (t .band) i) (numerator (varsOf m) (rowOf m (t .band) i) x (t .used))) (y ! i -ℤ x ! i)
@@ -101,22 +101,22 @@ module _ {m : Machine} {x y : List ℤ} (wf : Valid (m .sheet)) (t : Tick m x y)
 
   -- and by no more than its cap
   pub cap-bounds : (up : Bool) → Beyond up (neutral (not up) (cap m i)) (y ! i -ℤ x ! i)
-  cap-bounds up = beyond-trans (neutral-beyond (change-within up (cap m i) _ _ (cap-low wf i h)) up) (allowed up)
+  cap-bounds up = beyond-trans (neutral-beyond (change-between up (cap m i) _ _ (cap-low wf i h)) up) (allowed up)
 
 -- the rates too lie within the cap
-neutral-within : (up : Bool) (c : ℤ) → pos 0 ≤ℤ c → Between (negℤ c) c (neutral up c)
+neutral-between : (up : Bool) (c : ℤ) → pos 0 ≤ℤ c → Between (negℤ c) c (neutral up c)
 unfolding neutral
-neutral-within false c h = record { low = omega (ints, neg c); high = ≤ℤ-refl c }
-neutral-within true c h = record { low = ≤ℤ-refl (negℤ c); high = omega (ints, neg c) }
+neutral-between false c h = record { low = omega (ints, neg c); high = ≤ℤ-refl c }
+neutral-between true c h = record { low = ≤ℤ-refl (negℤ c); high = omega (ints, neg c) }
 
 -- the outermost of some bands' shares, and so a rate
-pub outermost-within : (up : Bool) (m : Machine) (B : List ℤ) (i n : ℕ) → pos 0 ≤ℤ cap m i → Between (negℤ (cap m i)) (cap m i) (outermost up (neutral up (cap m i)) n (bandRate up m B i))
+pub outermost-between : (up : Bool) (m : Machine) (B : List ℤ) (i n : ℕ) → pos 0 ≤ℤ cap m i → Between (negℤ (cap m i)) (cap m i) (outermost up (neutral up (cap m i)) n (bandRate up m B i))
 unfolding bandRate
-outermost-within up m B i n h =
-    let z = neutral-within up (cap m i) h in
+outermost-between up m B i n h =
+    let z = neutral-between up (cap m i) h in
     outermost-one (Between (negℤ (cap m i)) (cap m i)) up n (bandRate up m B i) z
-    (λ k g. cond-one (Between (negℤ (cap m i)) (cap m i)) (bandMet m k B) (change-within up (cap m i) (rowOf m k i) _ h) z)
+    (λ k g. cond-one (Between (negℤ (cap m i)) (cap m i)) (bandMet m k B) (change-between up (cap m i) (rowOf m k i) _ h) z)
 
-pub rate-within : (up : Bool) (m : Machine) (B : List ℤ) (i : ℕ) → pos 0 ≤ℤ cap m i → Between (negℤ (cap m i)) (cap m i) (rate up m B i)
+pub rate-between : (up : Bool) (m : Machine) (B : List ℤ) (i : ℕ) → pos 0 ≤ℤ cap m i → Between (negℤ (cap m i)) (cap m i) (rate up m B i)
 unfolding rate
-rate-within up m B i h = outermost-within up m B i (bandsOf m) h
+rate-between up m B i h = outermost-between up m B i (bandsOf m) h

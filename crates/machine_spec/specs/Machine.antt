@@ -59,12 +59,12 @@ safetyEnd false v k = sheet.safetyLeast v k
 safetyEnd true v k = sheet.safetyGreatest v k
 
 -- the least and the greatest command that the law offers in band k at the state x: under the plain law those of the safety range
-unfoldable pub commandAt : Bool → Machine → ℕ → List ℤ → ℤ
-commandAt up m k x = elim (m .law) [ Baseline ↦ safetyEnd up (m .sheet) k | Command u ↦ u ]
+unfoldable pub offeredAt : Bool → Machine → ℕ → List ℤ → ℤ
+offeredAt up m k x = elim (m .law) [ Baseline ↦ safetyEnd up (m .sheet) k | Command u ↦ u ]
 
 -- the law offers the command u there
 abbrev pub Offered : Machine → ℕ → List ℤ → ℤ → Type 0
-Offered m k x u = Between (commandAt false m k x) (commandAt true m k x) u
+Offered m k x u = Between (offeredAt false m k x) (offeredAt true m k x) u
 
 -- ---- the allowed change
 

@@ -41,12 +41,12 @@ abbrev pub part : Machine → ℕ → List ℤ → List ℤ
 part m k B = B
 
 -- bounds of the least and of the greatest command that the law offers in band k, over the states of a box
-unfoldable pub commandOver : Bool → Machine → ℕ → List ℤ → ℤ
-commandOver up m k B = elim (m .law) [ Baseline ↦ safetyEnd up (m .sheet) k | Command u ↦ u ]
+unfoldable pub offeredOver : Bool → Machine → ℕ → List ℤ → ℤ
+offeredOver up m k B = elim (m .law) [ Baseline ↦ safetyEnd up (m .sheet) k | Command u ↦ u ]
 
 -- the number N of band k's row for variable i, bounded over a box and over the commands that the law offers there
 abbrev pub rowOver : Bool → Machine → List ℤ → ℕ → ℕ → ℤ
-rowOver up m B i k = bound up (varsOf m) (rowOf m k i) B (commandOver false m k B) (commandOver true m k B)
+rowOver up m B i k = bound up (varsOf m) (rowOf m k i) B (offeredOver false m k B) (offeredOver true m k B)
 
 -- the value that leaves the outermost as it is
 unfoldable pub neutral : Bool → ℤ → ℤ

@@ -16,7 +16,7 @@ use Rattle.sheet_spec.specs.Box.{lo, hi, all}
 use Rattle.machine_spec.specs.Box.{In}
 use Rattle.machine_spec.specs.declared.Law.{Law}
 use Rattle.machine_spec.specs.declared.Law.the-variants.{Baseline}
-use Rattle.machine_spec.specs.Machine.{Machine, machine, varsOf, bandsOf, cap, rowOf, bandHolds, commandAt, numerator, change, Tick}
+use Rattle.machine_spec.specs.Machine.{Machine, machine, varsOf, bandsOf, cap, rowOf, bandHolds, offeredAt, numerator, change, Tick}
 use Rattle.sheet_spec.proofs.Box.{differ, and-both, all-at}
 use Rattle.decision_spec.specs.Question.{measured}
 use Rattle.safety.specs.Run.{Period, kept, acting, Measured, Run}
@@ -45,7 +45,7 @@ allows m x t i =
 unfoldable pub ticks : Machine → List ℤ → Moment → Bool
 ticks m x t =
     eqb (length (t .state)) (varsOf m) && (ltb (t .band) (bandsOf m) && (bandHolds m (t .band) x
-    && (leZ (commandAt false m (t .band) x) (t .used) && (leZ (t .used) (commandAt true m (t .band) x) && all (varsOf m) (allows m x t)))))
+    && (leZ (offeredAt false m (t .band) x) (t .used) && (leZ (t .used) (offeredAt true m (t .band) x) && all (varsOf m) (allows m x t)))))
 
 unfoldable pub follows : List ℤ → List Law → List ℤ → List Moment → Bool
 follows v [] x ts = true
@@ -76,8 +76,8 @@ ticks-tick m x t e =
     let a = and-both (eqb (length (t .state)) (varsOf m)) _ e in
     let b = and-both (ltb k (bandsOf m)) _ (a .1) in
     let c = and-both (bandHolds m k x) _ (b .1) in
-    let d = and-both (leZ (commandAt false m k x) (t .used)) _ (c .1) in
-    let g = and-both (leZ (t .used) (commandAt true m k x)) _ (d .1) in
+    let d = and-both (leZ (offeredAt false m k x) (t .used)) _ (c .1) in
+    let g = and-both (leZ (t .used) (offeredAt true m k x)) _ (d .1) in
     record {
       size = eqb→eq (length (t .state)) (varsOf m) (passes (a .0));
       band = k;

@@ -13,17 +13,17 @@ use mir.Facts.{toZ-pos, toZ-neg, sfits-toZ, sfits-widen}
 use Rattle.integers.specs.Bytes.{be}
 use Rattle.integers.proofs.Bytes.{be-two, be-four}
 use Rattle.integers.proofs.Z.{ints, flat}
-use Rattle.sheet_spec.specs.Fields.{u8, u16, i32, width}
+use Rattle.sheet_spec.specs.Fields.{u8, u16, i32, bytesIn}
 use Rattle.sheet_spec.proofs.Streams.{lt-or-le}
 
-pub be-one : (s : List ℕ) (at : ℕ) → at + width u8 ≤ length s → be (take (width u8) (drop at s)) ≡ getD s at 0
+pub be-one : (s : List ℕ) (at : ℕ) → at + bytesIn u8 ≤ length s → be (take (bytesIn u8) (drop at s)) ≡ getD s at 0
 unfolding be
 be-one s at h = rw (drop-cons s at 0 (omega arith)) (omega arith)
 
-pub be-split : (s : List ℕ) (at : ℕ) → at + width i32 ≤ length s → be (take (width i32) (drop at s)) ≡ be (take (width u16) (drop at s)) * 65536 + be (take (width u16) (drop (at + width u16) s))
+pub be-split : (s : List ℕ) (at : ℕ) → at + bytesIn i32 ≤ length s → be (take (bytesIn i32) (drop at s)) ≡ be (take (bytesIn u16) (drop at s)) * 65536 + be (take (bytesIn u16) (drop (at + bytesIn u16) s))
 be-split s at h =
-    let e : at + width u16 + 1 ≡ at + 3 = omega arith in
-    omega (arith, be-four s at h, be-two s at (omega arith), be-two s (at + width u16) (omega arith), ap (λ (i : ℕ). getD s i 0) e)
+    let e : at + bytesIn u16 + 1 ≡ at + 3 = omega arith in
+    omega (arith, be-four s at h, be-two s at (omega arith), be-two s (at + bytesIn u16) (omega arith), ap (λ (i : ℕ). getD s i 0) e)
 
 less-pos : (a b : ℕ) → pos (a + b) -ℤ pos b ≡ pos a
 less-pos a b = simp flat (omega ints)

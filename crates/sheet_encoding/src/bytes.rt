@@ -7,7 +7,7 @@ ghost use mir.Syntax.{w32};
 ghost use mir.Val.{ofZ};
 ghost use Rattle.integers.specs.Bytes.{be};
 ghost use Rattle.sheet_spec.specs.Slots.{_!_, slots};
-ghost use Rattle.sheet_spec.specs.Fields.{u8, u16, i16, i32, width, decoded, encoded};
+ghost use Rattle.sheet_spec.specs.Fields.{u8, u16, i16, i32, bytesIn, decoded, encoded};
 use sheet_spec::sizes::U16;
 use sheet_spec::slots::SLOTS;
 
@@ -19,43 +19,43 @@ fn wide(b: u8) -> u32
 
 // The number that two bytes are.
 fn two(f: &[u8], at: usize) -> u32
-    requires { ⌜ at + width u16 ≤ length (now f) ⌝ }
-    ensures { λ r. ⌜ (r ≡ be (take (width u16) (drop at (now (f .entry))))) × (r < 65536) ⌝ }
+    requires { ⌜ at + bytesIn u16 ≤ length (now f) ⌝ }
+    ensures { λ r. ⌜ (r ≡ be (take (bytesIn u16) (drop at (now (f .entry))))) × (r < 65536) ⌝ }
 {
     wide(f[at]) * 256 + wide(f[at + 1])
 }
 
 // The number that four bytes are.
 pub fn four(f: &[u8], at: usize) -> u32
-    requires { ⌜ at + width i32 ≤ length (now f) ⌝ }
-    ensures { λ r. ⌜ r ≡ be (take (width i32) (drop at (now (f .entry)))) ⌝ }
+    requires { ⌜ at + bytesIn i32 ≤ length (now f) ⌝ }
+    ensures { λ r. ⌜ r ≡ be (take (bytesIn i32) (drop at (now (f .entry)))) ⌝ }
 {
     two(f, at) * 65536 + two(f, at + U16)
 }
 
 pub fn get_u8(f: &[u8], at: usize) -> i32
-    requires { ⌜ at + width u8 ≤ length (now f) ⌝ }
+    requires { ⌜ at + bytesIn u8 ≤ length (now f) ⌝ }
     ensures { λ r. ⌜ r ≡ decoded u8 (drop at (now (f .entry))) ⌝ }
 {
     wide(f[at]) as i32
 }
 
 pub fn get_u16(f: &[u8], at: usize) -> i32
-    requires { ⌜ at + width u16 ≤ length (now f) ⌝ }
+    requires { ⌜ at + bytesIn u16 ≤ length (now f) ⌝ }
     ensures { λ r. ⌜ r ≡ decoded u16 (drop at (now (f .entry))) ⌝ }
 {
     two(f, at) as i32
 }
 
 pub fn get_i16(f: &[u8], at: usize) -> i32
-    requires { ⌜ at + width i16 ≤ length (now f) ⌝ }
+    requires { ⌜ at + bytesIn i16 ≤ length (now f) ⌝ }
     ensures { λ r. ⌜ r ≡ decoded i16 (drop at (now (f .entry))) ⌝ }
 {
     ((two(f, at) + 0x8000) % 0x1_0000) as i32 - 0x8000
 }
 
 pub fn get_i32(f: &[u8], at: usize) -> i32
-    requires { ⌜ at + width i32 ≤ length (now f) ⌝ }
+    requires { ⌜ at + bytesIn i32 ≤ length (now f) ⌝ }
     ensures { λ r. ⌜ r ≡ decoded i32 (drop at (now (f .entry))) ⌝ }
 {
     let u = four(f, at);
@@ -81,7 +81,7 @@ fn bits(v: &[i32; SLOTS], slot: usize) -> u32
 
 // Each of the following writes the number at a slot.
 pub fn put_u8(s: &mut [u8], at: usize, v: &[i32; SLOTS], slot: usize)
-    requires { ⌜ (at + width u8 ≤ length (now s)) × (slot < slots) ⌝ }
+    requires { ⌜ (at + bytesIn u8 ≤ length (now s)) × (slot < slots) ⌝ }
     ensures { λ _. ⌜ now (s .exit) ≡ sets (now (s .entry)) at (encoded u8 (now (v .entry) ! slot)) ⌝ }
 {
     s[at] = (bits(v, slot) % 256) as u8;
@@ -89,7 +89,7 @@ pub fn put_u8(s: &mut [u8], at: usize, v: &[i32; SLOTS], slot: usize)
 
 // Two bytes, of an i16 too: they are the last two of its bits.
 pub fn put_u16(s: &mut [u8], at: usize, v: &[i32; SLOTS], slot: usize)
-    requires { ⌜ (at + width u16 ≤ length (now s)) × (slot < slots) ⌝ }
+    requires { ⌜ (at + bytesIn u16 ≤ length (now s)) × (slot < slots) ⌝ }
     ensures { λ _. ⌜ now (s .exit) ≡ sets (now (s .entry)) at (encoded u16 (now (v .entry) ! slot)) ⌝ }
 {
     let u = bits(v, slot);
@@ -98,7 +98,7 @@ pub fn put_u16(s: &mut [u8], at: usize, v: &[i32; SLOTS], slot: usize)
 }
 
 pub fn put_i32(s: &mut [u8], at: usize, v: &[i32; SLOTS], slot: usize)
-    requires { ⌜ (at + width i32 ≤ length (now s)) × (slot < slots) ⌝ }
+    requires { ⌜ (at + bytesIn i32 ≤ length (now s)) × (slot < slots) ⌝ }
     ensures { λ _. ⌜ now (s .exit) ≡ sets (now (s .entry)) at (encoded i32 (now (v .entry) ! slot)) ⌝ }
 {
     let u = bits(v, slot);

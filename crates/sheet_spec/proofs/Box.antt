@@ -15,7 +15,7 @@ use lib.Seq.{getD-take, getD-drop}
 use borrow.Author.Tests.{ltb-true, ltb-false}
 use Rattle.integers.proofs.Z.{ints, le-true}
 use Rattle.sheet_spec.specs.Slots.{_!_, N, boxSize, boxAt}
-use Rattle.sheet_spec.specs.Box.{lo, hi, all, any, lowest, meets}
+use Rattle.sheet_spec.specs.Box.{lo, hi, all, any, lowestPassing, meets}
 use Rattle.sheet_spec.proofs.Streams.{lt-or-le}
 
 -- ---- tests
@@ -109,35 +109,35 @@ lowest-next n f i false e later = record { most = omega (arith, later .most); fi
     below zero l = e
     below (suc j) l = later .first j (omega arith)
 
-pub lowest-found : (n : ℕ) (f : ℕ → Bool) → Lowest n f (lowest n f)
-unfolding lowest
+pub lowest-found : (n : ℕ) (f : ℕ → Bool) → Lowest n f (lowestPassing n f)
+unfolding lowestPassing
 lowest-found zero f = record { most = omega arith; first = λ j l. absurd (omega arith); passes = λ l. absurd (omega arith) }
-lowest-found (suc n) f = lowest-next n f (lowest n (λ j. f (suc j))) (f 0) refl (lowest-found n (λ j. f (suc j)))
+lowest-found (suc n) f = lowest-next n f (lowestPassing n (λ j. f (suc j))) (f 0) refl (lowest-found n (λ j. f (suc j)))
 
 module _ {n : ℕ} {f : ℕ → Bool} where
   not-past : {i k : ℕ} → Lowest n f i → Lowest n f k → k ≤ i
   not-past {i} {k} p q = ⊎-elim (λ l. absurd (differ (p .passes (omega (arith, q .most))) (q .first i l))) (λ l. l) (lt-or-le i k)
 
-  pub lowest-is : {i : ℕ} → Lowest n f i → lowest n f ≡ i
+  pub lowest-is : {i : ℕ} → Lowest n f i → lowestPassing n f ≡ i
   lowest-is p = let q = lowest-found n f in omega (arith, not-past p q, not-past q p)
 
 module _ (n : ℕ) (f : ℕ → Bool) where
-  pub lowest-at : (i : ℕ) → i < n → any i f ≡ false → f i ≡ true → lowest n f ≡ i
+  pub lowest-at : (i : ℕ) → i < n → any i f ≡ false → f i ≡ true → lowestPassing n f ≡ i
   lowest-at i h none passes = lowest-is (record { most = omega arith; first = λ j. any-none i f j none; passes = λ _. passes })
 
-  pub lowest-none : any n f ≡ false → lowest n f ≡ n
+  pub lowest-none : any n f ≡ false → lowestPassing n f ≡ n
   lowest-none none = lowest-is (record { most = omega arith; first = λ j. any-none n f j none; passes = λ l. absurd (omega arith) })
 
 -- it is below n exactly if some i below n passes
-pub any-is : (n : ℕ) (f : ℕ → Bool) → any n f ≡ ltb (lowest n f) n
-any-is n f = by (ltb (lowest n f) n) refl
+pub any-is : (n : ℕ) (f : ℕ → Bool) → any n f ≡ ltb (lowestPassing n f) n
+any-is n f = by (ltb (lowestPassing n f) n) refl
   where
-    by : (t : Bool) → ltb (lowest n f) n ≡ t → any n f ≡ t
+    by : (t : Bool) → ltb (lowestPassing n f) n ≡ t → any n f ≡ t
     by true e =
-        let below = ltb-true (lowest n f) n e in
-        any-at n f (lowest n f) below (lowest-found n f .passes below)
+        let below = ltb-true (lowestPassing n f) n e in
+        any-at n f (lowestPassing n f) below (lowest-found n f .passes below)
     by false e =
-        let past = ltb-false (lowest n f) n e in
+        let past = ltb-false (lowestPassing n f) n e in
         any-of-none n f (λ i l. lowest-found n f .first i (omega arith))
 
 -- ---- boxes

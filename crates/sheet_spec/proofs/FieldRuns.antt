@@ -9,7 +9,7 @@ use lib.ListN.{set, drop}
 use Rattle.sheet_spec.specs.Slots.{_!_}
 use Rattle.sheet_spec.specs.Refusals.{firstRefusal, unlessRefused}
 use Rattle.sheet_spec.proofs.Laws.{stops-either, either-none}
-use Rattle.sheet_spec.specs.Fields.{Field, width, decoded, encoded, test, offset, filled, coded, bad}
+use Rattle.sheet_spec.specs.Fields.{Field, bytesIn, decoded, encoded, test, offset, filled, coded, bad}
 
 module _ (p q : ℕ → Field) (k : ℕ) where
   -- the m fields of p after the first k are those of q
@@ -25,7 +25,7 @@ module _ (p q : ℕ → Field) (k : ℕ) where
   pub offset-part : (m : ℕ) → Run m → offset p (k + m) ≡ offset p k + offset q m
   unfolding offset
   offset-part zero h = rw (add-zero k, add-zero)
-  offset-part (suc m) h = rw (add-suc k m, offset) (omega (arith, offset-part m (less h), ap (λ (x : Field). width (x .kind)) (last h)))
+  offset-part (suc m) h = rw (add-suc k m, offset) (omega (arith, offset-part m (less h), ap (λ (x : Field). bytesIn (x .kind)) (last h)))
 
   pub filled-part : (m : ℕ) → Run m → (f : List ℕ) (at : ℕ) (v : List ℤ) → filled p f at (k + m) v ≡ filled q f (at + offset p k) m (filled p f at k v)
   unfolding filled
@@ -68,9 +68,9 @@ module _ (p : ℕ → Field) (k m : ℕ) (l : m ≡ k + 1) (x : Field) (e : p k 
   is-suc : m ≡ suc k
   is-suc = omega arith
 
-  pub offset-next : offset p m ≡ offset p k + width (x .kind)
+  pub offset-next : offset p m ≡ offset p k + bytesIn (x .kind)
   unfolding offset
-  offset-next = rw (is-suc, offset) (ap (λ (y : Field). offset p k + width (y .kind)) e)
+  offset-next = rw (is-suc, offset) (ap (λ (y : Field). offset p k + bytesIn (y .kind)) e)
 
   pub filled-next : (f : List ℕ) (at : ℕ) (v : List ℤ) (a : ℕ) {w : List ℤ} {i : ℕ} {z : ℤ}
       → x .slot ≡ i → z ≡ decoded (x .kind) (drop a f) → a ≡ at + offset p k → w ≡ filled p f at k v → set w i z ≡ filled p f at m v

@@ -6,7 +6,7 @@ use native.Mathlib.Omega.{arith}
 use native.Mathlib.Nat.{zero-mul, suc-mul, mul-comm}
 use lib.IntN.{ℤ}
 use Rattle.sheet_spec.specs.Slots.{headSize, rowSlot, recoverySlot, unsafeSlot, vars, bands, boxes, restSize, firstRow, pairSize}
-use Rattle.sheet_spec.specs.Fields.{u16, i16, Field, width, offset}
+use Rattle.sheet_spec.specs.Fields.{u16, i16, Field, bytesIn, offset}
 use Rattle.sheet_spec.specs.Sizes.{letters, capsAt, capBytes, rowsAt, coefficientBytes, rowBytes, pairBytes, boxBytes, bandHead}
 use Rattle.sheet_spec.specs.Limits.{maxUnsafeSide, maxRecoverySide}
 use Rattle.sheet_spec.specs.declared.Record.{Record}
@@ -19,8 +19,8 @@ use Rattle.sheet_spec.proofs.Records.{head-at, band-at, unsafe-at, reco
 use Rattle.sheet_spec.proofs.FieldRuns.{Run, offset-part}
 use Rattle.sheet_spec.proofs.FieldPlaces.{cap-at, coefficient-at, rest-at, row-run, side-run}
 
--- fields of one width
-offset-flat : (p : ℕ → Field) (w k : ℕ) → ((j : ℕ) → j < k → width (p j .kind) ≡ w) → offset p k ≡ k * w
+-- fields of one size
+offset-flat : (p : ℕ → Field) (w k : ℕ) → ((j : ℕ) → j < k → bytesIn (p j .kind) ≡ w) → offset p k ≡ k * w
 unfolding offset
 offset-flat p w zero e = omega arith
 offset-flat p w (suc k) e = rw (suc-mul k w) (omega (arith, offset-flat p w k (λ j l. e j (omega arith)), e k (omega arith)))
@@ -35,10 +35,10 @@ offset-runs p q at m w e r h (suc i) = ap (offset p) (e i) ∙ omega (arith, off
 
 pub cap-offset : (i : ℕ) → letters + offset headFields (headSize + i) ≡ capsAt + capBytes i
 unfolding offset headFields _▸_
-cap-offset i = omega (arith, offset-part headFields capField headSize i (record { at = λ j l. cap-at j }), offset-flat capField (width u16) i (λ j l. refl))
+cap-offset i = omega (arith, offset-part headFields capField headSize i (record { at = λ j l. cap-at j }), offset-flat capField (bytesIn u16) i (λ j l. refl))
 
 pub coefficient-offset : (n s j : ℕ) → j ≤ n → offset (rowFields n s) j ≡ coefficientBytes j
-coefficient-offset n s j l = offset-flat (rowFields n s) (width i16) j (λ i k. ap (λ (x : Field). width (x .kind)) (coefficient-at n s i (omega arith))) ∙ mul-comm j (width i16)
+coefficient-offset n s j l = offset-flat (rowFields n s) (bytesIn i16) j (λ i k. ap (λ (x : Field). bytesIn (x .kind)) (coefficient-at n s i (omega arith))) ∙ mul-comm j (bytesIn i16)
 
 pub rest-offset : (n s q : ℕ) → offset (rowFields n s) (n + q) ≡ coefficientBytes n + offset (rowRest s) q
 rest-offset n s q = offset-part (rowFields n s) (rowRest s) n q (record { at = λ j l. rest-at n s j }) ∙ omega (arith, coefficient-offset n s n (omega arith))

@@ -16,7 +16,7 @@ use Rattle.integers.proofs.Bytes.{be-of, be-lt, of-be, length-beBytes, encode-d
 use Rattle.integers.proofs.Z.{ints, flat}
 use Rattle.sheet_spec.specs.Slots.{_!_}
 use Rattle.sheet_spec.specs.Valid.{Between}
-use Rattle.sheet_spec.specs.Fields.{Kind, u8, u16, i16, i32, Field, width, numberOf, decoded, encoded, offset, coded}
+use Rattle.sheet_spec.specs.Fields.{Kind, u8, u16, i16, i32, Field, bytesIn, numberOf, decoded, encoded, offset, coded}
 use Rattle.sheet_spec.proofs.Streams.{Each}
 use Rattle.sheet_spec.proofs.Ranges.{Fit, FieldFits}
 
@@ -32,8 +32,8 @@ bytes-drop : (m : ℕ) (bs : List ℕ) → Bytes bs → Bytes (drop m bs)
 bytes-drop m bs h k = rw (getD-drop m bs k 0) (h (m + k))
 
 -- the last two bytes of 32 bits are those of 16
-half : (z : ℤ) → SFits w16 z → beBytes (width i16) (ofZ w32 z) ≡ beBytes (width i16) (ofZ w16 z)
-half z h = cong (width i16) (ofZ w32 z) (ofZ w16 z) (go z h)
+half : (z : ℤ) → SFits w16 z → beBytes (bytesIn i16) (ofZ w32 z) ≡ beBytes (bytesIn i16) (ofZ w16 z)
+half z h = cong (bytesIn i16) (ofZ w32 z) (ofZ w16 z) (go z h)
   where
     go : (z : ℤ) → SFits w16 z → ofZ w32 z % 65536 ≡ ofZ w16 z % 65536
     go (pos n) h = refl
@@ -42,18 +42,18 @@ half z h = cong (width i16) (ofZ w32 z) (ofZ w16 z) (go z h)
 back : (m : ℕ) (bs : List ℕ) → m ≤ length bs → Bytes bs → beBytes m (be (take m bs)) ≡ take m bs
 back m bs l h = ap (λ (k : ℕ). beBytes k (be (take m bs))) (sym (length-take-le m bs l)) ∙ of-be (take m bs) (bytes-take m bs h)
 
-pub encoded-decoded : (k : Kind) (bs : List ℕ) → width k ≤ length bs → Bytes bs → encoded k (decoded k bs) ≡ take (width k) bs
+pub encoded-decoded : (k : Kind) (bs : List ℕ) → bytesIn k ≤ length bs → Bytes bs → encoded k (decoded k bs) ≡ take (bytesIn k) bs
 unfolding encoded decoded decode encode
-encoded-decoded u8 bs l h = back (width u8) bs l h
-encoded-decoded u16 bs l h = back (width u16) bs l h
+encoded-decoded u8 bs l h = back (bytesIn u8) bs l h
+encoded-decoded u16 bs l h = back (bytesIn u16) bs l h
 encoded-decoded i16 bs l h =
-    let f : Fits w16 (be (take (width i16) bs)) = record { fits = omega (arith, be-lt (take (width i16) bs) (bytes-take (width i16) bs h), ap (λ (k : ℕ). 256 ^ k) (length-take-le (width i16) bs l)) } in
-    half (toZ w16 (be (take (width i16) bs))) (sfits-toZ f) ∙ ap (beBytes (width i16)) (ofZ-toZ f) ∙ back (width i16) bs l h
-encoded-decoded i32 bs l h = encode-decode w32 (take (width i32) bs) (length-take-le (width i32) bs l) (bytes-take (width i32) bs h)
+    let f : Fits w16 (be (take (bytesIn i16) bs)) = record { fits = omega (arith, be-lt (take (bytesIn i16) bs) (bytes-take (bytesIn i16) bs h), ap (λ (k : ℕ). 256 ^ k) (length-take-le (bytesIn i16) bs l)) } in
+    half (toZ w16 (be (take (bytesIn i16) bs))) (sfits-toZ f) ∙ ap (beBytes (bytesIn i16)) (ofZ-toZ f) ∙ back (bytesIn i16) bs l h
+encoded-decoded i32 bs l h = encode-decode w32 (take (bytesIn i32) bs) (length-take-le (bytesIn i32) bs l) (bytes-take (bytesIn i32) bs h)
 
-pub length-encoded : (k : Kind) (z : ℤ) → length (encoded k z) ≡ width k
+pub length-encoded : (k : Kind) (z : ℤ) → length (encoded k z) ≡ bytesIn k
 unfolding encoded
-length-encoded k z = length-beBytes (width k) (ofZ w32 z)
+length-encoded k z = length-beBytes (bytesIn k) (ofZ w32 z)
 
 unsigned : (m : ℕ) (z : ℤ) (B : ℕ) → 256 ^ m ≡ suc B → Between (pos 0) (pos B) z → pos (be (beBytes m (ofZ w32 z))) ≡ z
 unsigned m (pos n) B e r = ap pos (be-of m n ∙ mod-eq-of-lt (rw e (omega (ints, r .high))))
@@ -61,14 +61,14 @@ unsigned m (negsuc n) B e r = absurd (r .low .le)
 
 own : (k : Kind) (z : ℤ) → Fit k z → numberOf k (encoded k z) ≡ z
 unfolding encoded decode encode
-own u8 z r = unsigned (width u8) z 255 refl r
-own u16 z r = unsigned (width u16) z 65535 refl r
+own u8 z r = unsigned (bytesIn u8) z 255 refl r
+own u16 z r = unsigned (bytesIn u16) z 65535 refl r
 own i16 z r = let f : SFits w16 z = simp flat (omega (ints, r .low, r .high)) in ap (λ (bs : List ℕ). toZ w16 (be bs)) (half z f) ∙ decode-encode w16 z f
 own i32 z r = decode-encode w32 z (simp flat (omega (ints, r .low, r .high)))
 
 pub decoded-encoded : (k : Kind) (z : ℤ) (rest : List ℕ) → Fit k z → decoded k (encoded k z ++ rest) ≡ z
 unfolding decoded
-decoded-encoded k z rest r = ap (numberOf k) (take-at (encoded k z) rest (width k) (length-encoded k z)) ∙ own k z r
+decoded-encoded k z rest r = ap (numberOf k) (take-at (encoded k z) rest (bytesIn k) (length-encoded k z)) ∙ own k z r
 
 -- ---- the first k fields of a record
 
@@ -88,8 +88,8 @@ module _ (p : ℕ → Field) (v : List ℤ) where
       ap₂ _++_ (coded-read f at k b (omega arith) (λ j q. h j (omega arith)))
       (ap (encoded (p k .kind)) (h k (omega arith))
       ∙ encoded-decoded (p k .kind) (drop (at + offset p k) f) (omega (arith, length-drop (at + offset p k) f)) (bytes-drop (at + offset p k) f b)
-      ∙ ap (take (width (p k .kind))) (sym (drop-drop (offset p k) at f)))
-      ∙ sym (take-add (offset p k) (width (p k .kind)) (drop at f))
+      ∙ ap (take (bytesIn (p k .kind))) (sym (drop-drop (offset p k) at f)))
+      ∙ sym (take-add (offset p k) (bytesIn (p k .kind)) (drop at f))
 
   -- values that were written are what the file says
   pub read-coded : (at k : ℕ) (pre post : List ℕ) → length pre ≡ at → Each (FieldFits v) p k

@@ -33,20 +33,20 @@ small v h = record {
 
 -- ---- kinds
 
-abbrev pub lowest : Kind → ℤ
-lowest u8 = pos 0
-lowest u16 = pos 0
-lowest i16 = negsuc 32767
-lowest i32 = negsuc 2147483647
+abbrev pub leastIn : Kind → ℤ
+leastIn u8 = pos 0
+leastIn u16 = pos 0
+leastIn i16 = negsuc 32767
+leastIn i32 = negsuc 2147483647
 
-abbrev pub highest : Kind → ℤ
-highest u8 = pos 255
-highest u16 = pos 65535
-highest i16 = pos 32767
-highest i32 = pos 2147483647
+abbrev pub greatestIn : Kind → ℤ
+greatestIn u8 = pos 255
+greatestIn u16 = pos 65535
+greatestIn i16 = pos 32767
+greatestIn i32 = pos 2147483647
 
 abbrev pub Fit : Kind → ℤ → Type 0
-Fit k z = Between (lowest k) (highest k) z
+Fit k z = Between (leastIn k) (greatestIn k) z
 
 lit : {l h z : ℤ} → T (leZ l z && leZ z h) → Between l h z
 lit {l} {h} {z} t = let q = and-yes (leZ l z) (leZ z h) t in record { low = leZ-yes (q .0); high = leZ-yes (q .1) }
@@ -97,8 +97,8 @@ module _ (v : List ℤ) (n : ℕ) where
   box-fit h s l b =
       each-groups n pairSize _ (λ i k.
       let p = each-side n h s b i k in
-      let e : Between (lowest i32) (highest i32) (negℤ (pos h)) = record { low = simp flat (omega ints); high = simp flat (omega ints) } in
-      let f : Between (lowest i32) (highest i32) (pos h) = record { low = omega ints; high = omega ints } in
+      let e : Between (leastIn i32) (greatestIn i32) (negℤ (pos h)) = record { low = simp flat (omega ints); high = simp flat (omega ints) } in
+      let f : Between (leastIn i32) (greatestIn i32) (pos h) = record { low = omega ints; high = omega ints } in
       let lower = between (p .at 0 (omega arith)) e f in
       each-next _ _ lower (record { at = λ j l. between (p .at 1 (omega arith)) lower f }))
 

@@ -24,9 +24,9 @@ any zero f = false
 any (suc n) f = any n f || f n
 
 -- the lowest i that passes, or n if none does
-unfoldable pub lowest : ℕ → (ℕ → Bool) → ℕ
-lowest zero f = 0
-lowest (suc n) f = elim (f 0) [ true ↦ 0 | false ↦ suc (lowest n (λ i. f (suc i))) ]
+unfoldable pub lowestPassing : ℕ → (ℕ → Bool) → ℕ
+lowestPassing zero f = 0
+lowestPassing (suc n) f = elim (f 0) [ true ↦ 0 | false ↦ suc (lowestPassing n (λ i. f (suc i))) ]
 
 -- ---- boxes
 
@@ -36,4 +36,4 @@ meets n A B = all n (λ i. leZ (lo A i) (hi B i) && leZ (lo B i) (hi A i))
 
 -- the lowest number, from 0, of the first `count` no-go boxes of the sheet v that share a state with B, or `count` if none does
 unfoldable pub lowestMet : ℕ → List ℤ → ℕ → List ℤ → ℕ
-lowestMet n v count B = lowest count (λ j. meets n B (unsafeBox v j))
+lowestMet n v count B = lowestPassing count (λ j. meets n B (unsafeBox v j))

@@ -24,11 +24,11 @@ pub record Field : Type 0 where
   pub cause : Cause
 
 -- the number of bytes of a number
-abbrev pub width : Kind → ℕ
-width u8 = 1
-width u16 = 2
-width i16 = 2
-width i32 = 4
+abbrev pub bytesIn : Kind → ℕ
+bytesIn u8 = 1
+bytesIn u16 = 2
+bytesIn i16 = 2
+bytesIn i32 = 4
 
 -- the number that bytes are, and the one that they begin with
 abbrev pub numberOf : Kind → List ℕ → ℤ
@@ -38,11 +38,11 @@ numberOf i16 bs = decode w16 bs
 numberOf i32 bs = decode w32 bs
 
 unfoldable pub decoded : Kind → List ℕ → ℤ
-decoded k bs = numberOf k (take (width k) bs)
+decoded k bs = numberOf k (take (bytesIn k) bs)
 
 -- a number's bytes, the last of its two's complement
 unfoldable pub encoded : Kind → ℤ → List ℕ
-encoded k z = beBytes (width k) (ofZ w32 z)
+encoded k z = beBytes (bytesIn k) (ofZ w32 z)
 
 -- 0 where the field's value lies in its range, else the refusal
 unfoldable pub test : List ℤ → Field → ℕ
@@ -53,7 +53,7 @@ test v x = refuseUnless (leZ (x .least v) (v ! x .slot) && leZ (v ! x .slot) (x 
 -- the number of their bytes
 unfoldable pub offset : (ℕ → Field) → ℕ → ℕ
 offset p zero = 0
-offset p (suc k) = offset p k + width (p k .kind)
+offset p (suc k) = offset p k + bytesIn (p k .kind)
 
 -- v with their values, read from the place `at` of f on
 unfoldable pub filled : (ℕ → Field) → List ℕ → ℕ → ℕ → List ℤ → List ℤ

@@ -1,6 +1,6 @@
 -- Where the numbers of a record are in a file, and how many bytes its parts have (document 01, "Sheet layout").
 use Prim.Native.Nat.{ℕ, _+_, _*_}
-use Rattle.sheet_spec.specs.Fields.{u8, u16, i16, i32, width}
+use Rattle.sheet_spec.specs.Fields.{u8, u16, i16, i32, bytesIn}
 
 -- the number of letters that a record starts with
 abbrev pub letters : ℕ
@@ -11,61 +11,61 @@ abbrev pub varsAt : ℕ
 varsAt = letters
 
 abbrev pub bandsAt : ℕ
-bandsAt = varsAt + width u8
+bandsAt = varsAt + bytesIn u8
 
 abbrev pub boxesAt : ℕ
-boxesAt = bandsAt + width u8
+boxesAt = bandsAt + bytesIn u8
 
 abbrev pub bandVarAt : ℕ
-bandVarAt = boxesAt + width u8
+bandVarAt = boxesAt + bytesIn u8
 
 abbrev pub δAt : ℕ
-δAt = bandVarAt + width u8
+δAt = bandVarAt + bytesIn u8
 
 abbrev pub αAt : ℕ
-αAt = δAt + width u16
+αAt = δAt + bytesIn u16
 
 abbrev pub ρAt : ℕ
-ρAt = αAt + width u16
+ρAt = αAt + bytesIn u16
 
 abbrev pub leastAt : ℕ
-leastAt = ρAt + width u16
+leastAt = ρAt + bytesIn u16
 
 abbrev pub greatestAt : ℕ
-greatestAt = leastAt + width i32
+greatestAt = leastAt + bytesIn i32
 
 abbrev pub capsAt : ℕ
-capsAt = greatestAt + width i32
+capsAt = greatestAt + bytesIn i32
 
 -- the first n caps
 abbrev pub capBytes : ℕ → ℕ
-capBytes n = width u16 * n
+capBytes n = bytesIn u16 * n
 
 -- a band, from its edge on: the safety range, and the rows
 abbrev pub safetyLeastAt : ℕ
-safetyLeastAt = width i32
+safetyLeastAt = bytesIn i32
 
 abbrev pub safetyGreatestAt : ℕ
-safetyGreatestAt = safetyLeastAt + width i32
+safetyGreatestAt = safetyLeastAt + bytesIn i32
 
 abbrev pub rowsAt : ℕ
-rowsAt = safetyGreatestAt + width i32
+rowsAt = safetyGreatestAt + bytesIn i32
 
 -- a row: the first n coefficients; then, from b on, c, d and q
 abbrev pub coefficientBytes : ℕ → ℕ
-coefficientBytes n = width i16 * n
+coefficientBytes n = bytesIn i16 * n
 
 abbrev pub cAt : ℕ
-cAt = width i16
+cAt = bytesIn i16
 
 abbrev pub dAt : ℕ
-dAt = cAt + width i32
+dAt = cAt + bytesIn i32
 
 abbrev pub qAt : ℕ
-qAt = dAt + width i32
+qAt = dAt + bytesIn i32
 
 abbrev pub restBytes : ℕ
-restBytes = qAt + width u16
+restBytes = qAt + bytesIn u16
 
 abbrev pub rowBytes : ℕ → ℕ
 rowBytes n = coefficientBytes n + restBytes
@@ -79,10 +79,10 @@ abbrev pub bandBytes : ℕ → ℕ
 bandBytes n = rowsAt + n * rowBytes n
 
 abbrev pub upperAt : ℕ
-upperAt = width i32
+upperAt = bytesIn i32
 
 abbrev pub pairBytes : ℕ
-pairBytes = upperAt + width i32
+pairBytes = upperAt + bytesIn i32
 
 abbrev pub boxBytes : ℕ → ℕ
 boxBytes n = pairBytes * n

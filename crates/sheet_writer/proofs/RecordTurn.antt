@@ -11,7 +11,7 @@ use mir.Val.{ofZ}
 use Rattle.integers.specs.Bytes.{beBytes}
 use Rattle.integers.proofs.Lists.{sets-append}
 use Rattle.sheet_spec.specs.Slots.{_!_}
-use Rattle.sheet_spec.specs.Fields.{Kind, i32, Field, width, encoded, offset, coded}
+use Rattle.sheet_spec.specs.Fields.{Kind, i32, Field, bytesIn, encoded, offset, coded}
 use Rattle.sheet_spec.specs.Sizes.{letters, coefficientBytes}
 use Rattle.sheet_spec.specs.declared.Record.{Record}
 use Rattle.sheet_spec.specs.Layout.{edgeField, rowRest, rowFields, mark, fields, count}
@@ -28,7 +28,7 @@ then l i m xs ys hm ha ht hu =
 
 -- ---- the fields of a record
 
-same-bytes : (d k : Kind) (z : ℤ) → width d ≡ width k → encoded d z ≡ encoded k z
+same-bytes : (d k : Kind) (z : ℤ) → bytesIn d ≡ bytesIn k → encoded d z ≡ encoded k z
 unfolding encoded
 same-bytes d k z e = ap (λ (w : ℕ). beBytes w (ofZ w32 z)) e
 
@@ -40,7 +40,7 @@ module _ (p : ℕ → Field) (v : List ℤ) (s : List ℕ) (at k : ℕ) where
 
   -- the field x after the first k of p
   pub coded-next : (m : ℕ) → m ≡ k + 1 → (x : Field) → p k ≡ x → (d : Kind) (i a : ℕ) {t u : List ℕ} → u ≡ sets t a (encoded d (v ! i))
-      → width d ≡ width (x .kind) → i ≡ x .slot → a ≡ at + offset p k → t ≡ sets s at (coded p v k) → u ≡ sets s at (coded p v m)
+      → bytesIn d ≡ bytesIn (x .kind) → i ≡ x .slot → a ≡ at + offset p k → t ≡ sets s at (coded p v k) → u ≡ sets s at (coded p v m)
   unfolding coded
   coded-next m l x e d i a {t} hu hd hi ha ht =
       let n : m ≡ suc k = omega arith in
@@ -50,21 +50,21 @@ module _ (p : ℕ → Field) (v : List ℤ) (s : List ℕ) (at k : ℕ) where
 
 -- field k of p
 pub coded-field : (p : ℕ → Field) (v : List ℤ) (s : List ℕ) (at k : ℕ) (d : Kind) (i a : ℕ) {t u : List ℕ} → u ≡ sets t a (encoded d (v ! i))
-    → width d ≡ width (p k .kind) → i ≡ p k .slot → a ≡ at + offset p k → t ≡ sets s at (coded p v k) → u ≡ sets s at (coded p v (suc k))
+    → bytesIn d ≡ bytesIn (p k .kind) → i ≡ p k .slot → a ≡ at + offset p k → t ≡ sets s at (coded p v k) → u ≡ sets s at (coded p v (suc k))
 coded-field p v s at k = coded-next p v s at k (suc k) (omega arith) (p k) refl
 
 -- number q of a row's rest
 pub coded-rest : (n r : ℕ) (v : List ℤ) (s : List ℕ) (at q : ℕ) (d : Kind) (i a : ℕ) {t u : List ℕ} → u ≡ sets t a (encoded d (v ! i))
-    → width d ≡ width (rowRest r q .kind) → i ≡ rowRest r q .slot → a ≡ at + coefficientBytes n + offset (rowRest r) q
+    → bytesIn d ≡ bytesIn (rowRest r q .kind) → i ≡ rowRest r q .slot → a ≡ at + coefficientBytes n + offset (rowRest r) q
     → t ≡ sets s at (coded (rowFields n r) v (n + q)) → u ≡ sets s at (coded (rowFields n r) v (n + suc q))
 coded-rest n r v s at q d i a hu hd hi ha =
     coded-next (rowFields n r) v s at (n + q) (n + suc q) (omega arith) _ (rest-at n r q) d i a hu hd hi (omega (arith, rest-offset n r q))
 
 -- a band's edge
-pub edge-width : (k : ℕ) → width i32 ≡ width (edgeField k .kind)
+pub edge-bytes : (k : ℕ) → bytesIn i32 ≡ bytesIn (edgeField k .kind)
 unfolding edgeField
-edge-width zero = refl
-edge-width (suc k) = refl
+edge-bytes zero = refl
+edge-bytes (suc k) = refl
 
 -- ---- with its mark
 

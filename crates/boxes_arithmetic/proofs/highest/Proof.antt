@@ -11,8 +11,8 @@ use Rattle.integers.specs.Division.{ceilDiv}
 use Rattle.integers.proofs.Z.{fits64}
 use Rattle.machine_spec.specs.Machine.{clamp}
 use Rattle.boxes_arithmetic.specs.Limits.{DivisionAsked, Capped}
-use Rattle.boxes_arithmetic.proofs.Bounds.{zero-less, within-bound}
-use Rattle.boxes_arithmetic.proofs.Quotient.{division-neg, capped-neg, mirror, raised-within}
+use Rattle.boxes_arithmetic.proofs.Bounds.{zero-less, between-bound}
+use Rattle.boxes_arithmetic.proofs.Quotient.{division-neg, capped-neg, mirror, raised-between}
 use Rattle.boxes_arithmetic.proofs.highest.Statement.{statement}
 use Rattle.boxes_arithmetic.proofs.highest.Tie as tie
 
@@ -41,10 +41,10 @@ module _ (at-start : tie.Start) where
   dividend-fits = fits64 (division .dividend) tt
 
   outermost-fits : SFits w64 (negℤ outermost)
-  outermost-fits = fits64 (within-bound (capped .small) (capped .within)) tt
+  outermost-fits = fits64 (between-bound (capped .small) (capped .between)) tt
 
   answer-fits : SFits w64 answer
-  answer-fits = fits64 (within-bound (capped .small) (raised-within cap outermost ceiling (at-start .pre .1 .within))) tt
+  answer-fits = fits64 (between-bound (capped .small) (raised-between cap outermost ceiling (at-start .pre .1 .between))) tt
 
 sub-lowest : tie.Need-sub-lowest
 sub-lowest at-start = simp (toZ-ofZ, at-start .fits .dividend, zero-less) (dividend-fits at-start)
@@ -70,7 +70,7 @@ module _ (at-lowest : tie.After-lowest) where
       let fits = at-start .fits in
       rw (at-lowest .lowest .ensures)
       (simp (toZ-ofZ, fits .dividend, fits .divisor, fits .cap, fits .outermost, zero-less, dividend-fits at-start, outermost-fits at-start)
-      (mirror (cap at-start) (outermost at-start) _ (at-start .pre .1 .within)))
+      (mirror (cap at-start) (outermost at-start) _ (at-start .pre .1 .between)))
 
 sub-result : tie.Need-sub-result
 sub-result at-lowest = rw (toZ-ofZ (lowest-fits at-lowest), zero-less, answer-is at-lowest) (answer-fits (at-lowest .before))

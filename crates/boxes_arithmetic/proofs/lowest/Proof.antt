@@ -8,7 +8,7 @@ use lib.IntN.{ℤ, pos, negℤ, _-ℤ_, _*ℤ_}
 use borrow.Author.Needs.{needs}
 use Rattle.integers.proofs.Z.{le-true, le-false, bound-neg, bound-mul, fits64}
 use Rattle.boxes_arithmetic.specs.Limits.{DivisionAsked, Capped}
-use Rattle.boxes_arithmetic.proofs.Bounds.{zero-less, within-bound}
+use Rattle.boxes_arithmetic.proofs.Bounds.{zero-less, between-bound}
 use Rattle.boxes_arithmetic.proofs.Quotient.{kept, saturated, divided}
 use Rattle.boxes_arithmetic.proofs.lowest.Statement.{statement}
 use Rattle.boxes_arithmetic.proofs.lowest.Tie as tie
@@ -31,7 +31,7 @@ module _ (at-start : tie.Start) where
 
   -- the products that are compared with the dividend
   outermost-fits : SFits w64 (outermost *ℤ q)
-  outermost-fits = fits64 (bound-mul (within-bound (capped .small) (capped .within)) (division .divisor)) tt
+  outermost-fits = fits64 (bound-mul (between-bound (capped .small) (capped .between)) (division .divisor)) tt
 
   low-fits : SFits w64 (negℤ cap *ℤ q)
   low-fits = fits64 (bound-mul (bound-neg (capped .small)) (division .divisor)) tt

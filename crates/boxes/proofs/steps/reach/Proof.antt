@@ -15,7 +15,7 @@ use Rattle.machine_spec.proofs.Ranges.{near-less}
 use Rattle.boxes.specs.declared.steps.ReachPlan.{ReachPlan}
 use Rattle.boxes.specs.Limits.{reachLimit}
 use Rattle.boxes.specs.ReachPlan.{machineOn, clearOn}
-use Rattle.boxes.specs.ReachResult.{isEnded, ticksOf, Names, Arrived}
+use Rattle.boxes.specs.ReachResult.{isEnded, coveredOf, Names, Arrived}
 use Rattle.boxes.proofs.Bounds.{StepBounds, tested-bounds}
 use Rattle.boxes.proofs.Turn.{Reaching, reaching-starts, reaching-ends, reaching-stops, reaching-on, not-ended, ended-not}
 use Rattle.boxes.proofs.steps.reach.Statement.{statement}
@@ -159,7 +159,7 @@ loop-again c =
 
 -- no ticks are left
 returns-2 : tie.Need-returns-2 Inv-loop μ-loop
-unfolding ticksOf Names
+unfolding coveredOf Names
 returns-2 at-return =
     let inv = at-return .before .loop .inv in
     record { same = reaching-ends (inv .reaching) (omega arith); names = tt; covered = λ yes. refl; trimmed = inv .trimmed }

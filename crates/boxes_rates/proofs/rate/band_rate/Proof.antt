@@ -55,7 +55,7 @@ returns-2 at-return =
     let at-test = at-return .before in
     let start = at-start at-test in
     toZ-ofZ (start .fits .outermost)
-    ∙ rw (sym (met-is at-test) ∙ at-return .if1 .left) (sym (outer-neutral (start .pre .within) (start .args .up)))
+    ∙ rw (sym (met-is at-test) ∙ at-return .if1 .left) (sym (outer-neutral (start .pre .between) (start .args .up)))
 
 pub band-rate-spec : {M : Type 1} → statement M
 band-rate-spec =

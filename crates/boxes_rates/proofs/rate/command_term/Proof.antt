@@ -12,7 +12,7 @@ use Rattle.integers.specs.Bound.{Bound}
 use Rattle.integers.proofs.Z.{told, fits64}
 use Rattle.sheet_spec.specs.Slots.{rowAt}
 use Rattle.machine_spec.specs.Machine.{Machine, machine}
-use Rattle.machine_spec.specs.Rate.{outer, commandOver}
+use Rattle.machine_spec.specs.Rate.{outer, offeredOver}
 use Rattle.machine_spec.proofs.Face.{outer-one}
 use Rattle.boxes_rates.specs.Limits.{termLimit}
 use Rattle.boxes_rates.proofs.Rates.{over-plain, over-one}
@@ -28,7 +28,7 @@ module _ (at-start : tie.Start) where
 
   -- b times the bound of the least or of the greatest command over a box
   abbrev bound-term : Bool → List ℤ → ℤ
-  bound-term up B = b *ℤ commandOver up M (at-start .args .band) B
+  bound-term up B = b *ℤ offeredOver up M (at-start .args .band) B
 
 -- the plain law: b times the band's least command
 module _ (at-least : tie.After-product) where
@@ -85,7 +85,7 @@ returns-2 at-product =
     let at-start = at-coefficient .before in
     let a = at-start .args in
     let u = one .law .given .0 .0 in
-    let bound-is : (up : Bool) (B : List ℤ) → commandOver up (M at-start) (a .band) B ≡ u = λ up B. over-one up (a .sheet .now) (a .band) B (one .law .given .1) in
+    let bound-is : (up : Bool) (B : List ℤ) → offeredOver up (M at-start) (a .band) B ≡ u = λ up B. over-one up (a .sheet .now) (a .band) B (one .law .given .1) in
     let near = at-product .product3 .ensures .1 in
     let command-fits : SFits w32 u = search needs in
     let product-is : at-product .product3 .result ≡ b at-start *ℤ u =

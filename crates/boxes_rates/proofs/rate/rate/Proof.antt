@@ -14,7 +14,7 @@ use Rattle.machine_spec.specs.Rate.{outermost, neutral, bandRate, rate}
 use Rattle.boxes_arithmetic.proofs.Bounds.{wide}
 use Rattle.boxes_rates.proofs.Rates.{outermost-more}
 use Rattle.machine_spec.proofs.Facts.{cap-low, cap-near}
-use Rattle.machine_spec.proofs.Sound.{outermost-within}
+use Rattle.machine_spec.proofs.Sound.{outermost-between}
 use Rattle.boxes_rates.proofs.rate.rate.Statement.{statement}
 use Rattle.boxes_rates.proofs.rate.rate.Tie as tie
 
@@ -43,8 +43,8 @@ band-rate-requires in-turn κs =
     let at-start = at-loop .before .before .before in
     let asked = at-start .pre in
     let a = at-start .args in
-    let within = outermost-within (a .up) (machine (a .sheet .now) (a .plant .law)) (a .over .now) (a .i) (at-loop .loop .band) (cap-low (asked .plant .sheet) (a .i) (asked .var)) in
-    record { rate = asked; among = omega (arith, asked .plant .bands); within = rw (at-loop .loop .inv .1) within }
+    let between = outermost-between (a .up) (machine (a .sheet .now) (a .plant .law)) (a .over .now) (a .i) (at-loop .loop .band) (cap-low (asked .plant .sheet) (a .i) (asked .var)) in
+    record { rate = asked; among = omega (arith, asked .plant .bands); between = rw (at-loop .loop .inv .1) between }
 
 loop-again : tie.Need-loop-again Inv-loop μ-loop
 loop-again at-band =

@@ -13,7 +13,7 @@ use borrow.Author.Needs.{needs}
 use Rattle.integers.proofs.Z.{up32, fits64}
 use Rattle.sheet_spec.specs.Slots.{rowSize, row, rowSlot, slots}
 use Rattle.machine_spec.specs.Machine.{Machine, machine}
-use Rattle.machine_spec.specs.Rate.{bound, commandOver, bandRate}
+use Rattle.machine_spec.specs.Rate.{bound, offeredOver, bandRate}
 use Rattle.boxes_rates.specs.Limits.{BandAsked}
 use Rattle.boxes_arithmetic.proofs.Bounds.{wide}
 use Rattle.machine_spec.proofs.Facts.{cap-near}
@@ -54,7 +54,7 @@ further-requires at-cap κs =
       place = place at-start;
       divisor = rate .plant .sheet .rows (at-start .args .band) (at-start .args .i) (asked at-start .among) (rate .var) .q .low;
       number = rw (toZ-ofZ (fits64 near tt)) near;
-      capped = simp (wide, at-cap .further-arg .given, toZ-ofZ, at-start .fits .outermost) (record { small = cap-near (rate .plant .sheet) (at-start .args .i) (rate .var); within = asked at-start .within });
+      capped = simp (wide, at-cap .further-arg .given, toZ-ofZ, at-start .fits .outermost) (record { small = cap-near (rate .plant .sheet) (at-start .args .i) (rate .var); between = asked at-start .between });
     }
 
 returns : tie.Need-returns
@@ -69,8 +69,8 @@ returns at-return =
     let bounded = at-bound .bound .ensures in
     let further-fits : SFits w64 (at-return .further .result) = search needs in
     let B = at-start .args .over .now in
-    let least = commandOver false (M at-start) band B in
-    let greatest = commandOver true (M at-start) band B in
+    let least = offeredOver false (M at-start) band B in
+    let greatest = offeredOver true (M at-start) band B in
     let number-is =
     bounded .same least greatest (toZ-ofZ (fits64 (term .near) tt) ∙ term .same B)
     ∙ ap (λ (n : ℕ). bound (at-start .args .up) n (row (v at-start) band (at-start .args .i)) B least greatest) (asked at-start .rate .plant .n) in

@@ -7,7 +7,7 @@ use lib.ListN.{length}
 use lib.Seq.{sets}
 use Rattle.sheet_spec.proofs.FieldPlaces.{row-next, row-run}
 use Rattle.sheet_encoding.proofs.FieldTurn.{row-room}
-use Rattle.sheet_writer.proofs.RecordTurn.{coded-field, coded-run, edge-width}
+use Rattle.sheet_writer.proofs.RecordTurn.{coded-field, coded-run, edge-bytes}
 use Rattle.sheet_spec.proofs.Length.{row-offset}
 use Rattle.sheet_spec.proofs.Places.{edge-slot}
 use Rattle.sheet_spec.specs.Fields.{i32, coded, offset}
@@ -75,9 +75,9 @@ returns c =
     let v = a .v .now in
     let e : c .before .loop .i ≡ n = omega arith in
     c .before .loop .inv .1 .1 s
-    (coded-field p v s letters greatestInBand i32 (safetyGreatestSlot k) (letters + safetyGreatestAt) (c2 .put-i323 .ensures) refl refl (omega (arith, edge-width k))
-    (coded-field p v s letters leastInBand i32 (safetyLeastSlot k) (letters + safetyLeastAt) (c1 .put-i322 .ensures) refl refl (omega (arith, edge-width k))
-    (coded-field p v s letters edgeInBand i32 (bandSlot k) letters (c0 .put-i32 .ensures) (edge-width k) (sym (edge-slot k)) refl refl)))
+    (coded-field p v s letters greatestInBand i32 (safetyGreatestSlot k) (letters + safetyGreatestAt) (c2 .put-i323 .ensures) refl refl (omega (arith, edge-bytes k))
+    (coded-field p v s letters leastInBand i32 (safetyLeastSlot k) (letters + safetyLeastAt) (c1 .put-i322 .ensures) refl refl (omega (arith, edge-bytes k))
+    (coded-field p v s letters edgeInBand i32 (bandSlot k) letters (c0 .put-i32 .ensures) (edge-bytes k) (sym (edge-slot k)) refl refl)))
     ∙ ap (λ (i : ℕ). sets s letters (coded p v (firstRow + i * rowCount n))) e
 
 pub write-band-spec : {M : Type 1} → statement M
