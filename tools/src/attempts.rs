@@ -1,4 +1,4 @@
-//! The attempts behind an answer: the boxes of each step from the second guard, and why each
+//! The attempts that an answer comes of: the boxes of each step from the second guard, and why each
 //! width ended. The answer and every box are compared with the archive's.
 
 use crate::archive::{self, Answer};

@@ -91,7 +91,7 @@ impl Names {
         self.variables.iter().position(|v| v.name == name)
     }
 
-    /// A range for each variable, each behind its name, in any order.
+    /// A range for each variable, each after its name, in any order.
     pub fn sides(
         &self,
         cursor: &mut Cursor,

@@ -211,7 +211,7 @@ impl Parser {
         let name = cursor.name()?;
         let i = self.index(cursor, &name)?;
         let Some(k) = self.last_band() else {
-            return cursor.fault("a change stands behind its band's line");
+            return cursor.fault("a change comes after its band's line");
         };
         if !cursor.take_sign("=") || !cursor.take_sign("(") {
             return cursor.fault("a change reads like: change x = (2 y - x + 5 +- 3) / 40");

@@ -35,7 +35,7 @@ pub fn ending(attempt: &Attempt, sheet: &Sheet, names: &Names, sides: Sides) -> 
     let to = from + last.ticks;
     match attempt.ending {
         Ending::Success => "ends in the recovery box".into(),
-        Ending::Spent => format!("the allowance ends behind tick {to}"),
+        Ending::Spent => format!("the allowance ends after tick {to}"),
         Ending::Unsafe(j) => {
             let bounded = bounded_sides(sheet, names, &last.swept, j, sides);
             format!(

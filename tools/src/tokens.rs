@@ -115,7 +115,7 @@ fn digits_length(text: &str) -> usize {
         .unwrap_or(text.len())
 }
 
-/// The unit behind the word `unit`: a positive decimal number and a name.
+/// The unit after the word `unit`: a positive decimal number and a name.
 fn unit(number: usize, text: &str) -> Result<Unit, Fault> {
     let text = text.trim();
     let (scale, name) = text.split_once(char::is_whitespace).unwrap_or((text, ""));

@@ -22,7 +22,7 @@ use Rattle.boxes_spec.specs.Reach.{Reached, testedStep, reach}
 use Rattle.boxes.specs.ReachResult.{resultOf, testedStepOf}
 use Rattle.boxes.proofs.Turn.{Stepping, Reaching}
 use Rattle.boxes_spec.proofs.Stages.{value-of}
-use Rattle.boxes_spec.proofs.Settled.{step-takes, start, tested-takes, reach-takes}
+use Rattle.boxes_spec.proofs.Settled.{step-takes, firstPlace, tested-takes, reach-takes}
 use Rattle.boxes_spec.proofs.Ranges.{settled-near, steps-near}
 
 -- a step covers at most its width
@@ -47,7 +47,7 @@ pub tested-bounds : {l : Bool} {a : ℕ} {m : Machine} {clear : List ℤ → Boo
     → (r : ReachResult) (E P : List ℤ) → testedStepOf E P r ≡ testedStep l a m clear w S left d → (t i : ℕ) → r ≡ Ended t i → StepBounds (varsOf m) b left t E × (i ≤ d + 73)
 unfolding resultOf
 tested-bounds {l} {a} {m} {clear} {w} {S = S} {left = left} {d = d} k wf z u h f r E P e t i q =
-    let g = value-of (tested-takes l a m clear w 9 (room wf) z (omega arith) (start S left) d f) (sym e ∙ ap (testedStepOf E P) q) in
+    let g = value-of (tested-takes l a m clear w 9 (room wf) z (omega arith) (firstPlace S left) d f) (sym e ∙ ap (testedStepOf E P) q) in
     let s = g .0 .0 in (record { some = s .some; most = omega (arith, s .most); sides = settled-near wf h s }, g .1 .few)
 
 -- a reach that ended: its end box is where the next one starts

@@ -66,9 +66,9 @@ module _ (x : ℤ) (b : ℕ) (y : ℤ) (one : pos 1 ≤ℤ pos b) where
 
 -- ---- the answer in each case
 
-pub kept : {c z x q : ℤ} → DivisionAsked x q → Capped c z → (z *ℤ q) ≤ℤ x → z ≡ minZ z (clamp c (floorDiv x (natAbs q)))
-kept {q = negsuc b} d w h = absurd (d .positive .le)
-kept {c} {z} {x} {q = pos b} d w h = above c z (floorDiv x b) (w .between) (at-least x b z (d .positive) h)
+pub outermost-stays : {c z x q : ℤ} → DivisionAsked x q → Capped c z → (z *ℤ q) ≤ℤ x → z ≡ minZ z (clamp c (floorDiv x (natAbs q)))
+outermost-stays {q = negsuc b} d w h = absurd (d .positive .le)
+outermost-stays {c} {z} {x} {q = pos b} d w h = above c z (floorDiv x b) (w .between) (at-least x b z (d .positive) h)
 
 pub saturated : {c z x q : ℤ} → DivisionAsked x q → Capped c z → x ≤ℤ (negℤ c *ℤ q) → negℤ c ≡ minZ z (clamp c (floorDiv x (natAbs q)))
 saturated {q = negsuc b} d w h = absurd (d .positive .le)

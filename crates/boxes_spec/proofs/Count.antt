@@ -21,7 +21,7 @@ use Rattle.boxes_spec.specs.Reach.{Reached, reach, clear, reachRefusal, 
 use Rattle.boxes_spec.proofs.Stages.{Counted, Takes, value, failure, spent, failure-of, has-value}
 use Rattle.boxes_spec.proofs.Sound.{Reaches, ends-reach, reaches-part}
 use Rattle.boxes_spec.proofs.Refusals.{reach-passes}
-use Rattle.boxes_spec.proofs.Settled.{start, Stops, step-takes, reach-takes, below-power}
+use Rattle.boxes_spec.proofs.Settled.{firstPlace, Stops, step-takes, reach-takes, below-power}
 
 -- ---- counts
 
@@ -50,7 +50,7 @@ module _ (l : Bool) (a : ℕ) (m : Machine) (room : varsOf m ≤ N) where
   step-settles S k c z e = failure-of (step-takes l a m S room k c k z (below-power k)) e .0
 
   -- a reach fails only at a step that is not clear
-  pub reach-stops : (clear : List ℤ → Bool) (w : ℕ) (S : List ℤ) (ticks c : ℕ) {why : Failure} {c′ : ℕ} → 0 < w → reach l a m clear w S ticks c ≡ failed why c′ → Stops m clear w (start S ticks) why
+  pub reach-stops : (clear : List ℤ → Bool) (w : ℕ) (S : List ℤ) (ticks c : ℕ) {why : Failure} {c′ : ℕ} → 0 < w → reach l a m clear w S ticks c ≡ failed why c′ → Stops m clear w (firstPlace S ticks) why
   reach-stops clear w S ticks c z e = failure-of (reach-takes l a m clear w w room z (below-power w) S ticks c) e .0
 
   pub reach-settles : (clear : List ℤ → Bool) (w : ℕ) (S : List ℤ) (ticks c : ℕ) {c′ : ℕ} → 0 < w → reach l a m clear w S ticks c ≡ failed unsettled c′ → ⊥

@@ -28,7 +28,7 @@ use Rattle.machine_spec.proofs.Facts.{room}
 use Rattle.machine_spec.proofs.Ranges.{near-less, near-part, zero-near, trim-near, hull-near, moved-near, rates-near, limit-near, number-near}
 use Rattle.boxes_spec.specs.Step.{lifted, grown, endBox, Failure, Result, Step, swept}
 use Rattle.boxes_spec.specs.Reach.{maxReached, Reached, reach, clear, lawRefusal, sidesRefusal, reachRefusal, Answer, refused, answer, reachOf}
-use Rattle.boxes_spec.proofs.Settled.{Working, starts, grows, Settled, Place, start, StepsTo, here, next, steps-less, Ends, reach-takes}
+use Rattle.boxes_spec.proofs.Settled.{Working, starts, grows, Settled, Place, firstPlace, StepsTo, here, next, steps-less, Ends, reach-takes}
 use Rattle.boxes_spec.proofs.Stages.{Takes, value, failure, spent}
 use Rattle.boxes_spec.proofs.Refusals.{reach-passes}
 use Rattle.boxes_spec.proofs.Order.{working-holds, face-ordered, end-ordered}
@@ -102,8 +102,8 @@ abbrev pub around : Machine → List ℤ → ℕ → List ℤ → Bool → ℕ �
 around m S k E up i = neighborhood up S (pos (k + 1) *ℤ cap m i) E i
 
 -- a row's number N over it, for band j
-abbrev pub numerator : Machine → List ℤ → ℕ → List ℤ → Bool → ℕ → ℕ → ℤ
-numerator m S k E up i j = rowOver up m (part m j (around m S k E up i)) i j
+abbrev pub numeratorOver : Machine → List ℤ → ℕ → List ℤ → Bool → ℕ → ℕ → ℤ
+numeratorOver m S k E up i j = rowOver up m (part m j (around m S k E up i)) i j
 
 -- how far that goes
 abbrev pub maxNumerator : ℕ
@@ -118,9 +118,9 @@ pub record Ranges (m : Machine) (S : List ℤ) (k : ℕ) (E : List ℤ) : Type 0
   -- where they are cut
   pub limits : (up : Bool) (i : ℕ) → i < varsOf m → Bound (inward up (side up S i) (pos (k + 1) *ℤ cap m i)) (maxReached + maxCap)
   -- N, N − d and N + d
-  pub numbers : (up : Bool) (i j : ℕ) → i < varsOf m → j < bandsOf m → Bound (numerator m S k E up i j) maxNumerator
-  pub below : (up : Bool) (i j : ℕ) → i < varsOf m → j < bandsOf m → Bound (numerator m S k E up i j -ℤ rowOf m j i .d) (maxNumerator + maxSpread)
-  pub above : (up : Bool) (i j : ℕ) → i < varsOf m → j < bandsOf m → Bound (numerator m S k E up i j +ℤ rowOf m j i .d) (maxNumerator + maxSpread)
+  pub numbers : (up : Bool) (i j : ℕ) → i < varsOf m → j < bandsOf m → Bound (numeratorOver m S k E up i j) maxNumerator
+  pub below : (up : Bool) (i j : ℕ) → i < varsOf m → j < bandsOf m → Bound (numeratorOver m S k E up i j -ℤ rowOf m j i .d) (maxNumerator + maxSpread)
+  pub above : (up : Bool) (i j : ℕ) → i < varsOf m → j < bandsOf m → Bound (numeratorOver m S k E up i j +ℤ rowOf m j i .d) (maxNumerator + maxSpread)
 
 -- a round of a step of length k, at least 1, from a box that leaves room for k ticks
 module _ {m : Machine} (wf : Accepted m) {S : List ℤ} (k : ℕ) {b : ℕ} (s : Sized (varsOf m) b S) (z : 0 < k) (h : b + k * maxCap ≤ maxReached) {E : List ℤ} (w : Working m S k E) where
@@ -129,7 +129,7 @@ module _ {m : Machine} (wf : Accepted m) {S : List ℤ} (k : ℕ) {b : ℕ} (s :
       let o = face-ordered wf S k (s .ordered) (working-holds (room (wf .sheet)) w) up i g in
       record { near = near-part o (neighborhood-part (room (wf .sheet)) S _ i g up E) (near-less (omega arith) (working-near m (wf .sheet) k (s .near) w)); ordered = o }
 
-  number : (up : Bool) (i j : ℕ) → i < varsOf m → j < bandsOf m → Bound (numerator m S k E up i j) maxNumerator
+  number : (up : Bool) (i j : ℕ) → i < varsOf m → j < bandsOf m → Bound (numeratorOver m S k E up i j) maxNumerator
   number up i j g l = bound-less (number-near wf (near-around up i g .near) up i j g l) (omega (arith, wf .sheet .vars-high))
 
   spread : (i j : ℕ) → i < varsOf m → j < bandsOf m → Bound (rowOf m j i .d) maxSpread
@@ -150,7 +150,7 @@ module _ {m : Machine} (wf : Accepted m) {S : List ℤ} (k : ℕ) {b : ℕ} (s :
 
 -- RANGES: each round of each step of a reach, its start box S and its ticks leaving room
 pub reach-ranges : {m : Machine} {clear : List ℤ → Bool} {w b ticks : ℕ} {S : List ℤ} {q : Place} {E : List ℤ} (k : ℕ) → Accepted m → Sized (varsOf m) b S → b + ticks * maxCap ≤ maxReached
-    → StepsTo m clear w q (start S ticks) → 0 < k → k ≤ q .left → Working m (q .box) k E → Ranges m (q .box) k E
+    → StepsTo m clear w q (firstPlace S ticks) → 0 < k → k ≤ q .left → Working m (q .box) k E → Ranges m (q .box) k E
 reach-ranges k wf s h w z l e = round-ranges wf k (steps-sized wf w s (omega arith)) z (omega (arith, steps-less w)) e
 
 -- ---- the start boxes and the laws that are not refused
@@ -201,7 +201,7 @@ answer-near {v} wf ticks w l B = by (reachRefusal v ticks w l B) refl
     none = (zero-near (vars v) maxReached, zero-near (vars v) maxReached)
 
     walked : {g : Result Reached} {Q : Failure → Type 0} → Near (vars v) maxSide (trim (vars v) B) → ticks ≤ maxTicks
-        → Takes false 0 0 (73 * ticks) (Ends (machine v l) (clear (vars v) v 0) w (start (trim (vars v) B) ticks)) Q g → NearBoth (answer g)
+        → Takes false 0 0 (73 * ticks) (Ends (machine v l) (clear (vars v) v 0) w (firstPlace (trim (vars v) B) ticks)) Q g → NearBoth (answer g)
     walked h k (value p n) = (near-less (omega arith) (steps-near wf (p .path) h), near-less (omega arith) (swept-near wf (p .path) h h))
     walked h k (failure q n) = none
     walked h k (spent i e n) = none

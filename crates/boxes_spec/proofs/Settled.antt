@@ -100,20 +100,20 @@ pub record Place : Type 0 where
   pub left : ℕ
 
 -- before the first step of a reach, and after its last
-abbrev pub start : List ℤ → ℕ → Place
-start S ticks = record { box = S; swept = S; left = ticks }
+abbrev pub firstPlace : List ℤ → ℕ → Place
+firstPlace S ticks = record { box = S; swept = S; left = ticks }
 
-abbrev pub finish : Reached → Place
-finish r = record { box = r .end; swept = r .swept; left = 0 }
+abbrev pub lastPlace : Reached → Place
+lastPlace r = record { box = r .end; swept = r .swept; left = 0 }
 
 -- the place after a step
-abbrev pub behind : Machine → Place → Step → Place
-behind m p t = record { box = t .end; swept = hull (varsOf m) (p .swept) (swept m (p .box) t); left = p .left - t .ticks }
+abbrev pub afterStep : Machine → Place → Step → Place
+afterStep m p t = record { box = t .end; swept = hull (varsOf m) (p .swept) (swept m (p .box) t); left = p .left - t .ticks }
 
 -- from p, steps that are clear lead to q
 pub data StepsTo (m : Machine) (clear : List ℤ → Bool) (w : ℕ) (q : Place) : Place → Type 0 where
   here : StepsTo m clear w q q
-  next : {p : Place} {t : Step} → Settled m (p .box) (min w (p .left)) t → clear (swept m (p .box) t) ≡ true → StepsTo m clear w q (behind m p t) → StepsTo m clear w q p
+  next : {p : Place} {t : Step} → Settled m (p .box) (min w (p .left)) t → clear (swept m (p .box) t) ≡ true → StepsTo m clear w q (afterStep m p t) → StepsTo m clear w q p
 
 pub steps-less : {m : Machine} {clear : List ℤ → Bool} {w : ℕ} {p q : Place} → StepsTo m clear w q p → q .left ≤ p .left
 steps-less {q} here = le-refl (q .left)
@@ -121,7 +121,7 @@ steps-less (next s k r) = omega (arith, steps-less r)
 
 -- from p a reach ends with r
 pub record Ends (m : Machine) (clear : List ℤ → Bool) (w : ℕ) (p : Place) (r : Reached) : Type 0 where
-  pub path : StepsTo m clear w (finish r) p
+  pub path : StepsTo m clear w (lastPlace r) p
 
 -- at p a step is not clear, and `why` says so
 pub record Hits (m : Machine) (clear : List ℤ → Bool) (w : ℕ) (p : Place) (why : Failure) : Type 0 where
@@ -140,7 +140,7 @@ ends-here : {m : Machine} {clear : List ℤ → Bool} {w : ℕ} (p : Place) → 
 ends-here {m} {clear} {w} p h =
     let r : Reached = record { end = p .box; swept = p .swept } in
     let q : 0 ≡ p .left = omega arith in
-    record { path = subst (λ (j : ℕ). StepsTo m clear w (finish r) (record { box = p .box; swept = p .swept; left = j })) q here }
+    record { path = subst (λ (j : ℕ). StepsTo m clear w (lastPlace r) (record { box = p .box; swept = p .swept; left = j })) q here }
 
 module _ (l : Bool) (a : ℕ) (m : Machine) (clear : List ℤ → Bool) (w e : ℕ) (room : varsOf m ≤ N) (z : 0 < w) (h : w < 2 ^ suc e) where
   pub tested-takes : (p : Place) (c : ℕ) → 0 < p .left
@@ -160,7 +160,7 @@ module _ (l : Bool) (a : ℕ) (m : Machine) (clear : List ℤ → Bool) (w e : �
       takes-then {d = (8 * e + 1) * (p .left - 1)} _ (some k)
       (takes-map (le-refl (8 * e + 1)) (λ t s. s) (λ why i. record { at = p; path = here; hits = i }) (tested-takes p c k))
       (λ t c′ s. takes-map (mul-le-mul-left (8 * e + 1) (rest (s .0 .some))) (λ r i. record { path = next (s .0) (s .1) (i .path) })
-      (λ why i. record { at = i .at; path = next (s .0) (s .1) (i .path); hits = i .hits }) (steps-take fuel (behind m p t) c′ (less (s .0 .some) (s .0 .most)))))
+      (λ why i. record { at = i .at; path = next (s .0) (s .1) (i .path); hits = i .hits }) (steps-take fuel (afterStep m p t) c′ (less (s .0 .some) (s .0 .most)))))
     where
       some : 0 < p .left → (8 * e + 1) + (8 * e + 1) * (p .left - 1) ≤ (8 * e + 1) * p .left
       some k = let q : 1 + (p .left - 1) ≤ p .left = omega arith in omega (arith, mul-le-mul-left (8 * e + 1) q)
@@ -172,14 +172,14 @@ module _ (l : Bool) (a : ℕ) (m : Machine) (clear : List ℤ → Bool) (w e : �
       less i j = omega arith
 
   pub reach-takes : (S : List ℤ) (ticks c : ℕ)
-      → Takes l a c ((8 * e + 1) * ticks) (Ends m clear w (start S ticks)) (Stops m clear w (start S ticks)) (reach l a m clear w S ticks c)
+      → Takes l a c ((8 * e + 1) * ticks) (Ends m clear w (firstPlace S ticks)) (Stops m clear w (firstPlace S ticks)) (reach l a m clear w S ticks c)
   unfolding reach
-  reach-takes S ticks c = steps-take (suc ticks) (start S ticks) c (le-refl (suc ticks))
+  reach-takes S ticks c = steps-take (suc ticks) (firstPlace S ticks) c (le-refl (suc ticks))
 
 -- at width 0 no step settles
 pub reach-zero : {m : Machine} (l : Bool) (a : ℕ) (clear : List ℤ → Bool) (S : List ℤ) (ticks c : ℕ)
-    → Takes l a c 0 (Ends m clear 0 (start S ticks)) (λ why. Unit) (reach l a m clear 0 S ticks c)
+    → Takes l a c 0 (Ends m clear 0 (firstPlace S ticks)) (λ why. Unit) (reach l a m clear 0 S ticks c)
 unfolding reach steps testedStep step halving andThen
 reach-zero l a clear S ticks c =
-    takes-if (leb ticks 0) _ _ (λ n. value (ends-here (start S ticks) (leb-true ticks 0 n)) (counted-none c))
+    takes-if (leb ticks 0) _ _ (λ n. value (ends-here (firstPlace S ticks) (leb-true ticks 0 n)) (counted-none c))
     (λ n. let q : min 0 ticks ≡ 0 = omega arith in rw q (failure tt (counted-none c)))

@@ -25,7 +25,7 @@ use Rattle.machine_spec.proofs.Sound.{rate-bounds, cap-bounds, beyond-neutral, 
 use Rattle.boxes_spec.specs.Step.{lifted, settles, endBox, ok, Step, step, swept}
 use Rattle.boxes_spec.specs.Reach.{Reached, reach, clear}
 use Rattle.boxes_spec.proofs.Stages.{value-of}
-use Rattle.boxes_spec.proofs.Settled.{Settled, still, below-power, step-takes, Place, start, finish, behind, StepsTo, here, next, steps-less, Ends, reach-takes, reach-zero}
+use Rattle.boxes_spec.proofs.Settled.{Settled, still, below-power, step-takes, Place, firstPlace, lastPlace, afterStep, StepsTo, here, next, steps-less, Ends, reach-takes, reach-zero}
 
 -- ---- one face of a step: s is its start, r its rate, c the cap; x is the variable at tick j, z at the next
 
@@ -157,11 +157,11 @@ contains-none {m} p = record {
 }
 
 -- a step, and what covers the rest
-module _ {m : Machine} (room : varsOf m ≤ N) {clear : List ℤ → Bool} (p q : Place) {t : Step} {d : ℕ} (s : Sound m (p .box) t) (k : clear (swept m (p .box) t) ≡ true) (r : Contains m clear (behind m p t) q d) where
+module _ {m : Machine} (room : varsOf m ≤ N) {clear : List ℤ → Bool} (p q : Place) {t : Step} {d : ℕ} (s : Sound m (p .box) t) (k : clear (swept m (p .box) t) ≡ true) (r : Contains m clear (afterStep m p t) q d) where
   onward : (x : ℕ → List ℤ) → In (varsOf m) (p .box) (x 0) → (j : ℕ) → Ticks m x (t .ticks + j) → In (varsOf m) (t .end) (later x (t .ticks) 0)
   onward x b j f = later-start x (t .ticks) (In (varsOf m) (t .end)) (s .ends x b (λ i g. f i (omega arith)))
 
-  sweep : (x : ℕ → List ℤ) → In (varsOf m) (p .box) (x 0) → (j : ℕ) → j ≤ t .ticks → Ticks m x j → In (varsOf m) (behind m p t .swept) (x j)
+  sweep : (x : ℕ → List ℤ) → In (varsOf m) (p .box) (x 0) → (j : ℕ) → j ≤ t .ticks → Ticks m x j → In (varsOf m) (afterStep m p t .swept) (x j)
   sweep x b j g f = inside-in (hull-right room (p .swept) (swept m (p .box) t)) (s .sweeps x b j g f)
 
   contains-next : Contains m clear p q (t .ticks + d)
@@ -171,7 +171,7 @@ module _ {m : Machine} (room : varsOf m ≤ N) {clear : List ℤ → Bool} (p q 
     sweeps = λ x b w j. by-tick (λ j. j ≤ t .ticks + d → Ticks m x j → In (varsOf m) (q .swept) (x j)) (t .ticks) j
         (λ g l f. r .keeps (x j) (sweep x b j g f))
         (λ i z l f. r .sweeps (later x (t .ticks)) (onward x b i f)
-        (later-start x (t .ticks) (In (varsOf m) (behind m p t .swept)) (sweep x b (t .ticks) (le-refl (t .ticks)) (λ i g. f i (omega arith)))) i (omega arith) (later-ticks x (t .ticks) i f));
+        (later-start x (t .ticks) (In (varsOf m) (afterStep m p t .swept)) (sweep x b (t .ticks) (le-refl (t .ticks)) (λ i g. f i (omega arith)))) i (omega arith) (later-ticks x (t .ticks) i f));
     clears = λ x b j z. by-tick (λ j. j ≤ t .ticks + d → Ticks m x j → Cleared (varsOf m) clear (x j)) (t .ticks) j
         (λ g l f. record { box = swept m (p .box) t; clears = k; holds = s .sweeps x b j g f })
         (λ i z l f. r .clears (later x (t .ticks)) (onward x b i f) i (omega arith) (omega arith) (later-ticks x (t .ticks) i f));
@@ -193,10 +193,10 @@ pub record Reaches (m : Machine) (clear : List ℤ → Bool) (S : List ℤ) (tic
   pub clears : (x : ℕ → List ℤ) → In (varsOf m) S (x 0) → (j : ℕ) → 0 < ticks → j ≤ ticks → Ticks m x j → Cleared (varsOf m) clear (x j)
   pub ends : (x : ℕ → List ℤ) → In (varsOf m) S (x 0) → Ticks m x ticks → In (varsOf m) (r .end) (x ticks)
 
-pub ends-reach : {m : Machine} {clear : List ℤ → Bool} {w : ℕ} {S : List ℤ} {ticks : ℕ} {r : Reached} → Valid (m .sheet) → Ends m clear w (start S ticks) r → Reaches m clear S ticks r
+pub ends-reach : {m : Machine} {clear : List ℤ → Bool} {w : ℕ} {S : List ℤ} {ticks : ℕ} {r : Reached} → Valid (m .sheet) → Ends m clear w (firstPlace S ticks) r → Reaches m clear S ticks r
 ends-reach {m} {clear} {S} {ticks} {r} wf e =
     let q : ticks - 0 ≡ ticks = omega arith in
-    let k = subst (Contains m clear (start S ticks) (finish r)) q (steps-contain wf (e .path)) in
+    let k = subst (Contains m clear (firstPlace S ticks) (lastPlace r)) q (steps-contain wf (e .path)) in
     record { sweeps = λ x b. k .sweeps x b b; clears = k .clears; ends = k .ends }
 
 pub reach-sound : {m : Machine} (l : Bool) (a : ℕ) (clear : List ℤ → Bool) (w : ℕ) (S : List ℤ) (ticks c : ℕ) {r : Reached} {c′ : ℕ} → Valid (m .sheet)

@@ -122,21 +122,21 @@ attempts-fuel attemptAt (suc fuel) w c z f =
 -- ---- on values: at most 1,000 ticks and ten widths
 
 -- a reply to a question or a sheet; of a refusal the width is its number
-abbrev pub Answer : Bool → ℕ → Reply → Type 0
-Answer l a r = Concluded l a 0 370000 maxWidth r
+abbrev pub ReplyBounds : Bool → ℕ → Reply → Type 0
+ReplyBounds l a r = Concluded l a 0 370000 maxWidth r
 
 module _ {v : List ℤ} (wf : Valid v) where
-  phases-answer : (l : Bool) (a : ℕ) (ps : List Phase) (S : List ℤ) (w : ℕ) → 0 < w → w ≤ maxWidth → ticksOf ps ≤ maxTicks → Answer l a (replyFrom (λ w c. attempt l a v w ps S c) w w 0)
+  phases-answer : (l : Bool) (a : ℕ) (ps : List Phase) (S : List ℤ) (w : ℕ) → 0 < w → w ≤ maxWidth → ticksOf ps ≤ maxTicks → ReplyBounds l a (replyFrom (λ w c. attempt l a v w ps S c) w w 0)
   unfolding mostATick
   phases-answer l a ps S w z h t =
       concluded-on (omega arith) h (counted-none 0)
       (attempts-concluded (λ w c. attempt l a v w ps S c) l a (ticksOf ps) (λ w e c z h. attempt-takes l a wf w e z h ps S c) w w 0 9 z (le-refl w) (omega arith))
 
-  pub decision-answer : (B : List ℤ) (l : Law) (a : ℕ) → Answer true a (decisionOf v B l a)
+  pub decision-answer : (B : List ℤ) (l : Law) (a : ℕ) → ReplyBounds true a (decisionOf v B l a)
   unfolding decisionOf decisionPhases ticksOf
   decision-answer B l a = phases-answer true a (decisionPhases v l) B (max (δ v) (α v)) (omega (arith, wf .δ-low)) (omega (arith, wf .sum-high)) (omega (arith, wf .sum-high))
 
-  pub recovery-answer : Answer false 0 (recoveryOf v)
+  pub recovery-answer : ReplyBounds false 0 (recoveryOf v)
   unfolding recoveryOf recoveryPhases ticksOf
   recovery-answer = phases-answer false 0 (recoveryPhases v) (recoveryBox v) (ρ v) (wf .ρ-low) (wf .ρ-high) (omega (arith, wf .ρ-high))
 
@@ -151,26 +151,26 @@ question-most : (v : List ℤ) (g : List ℕ) → questionRefusal v g ≤ greate
 unfolding questionRefusal
 question-most v g = first-of-most _ (head-most v (questionLength (vars v)) g, (sides-most (vars v) (measured (vars v) g), tt))
 
-unless-answer : {l : Bool} {a : ℕ} (k : ℕ) {r : Reply} → k ≤ greatestNumber → (k ≡ 0 → Answer l a r) → Answer l a (unlessRefused k refused r)
+unless-answer : {l : Bool} {a : ℕ} (k : ℕ) {r : Reply} → k ≤ greatestNumber → (k ≡ 0 → ReplyBounds l a r) → ReplyBounds l a (unlessRefused k refused r)
 unfolding unlessRefused widthOf roundsOf
 unless-answer zero h o = o refl
 unless-answer (suc k) h o = record { some = omega arith; wide = omega arith; counted = counted-less (omega arith) (counted-none 0); reason = tt }
 
 -- ---- for all bytes
 
-pub decide-answer : (f g : List ℕ) → Answer true (allowanceOf g) (decide f g)
+pub decide-answer : (f g : List ℕ) → ReplyBounds true (allowanceOf g) (decide f g)
 unfolding decide
 decide-answer f g =
     unless-answer (refusal f) (refusal-most f)
     (λ e. unless-answer (questionRefusal (values f) g) (question-most (values f) g) (λ _. decision-answer (valid f e) _ _ _))
 
-pub check-answer : (f : List ℕ) → Answer false 0 (checkRecovery f)
+pub check-answer : (f : List ℕ) → ReplyBounds false 0 (checkRecovery f)
 unfolding checkRecovery
 check-answer f = unless-answer (refusal f) (refusal-most f) (λ e. recovery-answer (valid f e))
 
 -- on values, a recovery check is never spent
 pub recoveryOf-unspent : {v : List ℤ} → Valid v → {w c : ℕ} → recoveryOf v ≡ answered spent w c → ⊥
-recoveryOf-unspent wf e = differ (subst (Answer false 0) e (recovery-answer wf) .reason .0) refl
+recoveryOf-unspent wf e = differ (subst (ReplyBounds false 0) e (recovery-answer wf) .reason .0) refl
 
 module _ (f g : List ℕ) where
   -- the rounds of a decision never pass its allowance, nor 370,000
@@ -186,7 +186,7 @@ module _ (f g : List ℕ) where
   -- so an allowance above that is never spent
   pub decide-unspent : {w c : ℕ} → 370000 < allowanceOf g → decide f g ≡ answered spent w c → ⊥
   unfolding roundsOf
-  decide-unspent h e = let o = subst (Answer true (allowanceOf g)) e (decide-answer f g) in omega (arith, o .counted .few, o .reason .1)
+  decide-unspent h e = let o = subst (ReplyBounds true (allowanceOf g)) e (decide-answer f g) in omega (arith, o .counted .few, o .reason .1)
 
   -- 730,000 rounds are always enough
   pub decide-enough : {w c : ℕ} → 730000 ≤ allowanceOf g → decide f g ≡ answered spent w c → ⊥
@@ -194,7 +194,7 @@ module _ (f g : List ℕ) where
 
   -- finest has width 1
   pub decide-finest : {w c : ℕ} → decide f g ≡ answered finest w c → w ≡ 1
-  decide-finest e = subst (Answer true (allowanceOf g)) e (decide-answer f g) .reason
+  decide-finest e = subst (ReplyBounds true (allowanceOf g)) e (decide-answer f g) .reason
 
 module _ (f : List ℕ) where
   pub check-few : roundsOf (checkRecovery f) ≤ 370000
@@ -202,10 +202,10 @@ module _ (f : List ℕ) where
 
   -- a recovery check is never spent, and fail has width 1
   pub check-unspent : {w c : ℕ} → checkRecovery f ≡ answered spent w c → ⊥
-  check-unspent e = differ (subst (Answer false 0) e (check-answer f) .reason .0) refl
+  check-unspent e = differ (subst (ReplyBounds false 0) e (check-answer f) .reason .0) refl
 
   pub check-finest : {w c : ℕ} → checkRecovery f ≡ answered finest w c → w ≡ 1
-  check-finest e = subst (Answer false 0) e (check-answer f) .reason
+  check-finest e = subst (ReplyBounds false 0) e (check-answer f) .reason
 
 -- ---- the packed answer
 
@@ -227,7 +227,7 @@ packed-parts : (r : Reply) → widthOf r < 2 ^ 16 → roundsOf r < 2 ^ 32 → Pa
 unfolding packed
 packed-parts r w c = record { fits = omega (arith, code-most r); code = omega arith; width = omega arith; rounds = omega arith }
 
-answer-parts : {l : Bool} {a : ℕ} {r : Reply} → Answer l a r → Parts r
+answer-parts : {l : Bool} {a : ℕ} {r : Reply} → ReplyBounds l a r → Parts r
 answer-parts {r} o = packed-parts r (omega (arith, o .wide)) (omega (arith, o .counted .few))
 
 pub decide-parts : (f g : List ℕ) → Parts (decide f g)

@@ -23,14 +23,14 @@ Covered v (l ∷ ls) x = Clear v x × ((y : List ℤ) → Tick (machine v l) x y
 -- ---- from trajectories
 
 -- the state s, then x
-unfoldable pub behind : List ℤ → (ℕ → List ℤ) → ℕ → List ℤ
-behind s x zero = s
-behind s x (suc j) = x j
+unfoldable pub prepend : List ℤ → (ℕ → List ℤ) → ℕ → List ℤ
+prepend s x zero = s
+prepend s x (suc j) = x j
 
-pub behind-ticks : {m : Machine} {s y : List ℤ} (x : ℕ → List ℤ) (k : ℕ) → x 0 ≡ y → Tick m s y → Ticks m x k → Ticks m (behind s x) (suc k)
-unfolding behind
-behind-ticks x k e t f zero h = rw e t
-behind-ticks x k e t f (suc i) h = f i (omega arith)
+pub prepend-ticks : {m : Machine} {s y : List ℤ} (x : ℕ → List ℤ) (k : ℕ) → x 0 ≡ y → Tick m s y → Ticks m x k → Ticks m (prepend s x) (suc k)
+unfolding prepend
+prepend-ticks x k e t f zero h = rw e t
+prepend-ticks x k e t f (suc i) h = f i (omega arith)
 
 -- a state is covered where each trajectory from it of k ticks under the law l is clear on the way and covered by ls at its end
 module _ (v : List ℤ) (l : Law) (ls : List Law) where
@@ -38,9 +38,9 @@ module _ (v : List ℤ) (l : Law) (ls : List Law) where
       → ((x : ℕ → List ℤ) → x 0 ≡ s → (j : ℕ) → j < k → Ticks (machine v l) x j → Clear v (x j))
       → ((x : ℕ → List ℤ) → x 0 ≡ s → Ticks (machine v l) x k → Covered v ls (x k))
       → Covered v (replicate k l ++ ls) s
-  unfolding Covered behind
+  unfolding Covered prepend
   covered-by zero s clear ends = ends (λ j. s) refl (λ i h. absurd (omega arith))
   covered-by (suc k) s clear ends = (
     clear (λ j. s) refl 0 (omega arith) (λ i h. absurd (omega arith)),
-    λ y t. covered-by k y (λ x e j h f. clear (behind s x) refl (suc j) (omega arith) (behind-ticks x j e t f)) (λ x e f. ends (behind s x) refl (behind-ticks x k e t f)),
+    λ y t. covered-by k y (λ x e j h f. clear (prepend s x) refl (suc j) (omega arith) (prepend-ticks x j e t f)) (λ x e f. ends (prepend s x) refl (prepend-ticks x k e t f)),
   )

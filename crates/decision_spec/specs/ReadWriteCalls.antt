@@ -10,7 +10,7 @@ use lib.ListN.{length}
 use lib.Seq.{sets}
 use Rattle.integers.specs.Bytes.{Bytes}
 use Rattle.sheet_spec.specs.Sheet.{Same}
-use Rattle.sheet_spec.specs.ReadWrite.{part, SameOutside}
+use Rattle.sheet_spec.specs.ReadWrite.{slice, SameOutside}
 use Rattle.decision_spec.specs.Calls.{readCall, readOut, writeCall, writeOut}
 
 -- guard_is_refused of an answer: its code is 3
@@ -35,7 +35,7 @@ CallsReadThenWrite =
 
 -- the bytes from the place on after the write, as many as it answers
 abbrev pub callBytes : List ℤ → List ℕ → ℕ → List ℕ
-callBytes v buffer place = part (writeOut v buffer place) place (writeCall v buffer place)
+callBytes v buffer place = slice (writeOut v buffer place) place (writeCall v buffer place)
 
 -- both calls answer the same length; the array has the same sheet; all other bytes are as they were
 pub record CallsReadBack (v numbers : List ℤ) (buffer : List ℕ) (place : ℕ) : Type 0 where

@@ -16,7 +16,7 @@ use Rattle.sheet_spec.specs.Fields.{Field, bytesIn, numberOf, decoded, offset, 
 use Rattle.sheet_spec.specs.declared.Shape.{Shape}
 use Rattle.sheet_spec.specs.declared.Record.the-variants.{Head}
 use Rattle.sheet_spec.specs.Layout.{headFields}
-use Rattle.sheet_spec.specs.File.{Small, records, start, marked}
+use Rattle.sheet_spec.specs.File.{Small, records, recordStart, marked}
 use Rattle.sheet_spec.specs.Refusals.{unlessRefused}
 use Rattle.sheet_spec.specs.Sheet.{headOf, shapeOf, refusal, values, zeros}
 use Rattle.sheet_spec.proofs.Tests.{bad-ranges}
@@ -37,7 +37,7 @@ grows {n} {m} {b} {c} {g} {k} p q r =
     let side : (2 + 8 * n) * (g + 1) ≤ (2 + 8 * m) * (k + 1) = mul-le-mul (omega arith) (omega arith) in
     omega arith
 
-fits : (s : Shape) → Small s → start s (records s) ≤ longestSheet
+fits : (s : Shape) → Small s → recordStart s (records s) ≤ longestSheet
 fits s m = rw file-length (grows (m .vars) (m .bands) (m .boxes))
 
 -- how a file that is longer is refused

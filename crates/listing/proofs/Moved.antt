@@ -8,7 +8,7 @@ use native.Mathlib.Omega.{arith}
 use lib.ListN.{length, take, drop, getD, set, length-set, length-drop}
 use lib.Seq.{take-suc, take-suc-set, drop-set-lt, drop-drop, getD-drop}
 
--- the first i bytes of `after` were moved there, and those behind them are as they were
+-- the first i bytes of `after` were moved there, and those after them are as they were
 pub record Moved (before : List ℕ) (taken i : ℕ) (after : List ℕ) : Type 0 where
   pub size : length after ≡ length before
   pub front : take i after ≡ take i (drop taken before)

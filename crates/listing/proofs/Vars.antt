@@ -11,14 +11,14 @@ use Rattle.sheet_spec.specs.Sheet.{refusal, values, zeros}
 use Rattle.sheet_spec.proofs.Valid.{valid, values-zero}
 
 -- v's number of variables is one for which there is room
-pub record Counted (v : List ℤ) : Type 0 where
+pub record VarsInRange (v : List ℤ) : Type 0 where
   pub low : pos 0 ≤ℤ v ! varsSlot
   pub high : vars v ≤ N
 
-pub counted : (f : List ℕ) → Counted (values f)
+pub vars-in-range : (f : List ℕ) → VarsInRange (values f)
 unfolding zeros
-counted f = go (refusal f) refl
+vars-in-range f = go (refusal f) refl
   where
-    go : (c : ℕ) → refusal f ≡ c → Counted (values f)
+    go : (c : ℕ) → refusal f ≡ c → VarsInRange (values f)
     go zero e = record { low = valid f e .head varsSlot (omega arith); high = omega (arith, valid f e .vars-high) }
-    go (suc c) e = subst Counted (sym (values-zero f (λ z. let x : _≡_ {A = ℕ} 0 (suc c) = sym z ∙ e in omega arith))) (record { low = omega ints; high = omega arith })
+    go (suc c) e = subst VarsInRange (sym (values-zero f (λ z. let x : _≡_ {A = ℕ} 0 (suc c) = sym z ∙ e in omega arith))) (record { low = omega ints; high = omega arith })

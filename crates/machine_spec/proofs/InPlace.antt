@@ -46,53 +46,53 @@ trim-as-hull n B C h e = trim-as n e (trim-hull n h B C)
 -- ---- a box written in place
 
 -- B with the sides of the variables below n set to f and g
-unfoldable pub filled : ℕ → (ℕ → ℤ) → (ℕ → ℤ) → List ℤ → List ℤ
-filled zero f g B = B
-filled (suc n) f g B = set (set (filled n f g B) n (f n)) (n + N) (g n)
+unfoldable pub withSides : ℕ → (ℕ → ℤ) → (ℕ → ℤ) → List ℤ → List ℤ
+withSides zero f g B = B
+withSides (suc n) f g B = set (set (withSides n f g B) n (f n)) (n + N) (g n)
 
 module _ (f g : ℕ → ℤ) where
-  pub filled-none : (B : List ℤ) → B ≡ filled 0 f g B
-  unfolding filled
-  filled-none B = refl
+  pub with-none : (B : List ℤ) → B ≡ withSides 0 f g B
+  unfolding withSides
+  with-none B = refl
 
   -- a loop's turn: the sides of one variable more are set
-  pub filled-more : (n : ℕ) (B : List ℤ) {r : List ℤ} {x y : ℤ} → r ≡ filled n f g B → x ≡ f n → y ≡ g n → set (set r n x) (n + N) y ≡ filled (n + 1) f g B
-  unfolding filled
-  filled-more n B e p q = rw (e, p, q) (rw add-one refl)
+  pub with-more : (n : ℕ) (B : List ℤ) {r : List ℤ} {x y : ℤ} → r ≡ withSides n f g B → x ≡ f n → y ≡ g n → set (set r n x) (n + N) y ≡ withSides (n + 1) f g B
+  unfolding withSides
+  with-more n B e p q = rw (e, p, q) (rw add-one refl)
 
   -- a variable that is not yet written
-  filled-lo : (n i : ℕ) (B : List ℤ) → n ≤ i → i < N → lo (filled n f g B) i ≡ lo B i
-  unfolding filled
-  filled-lo zero i B k h = refl
-  filled-lo (suc n) i B k h =
-      getD-set-other (set (filled n f g B) n (f n)) (n + N) i (g n) (pos 0) (λ q. omega arith)
-      ∙ (getD-set-other (filled n f g B) n i (f n) (pos 0) (λ q. omega arith) ∙ filled-lo n i B (omega arith) h)
+  with-lo : (n i : ℕ) (B : List ℤ) → n ≤ i → i < N → lo (withSides n f g B) i ≡ lo B i
+  unfolding withSides
+  with-lo zero i B k h = refl
+  with-lo (suc n) i B k h =
+      getD-set-other (set (withSides n f g B) n (f n)) (n + N) i (g n) (pos 0) (λ q. omega arith)
+      ∙ (getD-set-other (withSides n f g B) n i (f n) (pos 0) (λ q. omega arith) ∙ with-lo n i B (omega arith) h)
 
-  filled-hi : (n i : ℕ) (B : List ℤ) → n ≤ i → hi (filled n f g B) i ≡ hi B i
-  unfolding filled
-  filled-hi zero i B k = refl
-  filled-hi (suc n) i B k =
-      getD-set-other (set (filled n f g B) n (f n)) (n + N) (i + N) (g n) (pos 0) (λ q. omega arith)
-      ∙ (getD-set-other (filled n f g B) n (i + N) (f n) (pos 0) (λ q. omega arith) ∙ filled-hi n i B (omega arith))
+  with-hi : (n i : ℕ) (B : List ℤ) → n ≤ i → hi (withSides n f g B) i ≡ hi B i
+  unfolding withSides
+  with-hi zero i B k = refl
+  with-hi (suc n) i B k =
+      getD-set-other (set (withSides n f g B) n (f n)) (n + N) (i + N) (g n) (pos 0) (λ q. omega arith)
+      ∙ (getD-set-other (withSides n f g B) n (i + N) (f n) (pos 0) (λ q. omega arith) ∙ with-hi n i B (omega arith))
 
   -- what a loop's turn reads: the variable's sides as they were, the upper one also after the lower is set
-  module _ (i : ℕ) (B : List ℤ) {r : List ℤ} (e : r ≡ filled i f g B) where
+  module _ (i : ℕ) (B : List ℤ) {r : List ℤ} (e : r ≡ withSides i f g B) where
     pub turn-lo : i < N → lo r i ≡ lo B i
-    turn-lo h = ap (λ (l : List ℤ). lo l i) e ∙ filled-lo i i B (omega arith) h
+    turn-lo h = ap (λ (l : List ℤ). lo l i) e ∙ with-lo i i B (omega arith) h
 
     pub turn-hi : hi r i ≡ hi B i
-    turn-hi = ap (λ (l : List ℤ). hi l i) e ∙ filled-hi i i B (omega arith)
+    turn-hi = ap (λ (l : List ℤ). hi l i) e ∙ with-hi i i B (omega arith)
 
     pub turn-hi-set : (x : ℤ) → hi (set r i x) i ≡ hi B i
     turn-hi-set x = getD-set-other r i (i + N) x (pos 0) (λ q. omega arith) ∙ turn-hi
 
   -- other variables may be set before or after
-  filled-set : (n i : ℕ) (B : List ℤ) (x y : ℤ) → n ≤ i → i < N → filled n f g (set (set B i x) (i + N) y) ≡ set (set (filled n f g B) i x) (i + N) y
-  unfolding filled
-  filled-set zero i B x y k h = refl
-  filled-set (suc n) i B x y k h =
-      let r = filled n f g B in
-      rw (filled-set n i B x y (omega arith) h)
+  with-set : (n i : ℕ) (B : List ℤ) (x y : ℤ) → n ≤ i → i < N → withSides n f g (set (set B i x) (i + N) y) ≡ set (set (withSides n f g B) i x) (i + N) y
+  unfolding withSides
+  with-set zero i B x y k h = refl
+  with-set (suc n) i B x y k h =
+      let r = withSides n f g B in
+      rw (with-set n i B x y (omega arith) h)
       (rw (
         set-comm (set r i x) (i + N) n y (f n) (λ q. omega arith),
         set-comm r i n x (f n) (λ q. omega arith),
@@ -101,12 +101,12 @@ module _ (f g : ℕ → ℤ) where
       ) refl)
 
   -- over a box of other sides: all of them are replaced
-  over-sides : (f′ g′ : ℕ → ℤ) (n : ℕ) → n ≤ N → filled n f g (boxOf n f′ g′) ≡ boxOf n f g
-  unfolding filled boxOf
+  over-sides : (f′ g′ : ℕ → ℤ) (n : ℕ) → n ≤ N → withSides n f g (boxOf n f′ g′) ≡ boxOf n f g
+  unfolding withSides boxOf
   over-sides f′ g′ zero k = refl
   over-sides f′ g′ (suc n) k =
       let s = boxOf n f g in
-      rw (filled-set n n (boxOf n f′ g′) (f′ n) (g′ n) (omega arith) (omega arith))
+      rw (with-set n n (boxOf n f′ g′) (f′ n) (g′ n) (omega arith) (omega arith))
       (rw (over-sides f′ g′ n (omega arith))
       (rw (
         set-comm (set s n (f′ n)) (n + N) n (g′ n) (f n) (λ q. omega arith),
@@ -115,6 +115,6 @@ module _ (f g : ℕ → ℤ) where
       ) refl))
 
   -- all variables set: nothing of a trimmed box is left
-  pub filled-sides : (n : ℕ) (B : List ℤ) → n ≤ N → trim n B ≡ B → filled n f g B ≡ boxOf n f g
+  pub with-all : (n : ℕ) (B : List ℤ) → n ≤ N → trim n B ≡ B → withSides n f g B ≡ boxOf n f g
   unfolding trim
-  filled-sides n B k e = ap (filled n f g) (sym e) ∙ over-sides (lo B) (hi B) n k
+  with-all n B k e = ap (withSides n f g) (sym e) ∙ over-sides (lo B) (hi B) n k

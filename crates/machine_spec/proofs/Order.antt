@@ -18,7 +18,7 @@ use Rattle.machine_spec.proofs.Facts.{cap-low, divisor}
 use Rattle.machine_spec.proofs.Offers.{over-wider, over-ordered}
 use Rattle.machine_spec.proofs.Bands.{Band, meets-read, meets-show, meets-wider}
 use Rattle.machine_spec.proofs.Sound.{change-between, beyond-neutral, rate-bounds}
-use Rattle.machine_spec.proofs.Progress.{goes-on}
+use Rattle.machine_spec.proofs.Progress.{some-tick}
 
 -- ---- a wider box has wider rates
 
@@ -70,5 +70,5 @@ module _ {m : Machine} (wf : Accepted m) (A B : List ℤ) (o : Ordered (varsOf m
 
 pub rates-ordered : {m : Machine} {x : List ℤ} (A B : List ℤ) (i : ℕ) → Accepted m → Band (m .sheet) (bandsOf m) (x ! (bandVarOf m)) → In (varsOf m) A x → In (varsOf m) B x → i < varsOf m → rate false m A i ≤ℤ rate true m B i
 rates-ordered {m} {x} A B i wf b a c h =
-    let t = goes-on x wf b .tick in
+    let t = some-tick x wf b .tick in
     omega (ints, rate-bounds (wf .sheet) t i h false A a .order, rate-bounds (wf .sheet) t i h true B c .order)

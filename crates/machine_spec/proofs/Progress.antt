@@ -46,8 +46,8 @@ pub record Next (m : Machine) (x : List ℤ) : Type 0 where
   pub tick : Tick m x next
 
 -- each variable takes its least allowed change under the least command that the law offers
-pub goes-on : {m : Machine} (x : List ℤ) → Accepted m → Band (m .sheet) (bandsOf m) (x ! (bandVarOf m)) → Next m x
-goes-on {m} x wf b = record {
+pub some-tick : {m : Machine} (x : List ℤ) → Accepted m → Band (m .sheet) (bandsOf m) (x ! (bandVarOf m)) → Next m x
+some-tick {m} x wf b = record {
   next = stateOf (varsOf m) (λ i. x ! i +ℤ f i);
   tick = record {
     size = state-length (varsOf m) _ (room (wf .sheet));

@@ -27,8 +27,8 @@ module _ (f : List ℕ) (qs rs : List Period) where
   pub law-before : (t : ℕ) → t < length qs * δ (values f) → lawAt f (qs ++ rs) t ≡ lawAt f qs t
   law-before t h = rw (acting-append f qs rs) (List·getD-append (acting f qs) (acting f rs) Baseline t (rw (acting-length f qs) h))
 
-  pub law-behind : (i : ℕ) → lawAt f (qs ++ rs) (length qs * δ (values f) + i) ≡ lawAt f rs i
-  law-behind i = rw (acting-append f qs rs, ← acting-length f qs) (getD-append-add (acting f qs) (acting f rs) i Baseline)
+  pub law-later : (i : ℕ) → lawAt f (qs ++ rs) (length qs * δ (values f) + i) ≡ lawAt f rs i
+  law-later i = rw (acting-append f qs rs, ← acting-length f qs) (getD-append-add (acting f qs) (acting f rs) i Baseline)
 
 law-of-one : (f : List ℕ) (q : Period) (i : ℕ) → i < δ (values f) → lawAt f (q ∷ []) i ≡ periodLaw f q
 unfolding acting
@@ -43,4 +43,4 @@ law-at f (q ∷ qs) zero i h k = let e : 0 * δ (values f) + i ≡ i = omega ari
 law-at f (q ∷ qs) (suc p) i h k =
     let n = δ (values f) in
     let e : suc p * n + i ≡ 1 * n + (p * n + i) = omega arith in
-    rw e (law-behind f (q ∷ []) qs (p * n + i) ∙ law-at f qs p i (omega arith) k)
+    rw e (law-later f (q ∷ []) qs (p * n + i) ∙ law-at f qs p i (omega arith) k)

@@ -21,12 +21,12 @@ use Rattle.machine_spec.specs.declared.Law.{Law}
 use Rattle.machine_spec.specs.Accepted.{Lawful}
 use Rattle.machine_spec.specs.Machine.{Machine, machine, Tick}
 use Rattle.machine_spec.proofs.Bands.{Band, has-band}
-use Rattle.machine_spec.proofs.Progress.{goes-on}
+use Rattle.machine_spec.proofs.Progress.{some-tick}
 use Rattle.boxes_spec.proofs.Sound.{Ticks}
 use Rattle.decision_spec.specs.Decision.{checkRecovery, isKeep}
 use Rattle.safety.specs.Run.{Period, periodLaw, lawAt, Measured, Run}
-use Rattle.decision_spec.proofs.Cover.{behind, behind-ticks}
-use Rattle.safety.proofs.Acting.{law-at, law-before, law-behind}
+use Rattle.decision_spec.proofs.Cover.{prepend, prepend-ticks}
+use Rattle.safety.proofs.Acting.{law-at, law-before, law-later}
 use Rattle.safety.proofs.Run.{Backed, Guarded, backed-guarded, period-lawful, wf, begins, backed-tick, at-period, guarded}
 
 -- ---- the states of a run
@@ -67,10 +67,10 @@ join-to zero x y e t h = let z : 0 ≡ t = omega arith in subst (λ (t : ℕ). y
 join-to (suc k) x y e zero h = refl
 join-to (suc k) x y e (suc t) h = join-to k (λ i. x (suc i)) y e t (omega arith)
 
-join-behind : (k : ℕ) (x y : ℕ → List ℤ) (i : ℕ) → join k x y (k + i) ≡ y i
+join-later : (k : ℕ) (x y : ℕ → List ℤ) (i : ℕ) → join k x y (k + i) ≡ y i
 unfolding join
-join-behind zero x y i = rw zero-add refl
-join-behind (suc k) x y i = rw suc-add (join-behind k (λ i. x (suc i)) y i)
+join-later zero x y i = rw zero-add refl
+join-later (suc k) x y i = rw suc-add (join-later k (λ i. x (suc i)) y i)
 
 -- what holds of each t below k, and of each k + i, holds of every t
 split : (P : ℕ → Type 0) (k : ℕ) → ((t : ℕ) → t < k → P t) → ((i : ℕ) → P (k + i)) → (t : ℕ) → P t
@@ -87,12 +87,12 @@ join-runs {f} {qs} {rs} {x} {y} r s e =
       starts = rw (join-to k x y e 0 (omega arith)) (r .starts);
       ticks = split (λ t. t < length (qs ++ rs) * n → Tick (machine (values f) (lawAt f (qs ++ rs) t)) (j t) (j (suc t))) k
           (λ t h _. rw (law-before f qs rs t h, join-to k x y e t (omega arith), join-to k x y e (suc t) (omega arith)) (r .ticks t h))
-          (λ i h. rw (law-behind f qs rs i, join-behind k x y i, ← add-suc k i, join-behind k x y (suc i))
+          (λ i h. rw (law-later f qs rs i, join-later k x y i, ← add-suc k i, join-later k x y (suc i))
           (s .ticks i (omega (arith, ap (λ (z : ℕ). z * n) (length-append qs rs)))));
       measured = split (λ p. p < length (qs ++ rs) → Measured f (getD (qs ++ rs) p none) (j (p * n))) (length qs)
           (λ p h _. rw (List·getD-append qs rs none p h, join-to k x y e (p * n) (mul-le-mul-right n (omega arith))) (r .measured p h))
           (λ i h. let q : (length qs + i) * n ≡ k + i * n = omega arith in
-          rw (getD-append-add qs rs i none, q, join-behind k x y (i * n)) (s .measured i (omega (arith, length-append qs rs))));
+          rw (getD-append-add qs rs i none, q, join-later k x y (i * n)) (s .measured i (omega (arith, length-append qs rs))));
     }
 
 -- ---- a further period
@@ -124,12 +124,12 @@ pub record Continued (f : List ℕ) (qs : List Period) (x : ℕ → List ℤ) (q
 
 module _ (f : List ℕ) (passed : T (isKeep (checkRecovery f))) where
   onward : (left : ℕ) (l : Law) (s : List ℤ) → Lawful (values f) l → Backed (values f) l left s → Trajectory (machine (values f) l) s left
-  unfolding behind
+  unfolding prepend
   onward zero l s a b = record { states = λ t. s; first = refl; ticks = λ i h. absurd (omega arith) }
   onward (suc left) l s a b =
-      let n = goes-on s (record { sheet = wf f passed; law = a }) (guarded-band (wf f passed) (backed-guarded l left b)) in
+      let n = some-tick s (record { sheet = wf f passed; law = a }) (guarded-band (wf f passed) (backed-guarded l left b)) in
       let r = onward left l (n .next) a (backed-tick f passed l left b (n .tick)) in
-      record { states = behind s (r .states); first = refl; ticks = behind-ticks (r .states) left (r .first) (n .tick) (r .ticks) }
+      record { states = prepend s (r .states); first = refl; ticks = prepend-ticks (r .states) left (r .first) (n .tick) (r .ticks) }
 
   -- every run goes on with any further period; if that is kept, its measured box has to hold the state
   pub runs-go-on : (qs : List Period) (x : ℕ → List ℤ) → In (vars (values f)) (recoveryBox (values f)) (x 0) → Run f qs x

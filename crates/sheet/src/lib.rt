@@ -30,7 +30,7 @@ pub struct Parsed {
     pub value: [i32; SLOTS],
 }
 
-fn clear(v: &mut [i32; SLOTS])
+fn zero(v: &mut [i32; SLOTS])
     ensures { λ _. ⌜ now (v .exit) ≡ zeros ⌝ }
 {
     *v = [0i32; SLOTS];
@@ -76,7 +76,7 @@ pub fn read_zeroed(f: &[u8], v: &mut [i32; SLOTS]) -> u8
 {
     let refused = read_cleared(f, v);
     if refused != 0 {
-        clear(v);
+        zero(v);
     }
     refused
 }

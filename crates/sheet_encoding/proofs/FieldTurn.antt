@@ -12,10 +12,10 @@ use Rattle.sheet_spec.specs.Fields.{i32, decoded, test, offset, filled, bad}
 use Rattle.sheet_spec.specs.Sizes.{capBytes, safetyLeastAt, safetyGreatestAt, rowBytes, upperAt, boxBytes, coefficientBytes}
 use Rattle.sheet_spec.specs.Layout.{_▸_, capField, headFields, edgeField, rowFields, bandFields, sideFields, boxFields, rowRest}
 use Rattle.sheet_spec.proofs.Length.{cap-offset, rest-offset, side-offset}
-use Rattle.sheet_spec.proofs.FieldRuns.{Run, offset-part, offset-next, filled-next, bad-next}
+use Rattle.sheet_spec.proofs.FieldRuns.{FieldRun, offset-part, offset-next, filled-next, bad-next}
 use Rattle.sheet_spec.proofs.FieldPlaces.{cap-at, rest-at, side-run}
 
-pub cap-run : (n : ℕ) → Run headFields capField headSize n
+pub cap-run : (n : ℕ) → FieldRun headFields capField headSize n
 cap-run n = record { at = λ i l. cap-at i }
 
 pub cap-place : (i : ℕ) → offset capField i ≡ capBytes i

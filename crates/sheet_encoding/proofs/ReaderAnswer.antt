@@ -14,7 +14,7 @@ use Rattle.sheet_spec.specs.Slots.{_!_, headSize, varsSlot, bandsSlot, boxesSlo
 use Rattle.sheet_spec.specs.Refusals.{Cause, number}
 use Rattle.sheet_spec.specs.declared.Shape.{Shape}
 use Rattle.sheet_spec.specs.declared.Record.the-variants.{Head}
-use Rattle.sheet_spec.specs.File.{shape, Small, records, recordAt, fieldsAt, countAt, start, filledAll, marked, markedAt, badAll}
+use Rattle.sheet_spec.specs.File.{shape, Small, records, recordAt, fieldsAt, countAt, recordStart, filledAll, marked, markedAt, badAll}
 use Rattle.sheet_spec.specs.Fields.{offset, filled, bad}
 use Rattle.sheet_spec.specs.Sizes.{letters, capsAt}
 use Rattle.sheet_spec.specs.Layout.{_▸_, capField, headFields, fields}
@@ -47,12 +47,12 @@ unfolding headOf zeros headFields _▸_ filled
 head-again f = refl
 
 all-again : (s : Shape) (f : List ℕ) (r : ℕ) → filledAll s f (suc r) (headOf f) ≡ filledAll s f (suc r) zeros
-unfolding filledAll start fields recordAt _▸_ headOf
+unfolding filledAll recordStart fields recordAt _▸_ headOf
 all-again s f zero =
     filled-part headFields capField headSize (s .vars) (cap-run (s .vars)) f letters (headOf f)
     ∙ ap (filled capField f (letters + offset headFields headSize) (s .vars)) (head-again f)
     ∙ sym (filled-part headFields capField headSize (s .vars) (cap-run (s .vars)) f letters zeros)
-all-again s f (suc r) = ap (filled (fieldsAt s (suc r)) f (start s (suc r) + letters) (countAt s (suc r))) (all-again s f r)
+all-again s f (suc r) = ap (filled (fieldsAt s (suc r)) f (recordStart s (suc r) + letters) (countAt s (suc r))) (all-again s f r)
 
 -- where h is the head as read, its numbers are in range, and s has its counts
 module _ (f : List ℕ) (h : List ℤ) (s : Shape) (begun : leb capsAt (length f) && marked f 0 Head ≡ true) (hh : h ≡ headOf f)
@@ -64,13 +64,13 @@ module _ (f : List ℕ) (h : List ℤ) (s : Shape) (begun : leb capsAt (length f
   unfolding shapeOf
   same = hs ∙ ap (λ (u : List ℤ). shape u) hh
 
-  size-is : start s (records s) ≡ start (shapeOf f) (records (shapeOf f))
-  size-is = ap (λ (s : Shape). start s (records s)) same
+  size-is : recordStart s (records s) ≡ recordStart (shapeOf f) (records (shapeOf f))
+  size-is = ap (λ (s : Shape). recordStart s (records s)) same
 
-  pub rest-short : {l : ℕ} → l ≡ start s (records s) → (length f ≡ l → ⊥) → number Cause.length ≡ refusal f
+  pub rest-short : {l : ℕ} → l ≡ recordStart s (records s) → (length f ≡ l → ⊥) → number Cause.length ≡ refusal f
   rest-short e q = refused-size f begun headed (λ p. q (p ∙ sym (e ∙ size-is)))
 
-  module _ {l x : ℕ} {w : List ℤ} (e : l ≡ start s (records s)) (q : length f ≡ l)
+  module _ {l x : ℕ} {w : List ℤ} (e : l ≡ recordStart s (records s)) (q : length f ≡ l)
       (hw : w ≡ filledAll s f (records s) h) (hx : x ≡ badAll (markedAt s f) s w (records s)) where
     rest-contents : w ≡ contents f
     unfolding contents

@@ -14,7 +14,7 @@ use Rattle.sheet_spec.specs.Sizes.{letters, rowBytes}
 use Rattle.sheet_spec.specs.declared.Shape.{Shape}
 use Rattle.sheet_spec.specs.declared.Record.{Record}
 use Rattle.sheet_spec.specs.Layout.{fields, count}
-use Rattle.sheet_spec.specs.File.{Small, HasRoom, records, recordAt, recordLength, start, filledAll, badNumbers, badRecord, badAll}
+use Rattle.sheet_spec.specs.File.{Small, HasRoom, records, recordAt, recordLength, recordStart, filledAll, badNumbers, badRecord, badAll}
 use Rattle.sheet_spec.proofs.Records.{room-at}
 
 -- the refusal of a wrong mark or, if it is right, x
@@ -23,18 +23,18 @@ afterMark t x = unlessRefused (refuseUnless t Cause.mark) (λ c. c) x
 
 -- one record more
 module _ (s : Shape) (r : ℕ) where
-  next-start : start s (r + 1) ≡ start s r + recordLength (s .vars) (recordAt s r)
-  unfolding start
-  next-start = rw (add-one r, start) (omega arith)
+  next-start : recordStart s (r + 1) ≡ recordStart s r + recordLength (s .vars) (recordAt s r)
+  unfolding recordStart
+  next-start = rw (add-one r, recordStart) (omega arith)
 
   module _ {x : Record} (is : x ≡ recordAt s r) where
     pub has-room : Small s → r < records s → HasRoom x
     has-room l h = subst HasRoom (sym is) (room-at s l r h)
 
-    pub start-more : {a l b : ℕ} → l ≡ recordLength (s .vars) x → a ≡ start s r → b ≡ a + l → b ≡ start s (r + 1)
+    pub start-more : {a l b : ℕ} → l ≡ recordLength (s .vars) x → a ≡ recordStart s r → b ≡ a + l → b ≡ recordStart s (r + 1)
     start-more hl ha hb = omega (arith, next-start, hl ∙ ap (recordLength (s .vars)) is)
 
-    pub filled-more : (f : List ℕ) (v : List ℤ) {b : ℕ} {u w : List ℤ} → u ≡ filled (fields (s .vars) x) f (b + letters) (count (s .vars) x) w → b ≡ start s r → w ≡ filledAll s f r v → u ≡ filledAll s f (r + 1) v
+    pub filled-more : (f : List ℕ) (v : List ℤ) {b : ℕ} {u w : List ℤ} → u ≡ filled (fields (s .vars) x) f (b + letters) (count (s .vars) x) w → b ≡ recordStart s r → w ≡ filledAll s f r v → u ≡ filledAll s f (r + 1) v
     unfolding filledAll
     filled-more f v {b} {u} {w} hu hb hw =
         rw (add-one r, filledAll)
@@ -48,15 +48,15 @@ module _ (s : Shape) (r : ℕ) where
   unfolding badAll firstRefusal
   bad-more marks v hy hz hx = rw (add-one r, firstRefusal) (hy ∙ ap₂ (λ (z x : ℕ). unlessRefused z (λ c. c) x) hz hx)
 
-start-mono : (s : Shape) (r d : ℕ) → start s r ≤ start s (r + d)
+start-mono : (s : Shape) (r d : ℕ) → recordStart s r ≤ recordStart s (r + d)
 start-mono s r zero = rw (add-zero r) (omega arith)
 start-mono s r (suc d) = let e : r + suc d ≡ r + d + 1 = omega arith in rw e (omega (arith, next-start s (r + d), start-mono s r d))
 
 -- where k records have room, each of them has
-pub record-room : (s : Shape) (r k l : ℕ) {x : Record} {a : ℕ} → x ≡ recordAt s r → a ≡ start s r → r < k → start s k ≤ l → a + recordLength (s .vars) x ≤ l
+pub record-room : (s : Shape) (r k l : ℕ) {x : Record} {a : ℕ} → x ≡ recordAt s r → a ≡ recordStart s r → r < k → recordStart s k ≤ l → a + recordLength (s .vars) x ≤ l
 record-room s r k l is ha h m =
     let e : r + 1 + (k - (r + 1)) ≡ k = omega arith in
-    let n : start s (r + 1) ≤ start s k = rw e at (start-mono s (r + 1) (k - (r + 1))) in
+    let n : recordStart s (r + 1) ≤ recordStart s k = rw e at (start-mono s (r + 1) (k - (r + 1))) in
     omega (arith, next-start s r, ap (recordLength (s .vars)) is)
 
 -- the greatest number of bytes of a band's rows

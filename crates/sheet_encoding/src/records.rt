@@ -3,7 +3,7 @@ ghost use mathlib.Core.Path.{_≡_};
 ghost use Rattle.sheet_spec.specs.Slots.{headSize};
 ghost use Rattle.sheet_spec.specs.Fields.{bad};
 ghost use Rattle.sheet_spec.specs.Layout.{headFields};
-ghost use Rattle.sheet_spec.specs.File.{shape, Small, records, recordAt, recordLength, start};
+ghost use Rattle.sheet_spec.specs.File.{shape, Small, records, recordAt, recordLength, recordStart};
 use crate::count;
 use sheet_spec::Record;
 use sheet_spec::Shape;
@@ -68,7 +68,7 @@ pub fn record_length(shape: Shape, record: Record) -> usize
 // The bytes of a sheet.
 pub fn file_length(shape: Shape) -> usize
     requires { ⌜ Small shape ⌝ }
-    ensures { λ l. ⌜ l ≡ start shape (records shape) ⌝ }
+    ensures { λ l. ⌜ l ≡ recordStart shape (records shape) ⌝ }
 {
     let n = shape.vars;
     CAPS_AT

@@ -7,7 +7,7 @@ ghost use lib.ListN.{length};
 ghost use Rattle.sheet_spec.specs.Limits.{maxBands};
 ghost use Rattle.sheet_spec.specs.Slots.{N, headSize, rowSize, boxSize, slots};
 ghost use Rattle.sheet_spec.specs.Refusals.{Cause, refuseUnless, unlessRefused};
-ghost use Rattle.sheet_spec.specs.File.{Small, HasRoom, records, recordLength, start, filledAll, markedAt, badAll};
+ghost use Rattle.sheet_spec.specs.File.{Small, HasRoom, records, recordLength, recordStart, filledAll, markedAt, badAll};
 ghost use Rattle.sheet_spec.specs.Fields.{filled};
 ghost use Rattle.sheet_spec.specs.Sizes.{letters, capsAt, capBytes, rowBytes, bandBytes, boxBytes};
 ghost use Rattle.sheet_spec.specs.Layout.{headFields, rowFields, rowCount, bandFields, bandCount, boxFields, boxCount, fields, count};
@@ -122,7 +122,7 @@ fn read_record(f: &[u8], at: usize, shape: Shape, record: Record, v: &mut [i32; 
 }
 
 pub fn read_records(f: &[u8], shape: Shape, v: &mut [i32; SLOTS])
-    requires { ⌜ Small shape × (start shape (records shape) ≤ length (now f)) ⌝ }
+    requires { ⌜ Small shape × (recordStart shape (records shape) ≤ length (now f)) ⌝ }
     ensures { λ _. ⌜ now (v .exit) ≡ filledAll shape (now (f .entry)) (records shape) (now (v .entry)) ⌝ }
 {
     let count = record_count(shape);
@@ -145,7 +145,7 @@ fn wrong(right: bool, x: u8) -> u8
 
 // The marks and the numbers of every record, once they were read.
 pub fn bad_file(f: &[u8], shape: Shape, v: &[i32; SLOTS]) -> u8
-    requires { ⌜ Small shape × (start shape (records shape) ≤ length (now f)) ⌝ }
+    requires { ⌜ Small shape × (recordStart shape (records shape) ≤ length (now f)) ⌝ }
     ensures { λ x. ⌜ x ≡ badAll (markedAt shape (now (f .entry))) shape (now (v .entry)) (records shape) ⌝ }
 {
     let count = record_count(shape);

@@ -17,7 +17,7 @@ use Rattle.sheet_spec.specs.declared.Record.{Record}
 use Rattle.sheet_spec.specs.declared.Record.the-variants.{Head}
 use Rattle.sheet_spec.specs.Layout.{_▸_, headFields, fields, count}
 use Rattle.sheet_spec.specs.declared.Shape.{Shape}
-use Rattle.sheet_spec.specs.File.{shape, Small, records, recordAt, fieldsAt, countAt, start, marked, markedAt}
+use Rattle.sheet_spec.specs.File.{shape, Small, records, recordAt, fieldsAt, countAt, recordStart, marked, markedAt}
 use Rattle.sheet_spec.specs.Sheet.{zeros, headOf, shapeOf, contents, stage, stages, refusal, values}
 use Rattle.sheet_spec.proofs.Streams.{Each, lt-or-le}
 use Rattle.sheet_spec.proofs.Box.{and-both}
@@ -41,7 +41,7 @@ zeros-at i = ⊎-elim (λ (l : i < slots). getD-replicate slots i (pos 0) (pos 0
 pub record Accepted (f : List ℕ) : Type 0 where
   pub least : capsAt ≤ length f
   pub small : Small (shapeOf f)
-  pub size : length f ≡ start (shapeOf f) (records (shapeOf f))
+  pub size : length f ≡ recordStart (shapeOf f) (records (shapeOf f))
   pub marks : (r : ℕ) → r < records (shapeOf f) → markedAt (shapeOf f) f r ≡ true
   pub good : Each (Good (contents f) (shapeOf f)) (recordAt (shapeOf f)) (records (shapeOf f))
   pub values : values f ≡ contents f
@@ -54,7 +54,7 @@ accepted f e =
     record {
       least = leb-true _ _ (and-both _ _ (unless-zero (leb capsAt (length f) && marked f 0 Head) Cause.head (t .at 0 (omega arith))) .0);
       small = small (headOf f) (bad-ranges headFields (headOf f) headSize (t .at 1 (omega arith)));
-      size = eqb-true _ _ (unless-zero (eqb (length f) (start s (records s))) Cause.length (t .at 2 (omega arith)));
+      size = eqb-true _ _ (unless-zero (eqb (length f) (recordStart s (records s))) Cause.length (t .at 2 (omega arith)));
       marks = mark-right (markedAt s f) s (contents f) (records s) (t .at 3 (omega arith));
       good = all-good (markedAt s f) s (contents f) (records s) (t .at 3 (omega arith));
       values = goes-on _ _ e;
@@ -73,12 +73,12 @@ head-number f =
 
 module _ (f : List ℕ) (m : Small (shapeOf f)) where
   pub number-at : (r : ℕ) → r < records (shapeOf f) → (j : ℕ) → j < countAt (shapeOf f) r
-      → contents f ! fieldsAt (shapeOf f) r j .slot ≡ decoded (fieldsAt (shapeOf f) r j .kind) (drop (start (shapeOf f) r + letters + offset (fieldsAt (shapeOf f) r) j) f)
+      → contents f ! fieldsAt (shapeOf f) r j .slot ≡ decoded (fieldsAt (shapeOf f) r j .kind) (drop (recordStart (shapeOf f) r + letters + offset (fieldsAt (shapeOf f) r) j) f)
   unfolding contents
   number-at = all-at (shapeOf f) f m zeros length-zeros (records (shapeOf f)) (omega arith)
 
   same-head : (j : ℕ) → j < headSize → contents f ! headFields j .slot ≡ headOf f ! headFields j .slot
-  unfolding fields start
+  unfolding fields recordStart
   same-head j l =
       let s = shapeOf f in
       let P : Record → Type 0 = λ x. j < count (s .vars) x → contents f ! fields (s .vars) x j .slot ≡ decoded (fields (s .vars) x j .kind) (drop (0 + letters + offset (fields (s .vars) x) j) f) in

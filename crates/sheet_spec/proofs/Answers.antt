@@ -15,7 +15,7 @@ use Rattle.sheet_spec.specs.Fields.{bad, test}
 use Rattle.sheet_spec.specs.Sizes.{capsAt}
 use Rattle.sheet_spec.specs.declared.Record.the-variants.{Head}
 use Rattle.sheet_spec.specs.Layout.{_▸_, headFields, fields}
-use Rattle.sheet_spec.specs.File.{shape, records, recordAt, start, marked, markedAt, badRecord, badAll}
+use Rattle.sheet_spec.specs.File.{shape, records, recordAt, recordStart, marked, markedAt, badRecord, badAll}
 use Rattle.sheet_spec.specs.Sheet.{headOf, shapeOf, contents, stage, stages, refusal, valueRefusal, length-of, bytesOf, writeRefusal, written}
 use Rattle.sheet_spec.proofs.Laws.{goes-on, stops, first-next, first-keep, number-is}
 
@@ -45,15 +45,15 @@ module _ (f : List ℕ) where
       unfolding stage
       two = first-next (stage f) 1 0 one headed
 
-      pub refused-size : (length f ≡ start (shapeOf f) (records (shapeOf f)) → ⊥) → number Cause.length ≡ refusal f
+      pub refused-size : (length f ≡ recordStart (shapeOf f) (records (shapeOf f)) → ⊥) → number Cause.length ≡ refusal f
       unfolding stage
       refused-size n =
-          at-stage 2 (number Cause.length) (omega arith) two (ap (λ (b : Bool). refuseUnless b Cause.length) (sym (ne-eqb (length f) (start (shapeOf f) (records (shapeOf f))) n))) (number-is Cause.length)
+          at-stage 2 (number Cause.length) (omega arith) two (ap (λ (b : Bool). refuseUnless b Cause.length) (sym (ne-eqb (length f) (recordStart (shapeOf f) (records (shapeOf f))) n))) (number-is Cause.length)
 
-      pub answer : length f ≡ start (shapeOf f) (records (shapeOf f)) → badAll (markedAt (shapeOf f) f) (shapeOf f) (contents f) (records (shapeOf f)) ≡ refusal f
+      pub answer : length f ≡ recordStart (shapeOf f) (records (shapeOf f)) → badAll (markedAt (shapeOf f) f) (shapeOf f) (contents f) (records (shapeOf f)) ≡ refusal f
       unfolding stage refusal
       answer e =
-          sym (first-next (stage f) 3 _ (first-next (stage f) 2 0 two (ap (λ (b : Bool). refuseUnless b Cause.length) (sym (eq-eqb (length f) (start (shapeOf f) (records (shapeOf f))) e)))) refl)
+          sym (first-next (stage f) 3 _ (first-next (stage f) 2 0 two (ap (λ (b : Bool). refuseUnless b Cause.length) (sym (eq-eqb (length f) (recordStart (shapeOf f) (records (shapeOf f))) e)))) refl)
 
 -- ---- writing
 
@@ -73,23 +73,23 @@ some-room : (n k : ℕ) → n ≤ k → 0 ≡ refuseUnless (leb n k) Cause.room
 some-room n k l = rw (le-leb n k l)
 
 module _ (v : List ℤ) (buffer : List ℕ) (place : ℕ) where
-  pub record Answer (c : ℕ) (after : List ℕ) : Type 0 where
+  pub record WriteAnswer (c : ℕ) (after : List ℕ) : Type 0 where
     pub refusal : c ≡ writeRefusal v buffer place
     pub left : after ≡ written v buffer place
 
-  refused : (c : ℕ) → c ≡ writeRefusal v buffer place → (c ≡ 0 → ⊥) → Answer c buffer
+  refused : (c : ℕ) → c ≡ writeRefusal v buffer place → (c ≡ 0 → ⊥) → WriteAnswer c buffer
   unfolding written
   refused c e n = record { refusal = e; left = sym (stops (λ c. buffer) _ (λ z. n (e ∙ z))) }
 
-  pub write-bad : (c : ℕ) → c ≡ valueRefusal v → (c ≡ 0 → ⊥) → Answer c buffer
+  pub write-bad : (c : ℕ) → c ≡ valueRefusal v → (c ≡ 0 → ⊥) → WriteAnswer c buffer
   unfolding writeRefusal
   write-bad c e n = refused c (e ∙ sym (stops (λ c. c) _ (λ z. n (e ∙ z)))) n
 
-  pub write-short : 0 ≡ valueRefusal v → length buffer < place + length-of v → Answer (number Cause.room) buffer
+  pub write-short : 0 ≡ valueRefusal v → length buffer < place + length-of v → WriteAnswer (number Cause.room) buffer
   unfolding writeRefusal
   write-short e l = refused (number Cause.room) (no-room (place + length-of v) (length buffer) l ∙ sym (goes-on (λ c. c) _ (sym e))) (number-is Cause.room)
 
-  pub write-done : 0 ≡ valueRefusal v → place + length-of v ≤ length buffer → Answer 0 (sets buffer place (bytesOf v))
+  pub write-done : 0 ≡ valueRefusal v → place + length-of v ≤ length buffer → WriteAnswer 0 (sets buffer place (bytesOf v))
   unfolding writeRefusal written
   write-done e l =
       let q : 0 ≡ writeRefusal v buffer place = some-room (place + length-of v) (length buffer) l ∙ sym (goes-on (λ c. c) _ (sym e)) in

@@ -15,7 +15,7 @@ use Rattle.sheet_spec.specs.declared.Record.{Record}
 use Rattle.sheet_spec.specs.declared.Record.the-variants.{Head, Band, Unsafe, Recovery}
 use Rattle.sheet_spec.specs.Layout.{headFields}
 use Rattle.sheet_spec.specs.declared.Shape.{Shape}
-use Rattle.sheet_spec.specs.File.{shape, records, recordAt, fieldsAt, countAt, start, marked, markedAt, closing, badRecord, badAll}
+use Rattle.sheet_spec.specs.File.{shape, records, recordAt, fieldsAt, countAt, recordStart, marked, markedAt, closing, badRecord, badAll}
 use Rattle.sheet_spec.specs.Sheet.{headOf, shapeOf, contents, stage, stages, refusal, valueRefusal, length-of, writeRefusal}
 use Rattle.sheet_spec.proofs.Laws.{either-most, first-most, unless-most}
 
@@ -46,7 +46,7 @@ stage-most : (f : List ℕ) (i : ℕ) → stage f i ≤ greatestNumber
 unfolding stage
 stage-most f zero = unless-most (leb capsAt (length f) && marked f 0 Head) Cause.head
 stage-most f (suc zero) = bad-most headFields (headOf f) headSize
-stage-most f (suc (suc zero)) = let s = shapeOf f in unless-most (eqb (length f) (start s (records s))) Cause.length
+stage-most f (suc (suc zero)) = let s = shapeOf f in unless-most (eqb (length f) (recordStart s (records s))) Cause.length
 stage-most f (suc (suc (suc i))) = let s = shapeOf f in all-most (markedAt s f) s (contents f) (records s)
 
 pub refusal-most : (f : List ℕ) → refusal f ≤ greatestNumber

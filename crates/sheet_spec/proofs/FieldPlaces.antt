@@ -8,7 +8,7 @@ use Rattle.sheet_spec.specs.Refusals.{Cause}
 use Rattle.sheet_spec.specs.Fields.{i16, Field}
 use Rattle.sheet_spec.specs.Layout.{_▸_, plusMinus, capField, headFields, rowRest, rowFields, bandFields, sideFields, boxFields, rowCount}
 use Rattle.sheet_spec.proofs.Streams.{first-low, first-after, groups-at}
-use Rattle.sheet_spec.proofs.FieldRuns.{Run}
+use Rattle.sheet_spec.proofs.FieldRuns.{FieldRun}
 
 pub cap-at : (i : ℕ) → headFields (headSize + i) ≡ capField i
 unfolding headFields _▸_
@@ -26,13 +26,13 @@ pub rest-at : (n s j : ℕ) → rowFields n s (n + j) ≡ rowRest s j
 unfolding rowFields
 rest-at n s j = first-after n _ _ j
 
-pub row-run : (n k i : ℕ) → Run (bandFields n k) (rowFields n (rowSlot k i)) (firstRow + i * rowCount n) (rowCount n)
+pub row-run : (n k i : ℕ) → FieldRun (bandFields n k) (rowFields n (rowSlot k i)) (firstRow + i * rowCount n) (rowCount n)
 unfolding bandFields _▸_
 row-run n k i = record {
   at = λ j l. (let e : firstRow + i * rowCount n + j ≡ suc (suc (suc (i * rowCount n + j))) = omega arith in rw e (groups-at (rowCount n) _ i j l));
 }
 
-pub side-run : (h s i : ℕ) → Run (boxFields h s) (sideFields h (s + i)) (i * pairSize) pairSize
+pub side-run : (h s i : ℕ) → FieldRun (boxFields h s) (sideFields h (s + i)) (i * pairSize) pairSize
 unfolding boxFields
 side-run h s i = record { at = λ j l. groups-at pairSize _ i j l }
 

@@ -13,21 +13,21 @@ use Rattle.sheet_spec.specs.Fields.{Field, bytesIn, decoded, encoded, te
 
 module _ (p q : ℕ → Field) (k : ℕ) where
   -- the m fields of p after the first k are those of q
-  pub record Run (m : ℕ) : Type 0 where
+  pub record FieldRun (m : ℕ) : Type 0 where
     pub at : (i : ℕ) → i < m → p (k + i) ≡ q i
 
-  less : {m : ℕ} → Run (suc m) → Run m
+  less : {m : ℕ} → FieldRun (suc m) → FieldRun m
   less h = record { at = λ i l. h .at i (omega arith) }
 
-  last : {m : ℕ} → Run (suc m) → p (k + m) ≡ q m
+  last : {m : ℕ} → FieldRun (suc m) → p (k + m) ≡ q m
   last {m} h = h .at m (omega arith)
 
-  pub offset-part : (m : ℕ) → Run m → offset p (k + m) ≡ offset p k + offset q m
+  pub offset-part : (m : ℕ) → FieldRun m → offset p (k + m) ≡ offset p k + offset q m
   unfolding offset
   offset-part zero h = rw (add-zero k, add-zero)
   offset-part (suc m) h = rw (add-suc k m, offset) (omega (arith, offset-part m (less h), ap (λ (x : Field). bytesIn (x .kind)) (last h)))
 
-  pub filled-part : (m : ℕ) → Run m → (f : List ℕ) (at : ℕ) (v : List ℤ) → filled p f at (k + m) v ≡ filled q f (at + offset p k) m (filled p f at k v)
+  pub filled-part : (m : ℕ) → FieldRun m → (f : List ℕ) (at : ℕ) (v : List ℤ) → filled p f at (k + m) v ≡ filled q f (at + offset p k) m (filled p f at k v)
   unfolding filled
   filled-part zero h f at v = rw (add-zero k)
   filled-part (suc m) h f at v =
@@ -37,10 +37,10 @@ module _ (p q : ℕ → Field) (k : ℕ) where
       ∙ ap (λ (n : ℕ). set (filled q f (at + offset p k) m (filled p f at k v)) (q m .slot) (decoded (q m .kind) (drop n f))) e)
 
   -- what q's m fields were read to, where p's first k were read before them
-  pub filled-run : (m : ℕ) → Run m → (f : List ℕ) (at : ℕ) (v : List ℤ) {a : ℕ} {w u : List ℤ} → u ≡ filled q f a m w → a ≡ at + offset p k → w ≡ filled p f at k v → u ≡ filled p f at (k + m) v
+  pub filled-run : (m : ℕ) → FieldRun m → (f : List ℕ) (at : ℕ) (v : List ℤ) {a : ℕ} {w u : List ℤ} → u ≡ filled q f a m w → a ≡ at + offset p k → w ≡ filled p f at k v → u ≡ filled p f at (k + m) v
   filled-run m h f at v hu ha hw = hu ∙ ap₂ (λ (b : ℕ) (w : List ℤ). filled q f b m w) ha hw ∙ sym (filled-part m h f at v)
 
-  pub coded-part : (m : ℕ) → Run m → (v : List ℤ) → coded p v (k + m) ≡ coded p v k ++ coded q v m
+  pub coded-part : (m : ℕ) → FieldRun m → (v : List ℤ) → coded p v (k + m) ≡ coded p v k ++ coded q v m
   unfolding coded
   coded-part zero h v = rw (add-zero k) (sym (append-nil (coded p v k)))
   coded-part (suc m) h v =
@@ -48,14 +48,14 @@ module _ (p q : ℕ → Field) (k : ℕ) where
       (ap₂ (λ (w : List ℕ) (x : Field). w ++ encoded (x .kind) (v ! x .slot)) (coded-part m (less h) v) (last h)
       ∙ append-assoc (coded p v k) (coded q v m) (encoded (q m .kind) (v ! q m .slot)))
 
-  pub bad-part : (m : ℕ) → Run m → (v : List ℤ) → bad p v (k + m) ≡ unlessRefused (bad p v k) (λ c. c) (bad q v m)
+  pub bad-part : (m : ℕ) → FieldRun m → (v : List ℤ) → bad p v (k + m) ≡ unlessRefused (bad p v k) (λ c. c) (bad q v m)
   unfolding bad firstRefusal
   bad-part zero h v = rw (add-zero k) (sym (either-none (bad p v k)))
   bad-part (suc m) h v =
       rw (add-suc k m, firstRefusal)
       (ap₂ (λ (x : ℕ) (y : Field). unlessRefused x (λ c. c) (test v y)) (bad-part m (less h) v) (last h) ∙ stops-either (λ c. c) (test v (q m)) (bad p v k) (bad q v m))
 
-  pub bad-run : (m : ℕ) → Run m → (v : List ℤ) {x y z : ℕ} → y ≡ unlessRefused z (λ c. c) x → z ≡ bad p v k → x ≡ bad q v m → y ≡ bad p v (k + m)
+  pub bad-run : (m : ℕ) → FieldRun m → (v : List ℤ) {x y z : ℕ} → y ≡ unlessRefused z (λ c. c) x → z ≡ bad p v k → x ≡ bad q v m → y ≡ bad p v (k + m)
   bad-run m h v hy hz hx = hy ∙ ap₂ (λ (z x : ℕ). unlessRefused z (λ c. c) x) hz hx ∙ sym (bad-part m h v)
 
 pub offset-mono : (p : ℕ → Field) (j k : ℕ) → j ≤ k → offset p j ≤ offset p k

@@ -13,10 +13,10 @@ use Rattle.sheet_spec.specs.declared.Record.{Record}
 use Rattle.sheet_spec.specs.declared.Record.the-variants.{Head, Band, Unsafe, Recovery}
 use Rattle.sheet_spec.specs.Layout.{_▸_, capField, headFields, edgeField, rowRest, rowFields, bandFields, sideFields, boxFields, fields, count, rowCount}
 use Rattle.sheet_spec.specs.declared.Shape.{Shape}
-use Rattle.sheet_spec.specs.File.{shape, records, recordAt, start}
+use Rattle.sheet_spec.specs.File.{shape, records, recordAt, recordStart}
 use Rattle.sheet_spec.specs.Sheet.{length-of}
 use Rattle.sheet_spec.proofs.Records.{head-at, band-at, unsafe-at, recovery-at}
-use Rattle.sheet_spec.proofs.FieldRuns.{Run, offset-part}
+use Rattle.sheet_spec.proofs.FieldRuns.{FieldRun, offset-part}
 use Rattle.sheet_spec.proofs.FieldPlaces.{cap-at, coefficient-at, rest-at, row-run, side-run}
 
 -- fields of one size
@@ -26,7 +26,7 @@ offset-flat p w zero e = omega arith
 offset-flat p w (suc k) e = rw (suc-mul k w) (omega (arith, offset-flat p w k (λ j l. e j (omega arith)), e k (omega arith)))
 
 -- runs of m fields and w bytes each, of which run i starts at `at i`
-offset-runs : (p : ℕ → Field) (q : ℕ → ℕ → Field) (at : ℕ → ℕ) (m w : ℕ) → ((i : ℕ) → at (suc i) ≡ at i + m) → ((i : ℕ) → Run p (q i) (at i) m) → ((i : ℕ) → offset (q i) m ≡ w)
+offset-runs : (p : ℕ → Field) (q : ℕ → ℕ → Field) (at : ℕ → ℕ) (m w : ℕ) → ((i : ℕ) → at (suc i) ≡ at i + m) → ((i : ℕ) → FieldRun p (q i) (at i) m) → ((i : ℕ) → offset (q i) m ≡ w)
     → (i : ℕ) → offset p (at i) ≡ offset p (at 0) + i * w
 offset-runs p q at m w e r h zero = omega (arith, zero-mul w)
 offset-runs p q at m w e r h (suc i) = ap (offset p) (e i) ∙ omega (arith, offset-part p (q i) (at i) m (r i), offset-runs p q at m w e r h i, h i, suc-mul i w)
@@ -83,28 +83,28 @@ record-size n (Unsafe j) = ap (λ (a : ℕ). letters + a) (side-offset maxUnsafe
 record-size n Recovery = ap (λ (a : ℕ). letters + a) (side-offset maxRecoverySide recoverySlot n)
 
 module _ (s : Shape) where
-  pub start-next : (r : ℕ) {x : Record} → recordAt s r ≡ x → start s (suc r) ≡ start s r + recordSize (s .vars) x
-  unfolding start
+  pub start-next : (r : ℕ) {x : Record} → recordAt s r ≡ x → recordStart s (suc r) ≡ recordStart s r + recordSize (s .vars) x
+  unfolding recordStart
   start-next r e = omega (arith, record-size (s .vars) (recordAt s r) ∙ ap (recordSize (s .vars)) e)
 
   -- where band k starts, and no-go box j
-  pub band-start : (k : ℕ) → k ≤ s .bands → start s (1 + k) ≡ capsAt + capBytes (s .vars) + k * (bandHead + s .vars * rowBytes (s .vars))
-  unfolding start
+  pub band-start : (k : ℕ) → k ≤ s .bands → recordStart s (1 + k) ≡ capsAt + capBytes (s .vars) + k * (bandHead + s .vars * rowBytes (s .vars))
+  unfolding recordStart
   band-start zero l = start-next 0 (head-at s) ∙ omega arith
   band-start (suc k) l =
       let e : 1 + suc k ≡ suc (1 + k) = omega arith in
-      ap (start s) e ∙ start-next (1 + k) (band-at s k l) ∙ omega (arith, band-start k (omega arith), suc-mul k (bandHead + s .vars * rowBytes (s .vars)))
+      ap (recordStart s) e ∙ start-next (1 + k) (band-at s k l) ∙ omega (arith, band-start k (omega arith), suc-mul k (bandHead + s .vars * rowBytes (s .vars)))
 
-  pub unsafe-start : (j : ℕ) → j ≤ s .boxes → start s (1 + (s .bands + j)) ≡ start s (1 + s .bands) + j * (letters + boxBytes (s .vars))
+  pub unsafe-start : (j : ℕ) → j ≤ s .boxes → recordStart s (1 + (s .bands + j)) ≡ recordStart s (1 + s .bands) + j * (letters + boxBytes (s .vars))
   unsafe-start zero l = let e : s .bands + 0 ≡ s .bands = omega arith in rw e (omega (arith, zero-mul (letters + boxBytes (s .vars))))
   unsafe-start (suc j) l =
       let e : 1 + (s .bands + suc j) ≡ suc (1 + (s .bands + j)) = omega arith in
-      ap (start s) e ∙ start-next (1 + (s .bands + j)) (unsafe-at s j l) ∙ omega (arith, unsafe-start j (omega arith), suc-mul j (letters + boxBytes (s .vars)))
+      ap (recordStart s) e ∙ start-next (1 + (s .bands + j)) (unsafe-at s j l) ∙ omega (arith, unsafe-start j (omega arith), suc-mul j (letters + boxBytes (s .vars)))
 
-  pub file-length : start s (records s) ≡ capsAt + capBytes (s .vars) + s .bands * (bandHead + s .vars * rowBytes (s .vars)) + (letters + boxBytes (s .vars)) * (s .boxes + 1)
+  pub file-length : recordStart s (records s) ≡ capsAt + capBytes (s .vars) + s .bands * (bandHead + s .vars * rowBytes (s .vars)) + (letters + boxBytes (s .vars)) * (s .boxes + 1)
   file-length =
       let e : records s ≡ suc (1 + (s .bands + s .boxes)) = omega arith in
-      ap (start s) e ∙ start-next (1 + (s .bands + s .boxes)) (recovery-at s)
+      ap (recordStart s) e ∙ start-next (1 + (s .bands + s .boxes)) (recovery-at s)
       ∙ omega (arith, unsafe-start (s .boxes) (omega arith), band-start (s .bands) (omega arith), mul-comm (letters + boxBytes (s .vars)) (s .boxes + 1), suc-mul (s .boxes) (letters + boxBytes (s .vars)))
 
 -- the length of document 01

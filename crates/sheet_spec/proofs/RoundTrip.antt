@@ -18,7 +18,7 @@ use Rattle.sheet_spec.specs.declared.Record.{Record}
 use Rattle.sheet_spec.specs.declared.Record.the-variants.{Head}
 use Rattle.sheet_spec.specs.Layout.{_▸_, headFields, fields, count}
 use Rattle.sheet_spec.specs.declared.Shape.{Shape}
-use Rattle.sheet_spec.specs.File.{shape, records, fieldsAt, start, filledAll, codedAll, marked, markedAt, badAll}
+use Rattle.sheet_spec.specs.File.{shape, records, fieldsAt, recordStart, filledAll, codedAll, marked, markedAt, badAll}
 use Rattle.sheet_spec.specs.Sheet.{zeros, headOf, shapeOf, contents, stage, stages, refusal, values, valueRefusal, length-of, bytesOf, writeRefusal, written, Same}
 use Rattle.sheet_spec.proofs.Streams.{Each}
 use Rattle.sheet_spec.proofs.Records.{EachField, each-head, head-at}
@@ -38,15 +38,15 @@ write-read f b e =
     let s = shapeOf f in
     ap bytesOf (a .values) ∙ ap (λ (s : Shape). codedAll s (contents f) (records s)) (same-shape f (a .small))
     ∙ bytes-of s f (contents f) b (records s) (record { marks = a .marks; numbers = number-at f (a .small) }) (omega (arith, a .size))
-    ∙ take-all (start s (records s)) f (omega (arith, a .size))
+    ∙ take-all (recordStart s (records s)) f (omega (arith, a .size))
 
 -- a file of the right length that says a sheet whose numbers are in range is accepted, and is read as that sheet
-module _ (v : List ℤ) (f : List ℕ) (g : AllGood v) (size : length f ≡ start (shape v) (records (shape v))) (t : Says (shape v) f v (records (shape v))) where
+module _ (v : List ℤ) (f : List ℕ) (g : AllGood v) (size : length f ≡ recordStart (shape v) (records (shape v))) (t : Says (shape v) f v (records (shape v))) where
   nine : Each (InRange v) headFields headSize
   nine = record { at = λ j l. each-head (shape v) (good-ranges v (shape v) g) .at j (omega arith) }
 
   head-equal : Each (Equal v (headOf f)) headFields headSize
-  unfolding fields start
+  unfolding fields recordStart
   head-equal =
       let n = shape v .vars in
       let P : Record → Type 0 = λ x. (j : ℕ) → j < count n x → v ! fields n x j .slot ≡ decoded (fields n x j .kind) (drop (0 + letters + offset (fields n x) j) f) in
@@ -64,14 +64,14 @@ module _ (v : List ℤ) (f : List ℕ) (g : AllGood v) (size : length f ≡ star
       (record { at = λ r l. record { at = λ j k. t .numbers r l j k ∙ sym (all-at s f (small v nine) zeros length-zeros (records s) (omega arith) r l j k) } })
 
   first-mark : marked f 0 Head ≡ true
-  unfolding start
+  unfolding recordStart
   first-mark = subst (λ (x : Record). marked f 0 x ≡ true) (head-at (shape v)) (t .marks 0 (omega arith))
 
   passes : (i : ℕ) → stage f i ≡ 0
   unfolding stage
   passes zero = rw (le-leb capsAt (length f) (omega (arith, size, file-length (shape v))), first-mark)
   passes (suc zero) = ranges-bad headFields (headOf f) headSize (same-head v (headOf f) head-equal nine)
-  passes (suc (suc zero)) = rw (← shape-is, eq-eqb (length f) (start (shape v) (records (shape v))) size)
+  passes (suc (suc zero)) = rw (← shape-is, eq-eqb (length f) (recordStart (shape v) (records (shape v))) size)
   passes (suc (suc (suc i))) =
       subst (λ (s : Shape). badAll (markedAt s f) s (contents f) (records s) ≡ 0) shape-is
       (good-all (markedAt (shape v) f) (shape v) (contents f) (records (shape v)) (t .marks) (same-good v (contents f) (shape v) contents-equal g))

@@ -48,14 +48,14 @@ countAt s r = count (s .vars) (recordAt s r)
 abbrev pub recordLength : ℕ → Record → ℕ
 recordLength n x = letters + offset (fields n x) (count n x)
 
-unfoldable pub start : Shape → ℕ → ℕ
-start s zero = 0
-start s (suc r) = start s r + letters + offset (fieldsAt s r) (countAt s r)
+unfoldable pub recordStart : Shape → ℕ → ℕ
+recordStart s zero = 0
+recordStart s (suc r) = recordStart s r + letters + offset (fieldsAt s r) (countAt s r)
 
 -- v with the values of the first r records of f
 unfoldable pub filledAll : Shape → List ℕ → ℕ → List ℤ → List ℤ
 filledAll s f zero v = v
-filledAll s f (suc r) v = filled (fieldsAt s r) f (start s r + letters) (countAt s r) (filledAll s f r v)
+filledAll s f (suc r) v = filled (fieldsAt s r) f (recordStart s r + letters) (countAt s r) (filledAll s f r v)
 
 -- a record's bytes, and those of the first r records
 abbrev pub recordBytes : ℕ → Record → List ℤ → List ℕ
@@ -71,7 +71,7 @@ marked f at x = eqb (getD f at 0) (mark x .0) && eqb (getD f (at + 1) 0) (mark x
 
 -- whether record r's mark is where it starts
 abbrev pub markedAt : Shape → List ℕ → ℕ → Bool
-markedAt s f r = marked f (start s r) (recordAt s r)
+markedAt s f r = marked f (recordStart s r) (recordAt s r)
 
 -- ---- tests
 

@@ -29,8 +29,8 @@ ReadThenWrite =
 -- ---- a written sheet is read as the same sheet
 
 -- n bytes from a place on
-abbrev pub part : List ℕ → ℕ → ℕ → List ℕ
-part bytes place n = take n (drop place bytes)
+abbrev pub slice : List ℕ → ℕ → ℕ → List ℕ
+slice bytes place n = take n (drop place bytes)
 
 -- two buffers of the same length differ at most in the n bytes from a place on
 pub record SameOutside (buffer after : List ℕ) (place n : ℕ) : Type 0 where
@@ -40,7 +40,7 @@ pub record SameOutside (buffer after : List ℕ) (place n : ℕ) : Type 0 where
 
 -- the sheet in the buffer after writing: the bytes from the place on, as many as the writer answers
 abbrev pub sheetBytes : List ℤ → List ℕ → ℕ → List ℕ
-sheetBytes v buffer place = part (written v buffer place) place (writtenLength v buffer place)
+sheetBytes v buffer place = slice (written v buffer place) place (writtenLength v buffer place)
 
 -- the reader accepts these bytes and gives the same sheet; all other bytes are as they were
 pub record ReadBack (v : List ℤ) (buffer : List ℕ) (place : ℕ) : Type 0 where

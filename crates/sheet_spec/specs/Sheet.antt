@@ -14,7 +14,7 @@ use Rattle.sheet_spec.specs.Sizes.{letters, capsAt}
 use Rattle.sheet_spec.specs.declared.Record.the-variants.{Head}
 use Rattle.sheet_spec.specs.Layout.{headFields}
 use Rattle.sheet_spec.specs.declared.Shape.{Shape}
-use Rattle.sheet_spec.specs.File.{shape, records, fieldsAt, countAt, start, filledAll, codedAll, marked, markedAt, badAll}
+use Rattle.sheet_spec.specs.File.{shape, records, fieldsAt, countAt, recordStart, filledAll, codedAll, marked, markedAt, badAll}
 
 unfoldable pub zeros : List ℤ
 zeros = replicate slots (pos 0)
@@ -36,7 +36,7 @@ contents f = let s = shapeOf f in filledAll s f (records s) zeros
 unfoldable pub stage : List ℕ → ℕ → ℕ
 stage f zero = refuseUnless (leb capsAt (length f) && marked f 0 Head) Cause.head
 stage f (suc zero) = bad headFields (headOf f) headSize
-stage f (suc (suc zero)) = let s = shapeOf f in refuseUnless (eqb (length f) (start s (records s))) Cause.length
+stage f (suc (suc zero)) = let s = shapeOf f in refuseUnless (eqb (length f) (recordStart s (records s))) Cause.length
 stage f (suc (suc (suc i))) = let s = shapeOf f in badAll (markedAt s f) s (contents f) (records s)
 
 abbrev pub stages : ℕ
@@ -57,7 +57,7 @@ unfoldable pub valueRefusal : List ℤ → ℕ
 valueRefusal v = badAll (λ r. true) (shape v) v (records (shape v))
 
 unfoldable pub length-of : List ℤ → ℕ
-length-of v = start (shape v) (records (shape v))
+length-of v = recordStart (shape v) (records (shape v))
 
 unfoldable pub bytesOf : List ℤ → List ℕ
 bytesOf v = codedAll (shape v) v (records (shape v))

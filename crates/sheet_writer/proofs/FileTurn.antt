@@ -16,13 +16,13 @@ use Rattle.sheet_spec.specs.Fields.{bad}
 use Rattle.sheet_spec.specs.declared.Shape.{Shape}
 use Rattle.sheet_spec.specs.declared.Record.{Record}
 use Rattle.sheet_spec.specs.Layout.{headFields, fields, count}
-use Rattle.sheet_spec.specs.File.{shape, records, recordAt, recordLength, start, recordBytes, codedAll, badAll}
+use Rattle.sheet_spec.specs.File.{shape, records, recordAt, recordLength, recordStart, recordBytes, codedAll, badAll}
 use Rattle.sheet_spec.specs.Sheet.{valueRefusal, length-of, bytesOf}
 use Rattle.sheet_spec.specs.Written.{writtenLength, Wrote}
 use Rattle.sheet_spec.proofs.Records.{each-head}
 use Rattle.sheet_spec.proofs.Laws.{goes-on, number-is, stops}
 use Rattle.sheet_spec.proofs.Tests.{good-ranges, ranges-bad, value-good}
-use Rattle.sheet_spec.proofs.Answers.{Answer, write-bad, write-short, write-done}
+use Rattle.sheet_spec.proofs.Answers.{WriteAnswer, write-bad, write-short, write-done}
 use Rattle.sheet_spec.proofs.Numbers.{length-coded}
 use Rattle.sheet_spec.proofs.Says.{length-codedAll}
 use Rattle.sheet_spec.proofs.RoundTrip.{length-bytesOf}
@@ -34,11 +34,11 @@ pub length-record : (n : ℕ) (x : Record) (v : List ℤ) → length (recordByte
 length-record n x v = omega (arith, length-coded (fields n x) v (count n x))
 
 -- the r-th record, which is x
-pub record-next : (s : Shape) (v : List ℤ) (b : List ℕ) (r : ℕ) {x : Record} {a : ℕ} {t u : List ℕ} → x ≡ recordAt s r → u ≡ sets t a (recordBytes (s .vars) x v) → a ≡ start s r → t ≡ sets b 0 (codedAll s v r)
+pub record-next : (s : Shape) (v : List ℤ) (b : List ℕ) (r : ℕ) {x : Record} {a : ℕ} {t u : List ℕ} → x ≡ recordAt s r → u ≡ sets t a (recordBytes (s .vars) x v) → a ≡ recordStart s r → t ≡ sets b 0 (codedAll s v r)
     → u ≡ sets b 0 (codedAll s v (r + 1))
 unfolding codedAll
 record-next s v b r {x} {a} {t} is hu ha ht =
-    then b 0 (start s r) (codedAll s v r) (recordBytes (s .vars) (recordAt s r) v) (length-codedAll s v r) (ha ∙ sym (zero-add (start s r))) ht
+    then b 0 (recordStart s r) (codedAll s v r) (recordBytes (s .vars) (recordAt s r) v) (length-codedAll s v r) (ha ∙ sym (zero-add (recordStart s r))) ht
     (hu ∙ ap (λ (y : Record). sets t a (recordBytes (s .vars) y v)) is)
     ∙ ap (λ (j : ℕ). sets b 0 (codedAll s v j)) (sym (add-one r))
 
@@ -72,7 +72,7 @@ value-headed v e =
     sym (ranges-bad headFields v headSize (record { at = λ j l. each-head (shape v) g .at j (omega arith) }))
 
 module _ (v : List ℤ) (buffer : List ℕ) (place : ℕ) where
-  refused : {c : ℕ} {after : List ℕ} → (c ≡ 0 → ⊥) → Answer v buffer place c after → Wrote v buffer place c 0 after
+  refused : {c : ℕ} {after : List ℕ} → (c ≡ 0 → ⊥) → WriteAnswer v buffer place c after → Wrote v buffer place c 0 after
   unfolding writtenLength
   refused n a = record { refusal = a .refusal; length = sym (stops (λ c. 0) _ (λ z. n (a .refusal ∙ z))); left = a .left }
 
@@ -85,10 +85,10 @@ module _ (v : List ℤ) (s : Shape) (same : s ≡ shape v) where
   unfolding valueRefusal
   value-is e = e ∙ ap (λ (s : Shape). badAll (λ r. true) s v (records s)) same
 
-  module _ (buffer : List ℕ) (place : ℕ) (good : 0 ≡ valueRefusal v) {l : ℕ} (hl : l ≡ start s (records s)) where
+  module _ (buffer : List ℕ) (place : ℕ) (good : 0 ≡ valueRefusal v) {l : ℕ} (hl : l ≡ recordStart s (records s)) where
     size-is : l ≡ length-of v
     unfolding length-of
-    size-is = hl ∙ ap (λ (s : Shape). start s (records s)) same
+    size-is = hl ∙ ap (λ (s : Shape). recordStart s (records s)) same
 
     pub wrote-short : length buffer < place + l → Wrote v buffer place (number Cause.room) 0 buffer
     wrote-short h = refused v buffer place (number-is Cause.room) (write-short v buffer place good (omega (arith, size-is)))

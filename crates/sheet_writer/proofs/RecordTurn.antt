@@ -18,7 +18,7 @@ use Rattle.sheet_spec.specs.Layout.{edgeField, rowRest, rowFields, mark, fields
 use Rattle.sheet_spec.specs.File.{recordBytes}
 use Rattle.sheet_spec.proofs.Length.{rest-offset}
 use Rattle.sheet_spec.proofs.Numbers.{length-coded}
-use Rattle.sheet_spec.proofs.FieldRuns.{Run, coded-part}
+use Rattle.sheet_spec.proofs.FieldRuns.{FieldRun, coded-part}
 use Rattle.sheet_spec.proofs.FieldPlaces.{rest-at}
 
 -- ys after xs, of which there are m
@@ -34,7 +34,7 @@ same-bytes d k z e = ap (λ (w : ℕ). beBytes w (ofZ w32 z)) e
 
 module _ (p : ℕ → Field) (v : List ℤ) (s : List ℕ) (at k : ℕ) where
   -- the m fields q after the first k of p
-  pub coded-run : (q : ℕ → Field) (m : ℕ) → Run p q k m → (a : ℕ) {t u : List ℕ} → u ≡ sets t a (coded q v m) → a ≡ at + offset p k → t ≡ sets s at (coded p v k) → u ≡ sets s at (coded p v (k + m))
+  pub coded-run : (q : ℕ → Field) (m : ℕ) → FieldRun p q k m → (a : ℕ) {t u : List ℕ} → u ≡ sets t a (coded q v m) → a ≡ at + offset p k → t ≡ sets s at (coded p v k) → u ≡ sets s at (coded p v (k + m))
   coded-run q m r a hu ha ht =
       then s at (offset p k) (coded p v k) (coded q v m) (length-coded p v k) ha ht hu ∙ ap (sets s at) (sym (coded-part p q k m r v))
 

@@ -5,7 +5,7 @@ ghost use mathlib.Core.Path.{_≡_};
 ghost use Prim.Native.Nat.{_≤_};
 ghost use lib.ListN.{length};
 ghost use lib.Seq.{sets};
-ghost use Rattle.sheet_spec.specs.File.{Small, records, start, codedAll};
+ghost use Rattle.sheet_spec.specs.File.{Small, records, recordStart, codedAll};
 ghost use Rattle.sheet_spec.specs.Sheet.{valueRefusal};
 ghost use Rattle.sheet_spec.specs.Written.{Wrote};
 
@@ -26,7 +26,7 @@ use sheet_validation::bad_values;
 
 // Every record, each in the part that starts at its place.
 fn write_records(s: &mut [u8], shape: Shape, v: &[i32; SLOTS])
-    requires { ⌜ Small shape × (start shape (records shape) ≤ length (now s)) ⌝ }
+    requires { ⌜ Small shape × (recordStart shape (records shape) ≤ length (now s)) ⌝ }
     ensures { λ _. ⌜ now (s .exit) ≡ sets (now (s .entry)) 0 (codedAll shape (now (v .entry)) (records shape)) ⌝ }
 {
     let count = record_count(shape);

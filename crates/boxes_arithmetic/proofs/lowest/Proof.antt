@@ -9,7 +9,7 @@ use borrow.Author.Needs.{needs}
 use Rattle.integers.proofs.Z.{le-true, le-false, bound-neg, bound-mul, fits64}
 use Rattle.boxes_arithmetic.specs.Limits.{DivisionAsked, Capped}
 use Rattle.boxes_arithmetic.proofs.Bounds.{zero-less, between-bound}
-use Rattle.boxes_arithmetic.proofs.Quotient.{kept, saturated, divided}
+use Rattle.boxes_arithmetic.proofs.Quotient.{outermost-stays, saturated, divided}
 use Rattle.boxes_arithmetic.proofs.lowest.Statement.{statement}
 use Rattle.boxes_arithmetic.proofs.lowest.Tie as tie
 
@@ -67,7 +67,7 @@ returns at-return =
     let at-start = at-return .before in
     let fits = at-start .fits in
     let test = simp (toZ-ofZ, fits .outermost, fits .divisor, fits .dividend, outermost-fits at-start) at (at-return .if1 .taken) in
-    toZ-ofZ (fits .outermost) ∙ kept (division at-start) (capped at-start) (le-true _ _ test)
+    toZ-ofZ (fits .outermost) ∙ outermost-stays (division at-start) (capped at-start) (le-true _ _ test)
 
 -- −cap
 returns-2 : tie.Need-returns-2

@@ -1,4 +1,4 @@
--- `move_rest` moves byte by byte. Up to i the bytes are those after the ones taken, behind i they are as they were; the bytes left to
+-- `move_rest` moves byte by byte. Up to i the bytes are those after the ones taken, after i they are as they were; the bytes left to
 -- move become fewer. Assumes nothing.
 use mathlib.Core.Path.{_≡_}
 use Prim.Native.Nat.{_+_, _-_, _≤_}

@@ -6,14 +6,14 @@ use Rattle.sheet_spec.proofs.Valid.{zeros-are}
 use Rattle.sheet_spec.specs.Slots.{N, vars}
 use Rattle.sheet_spec.specs.Sheet.{values}
 use Rattle.decision_spec.specs.Question.{questionLength}
-use Rattle.listing.proofs.Vars.{Counted, counted}
+use Rattle.listing.proofs.Vars.{VarsInRange, vars-in-range}
 use Rattle.listing.proofs.question_length.Statement.{statement}
 use Rattle.listing.proofs.question_length.Tie as tie
 
 count-requires : tie.Need-count-requires
 count-requires c κs =
     let r = c .before in
-    (omega arith, subst Counted (sym (r .read-zeroed .ensures .1)) (counted (r .before .before .before .args .sheet .now)) .low)
+    (omega arith, subst VarsInRange (sym (r .read-zeroed .ensures .1)) (vars-in-range (r .before .before .before .args .sheet .now)) .low)
 
 -- the number that was read is the file's
 pub record Read (c : tie.After-count) : Type 0 where
@@ -23,7 +23,7 @@ pub record Read (c : tie.After-count) : Type 0 where
 read : (c : tie.After-count) → Read c
 read c =
     let e = c .count .ensures ∙ ap vars (c .before .before .read-zeroed .ensures .1) in
-    record { is = e; high = rw e (counted (c .before .before .before .before .before .args .sheet .now) .high) }
+    record { is = e; high = rw e (vars-in-range (c .before .before .before .before .before .args .sheet .now) .high) }
 
 question-length-requires : tie.Need-question-length-requires
 question-length-requires c κs = read c .high

@@ -11,7 +11,7 @@ returns : tie.Need-returns
 returns at-return =
     let refused = at-return .before .before in
     let e = refused .before .read-cleared .ensures in
-    (e .0, at-return .clear .ensures ∙ sym (values-zero _ (λ z. refused .if1 .taken (e .0 ∙ z))))
+    (e .0, at-return .zero .ensures ∙ sym (values-zero _ (λ z. refused .if1 .taken (e .0 ∙ z))))
 
 -- accepted
 returns-2 : tie.Need-returns-2

@@ -6,13 +6,13 @@ use native.Mathlib.Omega.{arith}
 use lib.ListN.{length}
 use borrow.Author.Needs.{needs}
 use Rattle.sheet_encoding.proofs.RecordTurn.{bad-is, bad-more, has-room, record-room, start-more}
-use Rattle.sheet_spec.specs.File.{badAll, marked, markedAt, records, recordLength, start}
+use Rattle.sheet_spec.specs.File.{badAll, marked, markedAt, records, recordLength, recordStart}
 use Rattle.sheet_spec.specs.Refusals.{firstRefusal}
 use Rattle.sheet_reader.proofs.bad_file.Statement.{statement}
 use Rattle.sheet_reader.proofs.bad_file.Tie as tie
 
 abbrev Inv-loop : tie.InvT-loop
-Inv-loop f shape v count x₀ at₀ r₀ x at r = (r ≤ count) × ((at ≡ start shape r) × (x ≡ badAll (markedAt shape f) shape v r))
+Inv-loop f shape v count x₀ at₀ r₀ x at r = (r ≤ count) × ((at ≡ recordStart shape r) × (x ≡ badAll (markedAt shape f) shape v r))
 
 abbrev μ-loop : tie.MeasureT-loop
 μ-loop f shape v count x₀ at₀ r₀ x at r = count - r
@@ -30,7 +30,7 @@ module _ (c : tie.After-record-at Inv-loop μ-loop) where
   within-file = record-room _ _ _ _ (c .record-at .ensures) (c .before .before .loop .inv .1 .0) below (began .pre .1)
 
 loop-holds : tie.Need-loop-holds Inv-loop μ-loop
-unfolding start badAll firstRefusal
+unfolding recordStart badAll firstRefusal
 loop-holds c = (omega arith, (refl, refl))
 
 bad-record-requires : tie.Need-bad-record-requires Inv-loop μ-loop

@@ -6,12 +6,12 @@ use native.Mathlib.Omega.{arith}
 use lib.ListN.{length}
 use borrow.Author.Needs.{needs}
 use Rattle.sheet_encoding.proofs.RecordTurn.{filled-more, has-room, record-room, start-more}
-use Rattle.sheet_spec.specs.File.{filledAll, records, recordLength, start}
+use Rattle.sheet_spec.specs.File.{filledAll, records, recordLength, recordStart}
 use Rattle.sheet_reader.proofs.read_records.Statement.{statement}
 use Rattle.sheet_reader.proofs.read_records.Tie as tie
 
 abbrev Inv-loop : tie.InvT-loop
-Inv-loop f shape v₀ count at₀ r₀ v at r = (r ≤ count) × ((at ≡ start shape r) × (v ≡ filledAll shape f r v₀))
+Inv-loop f shape v₀ count at₀ r₀ v at r = (r ≤ count) × ((at ≡ recordStart shape r) × (v ≡ filledAll shape f r v₀))
 
 abbrev μ-loop : tie.MeasureT-loop
 μ-loop f shape v₀ count at₀ r₀ v at r = count - r
@@ -29,7 +29,7 @@ module _ (c : tie.After-record-at Inv-loop μ-loop) where
   within-file = record-room _ _ _ _ (c .record-at .ensures) (c .before .before .loop .inv .1 .0) below (began .pre .1)
 
 loop-holds : tie.Need-loop-holds Inv-loop μ-loop
-unfolding start filledAll
+unfolding recordStart filledAll
 loop-holds c = (omega arith, (refl, refl))
 
 read-record-requires : tie.Need-read-record-requires Inv-loop μ-loop

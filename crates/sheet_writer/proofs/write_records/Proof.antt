@@ -7,13 +7,13 @@ use lib.ListN.{length}
 use lib.Seq.{sets, length-sets}
 use Rattle.sheet_encoding.proofs.RecordTurn.{has-room, record-room, start-more}
 use Rattle.sheet_writer.proofs.FileTurn.{length-record, part-back, part-length, record-next}
-use Rattle.sheet_spec.specs.File.{codedAll, recordBytes, recordLength, records, start}
+use Rattle.sheet_spec.specs.File.{codedAll, recordBytes, recordLength, records, recordStart}
 use borrow.Author.Needs.{needs}
 use Rattle.sheet_writer.proofs.write_records.Statement.{statement}
 use Rattle.sheet_writer.proofs.write_records.Tie as tie
 
 abbrev Inv-loop : tie.InvT-loop
-Inv-loop s₀ shape v count at₀ r₀ s at r = (r ≤ count) × ((at ≡ start shape r) × (s ≡ sets s₀ 0 (codedAll shape v r)))
+Inv-loop s₀ shape v count at₀ r₀ s at r = (r ≤ count) × ((at ≡ recordStart shape r) × (s ≡ sets s₀ 0 (codedAll shape v r)))
 
 abbrev μ-loop : tie.MeasureT-loop
 μ-loop s₀ shape v count at₀ r₀ s at r = count - r
@@ -34,7 +34,7 @@ module _ (c : tie.After-record-at Inv-loop μ-loop) where
   room = record-room _ _ _ _ (c .record-at .ensures) (c .before .before .loop .inv .1 .0) below (began .pre .1)
 
 loop-holds : tie.Need-loop-holds Inv-loop μ-loop
-unfolding start codedAll
+unfolding recordStart codedAll
 loop-holds c = (omega arith, (refl, refl))
 
 sub-write-record : tie.Need-sub-write-record Inv-loop μ-loop

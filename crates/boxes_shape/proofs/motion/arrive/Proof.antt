@@ -12,7 +12,7 @@ use Rattle.sheet_spec.specs.Slots.{N}
 use Rattle.sheet_spec.specs.Box.{lo, hi}
 use Rattle.machine_spec.specs.Box.{trim, hull, moved}
 use Rattle.machine_spec.proofs.Box.{sides-lo, sides-hi, sides-same}
-use Rattle.machine_spec.proofs.InPlace.{filled, filled-none, filled-more, turn-lo, turn-hi-set, filled-sides}
+use Rattle.machine_spec.proofs.InPlace.{withSides, with-none, with-more, turn-lo, turn-hi-set, with-all}
 use Rattle.machine_spec.specs.Rate.{outer}
 use Rattle.boxes_shape.specs.Limits.{ArriveSideDone, movedSide}
 use Rattle.boxes_shape.proofs.Sides.{side-movable}
@@ -33,19 +33,19 @@ module _ (A : List ℤ) (k : ℕ) (R : List ℤ) where
   abbrev path-hi : ℕ → ℤ
   path-hi j = maxZ (hi A j) (moved-hi j)
 
-  path-is : (n : ℕ) → n ≤ N → {P₀ P : List ℤ} → P ≡ filled n path-lo path-hi P₀ → trim n P₀ ≡ P₀ → P ≡ hull n A (moved n A k R)
+  path-is : (n : ℕ) → n ≤ N → {P₀ P : List ℤ} → P ≡ withSides n path-lo path-hi P₀ → trim n P₀ ≡ P₀ → P ≡ hull n A (moved n A k R)
   unfolding hull moved
   path-is n room e trimmed =
       e
-      ∙ (filled-sides _ _ n _ room trimmed
+      ∙ (with-all _ _ n _ room trimmed
       ∙ sides-same n _ _ _ _ (λ i l. (ap (minZ (lo A i)) (sym (sides-lo moved-lo moved-hi n i room l)), ap (maxZ (hi A i)) (sym (sides-hi moved-lo moved-hi n i room l)))))
 
 -- the first i variables of A, of the working box E₀ and of the path P₀ are written, and the boxes are then B, E and P
 record Invariant (n : ℕ) (A : List ℤ) (k : ℕ) (R E₀ P₀ B E P : List ℤ) (i : ℕ) : Type 0 where
   turns : i ≤ n
-  at : B ≡ filled i (moved-lo A k R) (moved-hi A k R) A
-  work : E ≡ filled i (moved-lo A k R) (moved-hi A k R) E₀
-  path : P ≡ filled i (path-lo A k R) (path-hi A k R) P₀
+  at : B ≡ withSides i (moved-lo A k R) (moved-hi A k R) A
+  work : E ≡ withSides i (moved-lo A k R) (moved-hi A k R) E₀
+  path : P ≡ withSides i (path-lo A k R) (path-hi A k R) P₀
 
 -- a turn: the lower side of variable i, then the upper, of the boxes that have the first i variables
 module _ {n : ℕ} {A : List ℤ} {k : ℕ} {R E₀ P₀ B E P : List ℤ} {i : ℕ} (inv : Invariant n A k R E₀ P₀ B E P i) (more : i < n) (room : i < N) where
@@ -64,12 +64,12 @@ module _ {n : ℕ} {A : List ℤ} {k : ℕ} {R E₀ P₀ B E P : List ℤ} {i : 
         let high = ap (λ (x : ℤ). x +ℤ pos k *ℤ hi R i) high-was in
         record {
           turns = omega (arith, more);
-          at = upper .end ∙ (ap (λ (l : List ℤ). set l (i + N) (movedSide B₁ k R (i + N))) (lower .end) ∙ filled-more _ _ i _ (inv .at) low high);
-          work = upper .work ∙ (ap (λ (l : List ℤ). set l (i + N) (movedSide B₁ k R (i + N))) (lower .work) ∙ filled-more _ _ i _ (inv .work) low high);
+          at = upper .end ∙ (ap (λ (l : List ℤ). set l (i + N) (movedSide B₁ k R (i + N))) (lower .end) ∙ with-more _ _ i _ (inv .at) low high);
+          work = upper .work ∙ (ap (λ (l : List ℤ). set l (i + N) (movedSide B₁ k R (i + N))) (lower .work) ∙ with-more _ _ i _ (inv .work) low high);
           path =
               upper .path
               ∙ (ap (λ (l : List ℤ). set l (i + N) (maxZ (hi B₁ i) (movedSide B₁ k R (i + N)))) (lower .path)
-              ∙ filled-more _ _ i _ (inv .path) (ap₂ minZ low-was low) (ap₂ maxZ high-was high));
+              ∙ with-more _ _ i _ (inv .path) (ap₂ minZ low-was low) (ap₂ maxZ high-was high));
         }
 
 abbrev Inv-loop : tie.InvT-loop
@@ -79,7 +79,7 @@ abbrev μ-loop : tie.MeasureT-loop
 μ-loop n ticks rates work₀ at₀ path₀ i₀ work at path i = n - i
 
 loop-holds : tie.Need-loop-holds Inv-loop μ-loop
-loop-holds at-start = record { turns = omega arith; at = filled-none _ _ _; work = filled-none _ _ _; path = filled-none _ _ _ }
+loop-holds at-start = record { turns = omega arith; at = with-none _ _ _; work = with-none _ _ _; path = with-none _ _ _ }
 
 module _ (at-loop : tie.At-loop Inv-loop μ-loop) (more : at-loop .loop .i < at-loop .before .args .n) where
   room : at-loop .loop .i < N
@@ -121,10 +121,10 @@ returns at-return =
     let R = a .rates .now in
     let all : at-loop .loop .i ≡ n = omega (arith, inv .turns) in
     let room = asked .0 .room in
-    let end = (rw all at (inv .at)) ∙ filled-sides _ _ n _ room (asked .1 .at) in
+    let end = (rw all at (inv .at)) ∙ with-all _ _ n _ room (asked .1 .at) in
     record {
       end = end;
-      work = (rw all at (inv .work)) ∙ (filled-sides _ _ n _ room (asked .1 .work) ∙ sym end);
+      work = (rw all at (inv .work)) ∙ (with-all _ _ n _ room (asked .1 .work) ∙ sym end);
       path = path-is A k R n room (rw all at (inv .path)) (asked .1 .path) ∙ ap (hull n A) (sym end);
     }
 

@@ -18,7 +18,7 @@ use Rattle.sheet_spec.specs.Box.{lo, hi, all}
 use Rattle.machine_spec.specs.Box.{hull, moved, within}
 use Rattle.sheet_spec.proofs.Box.{all-last, all-false}
 use Rattle.machine_spec.proofs.Box.{swept-lo, swept-hi}
-use Rattle.machine_spec.proofs.InPlace.{filled-none, turn-lo, turn-hi, filled-sides}
+use Rattle.machine_spec.proofs.InPlace.{with-none, turn-lo, turn-hi, with-all}
 use Rattle.machine_spec.specs.Rate.{outer}
 use Rattle.boxes_shape.specs.Limits.{TookIn}
 use Rattle.boxes_shape.proofs.Sides.{side-movable}
@@ -62,7 +62,7 @@ abbrev μ-loop : tie.MeasureT-loop
 
 loop-holds : tie.Need-loop-holds Inv-loop μ-loop
 unfolding within all
-loop-holds at-start = record { turns = omega arith; test = refl; joined = filled-none _ _ _ }
+loop-holds at-start = record { turns = omega arith; test = refl; joined = with-none _ _ _ }
 
 module _ (at-loop : tie.At-loop Inv-loop μ-loop) where
   abbrev start : List ℤ
@@ -157,7 +157,7 @@ returns at-return =
     let asked = at-loop .before .pre in
     let n = at-loop .before .args .n in
     let all : at-loop .loop .i ≡ n = omega (arith, inv .turns) in
-    (rw all at (inv .test), (rw all at (inv .joined)) ∙ filled-sides _ _ n _ (asked .0 .room) (asked .1))
+    (rw all at (inv .test), (rw all at (inv .joined)) ∙ with-all _ _ n _ (asked .0 .room) (asked .1))
 
 pub grow-spec : {M : Type 1} → statement M
 grow-spec =

@@ -7,7 +7,7 @@ use mir.Syntax.{w64}
 use Rattle.integers.proofs.Z.{told}
 use Rattle.sheet_spec.specs.Slots.{N}
 use Rattle.machine_spec.specs.Box.{hull}
-use Rattle.machine_spec.proofs.InPlace.{filled-none, filled-sides}
+use Rattle.machine_spec.proofs.InPlace.{with-none, with-all}
 use Rattle.boxes_shape.proofs.Turn.{joined, joined-more}
 use Rattle.boxes_shape.proofs.motion.join.Statement.{statement}
 use Rattle.boxes_shape.proofs.motion.join.Tie as tie
@@ -19,7 +19,7 @@ abbrev μ-loop : tie.MeasureT-loop
 μ-loop n other out₀ i₀ out i = n - i
 
 loop-holds : tie.Need-loop-holds Inv-loop μ-loop
-loop-holds at-start = (omega arith, filled-none _ _ _)
+loop-holds at-start = (omega arith, with-none _ _ _)
 
 module _ (in-loop : tie.In-loop Inv-loop μ-loop) where
   abbrev at-loop : tie.At-loop Inv-loop μ-loop
@@ -51,7 +51,7 @@ returns at-return =
     let at-loop = at-return .before in
     let at-start = at-loop .before in
     let all : at-loop .loop .i ≡ at-start .args .n = omega arith in
-    (rw all at (at-loop .loop .inv .1)) ∙ filled-sides _ _ (at-start .args .n) _ (at-start .pre .0) (at-start .pre .1)
+    (rw all at (at-loop .loop .inv .1)) ∙ with-all _ _ (at-start .args .n) _ (at-start .pre .0) (at-start .pre .1)
 
 pub join-spec : {M : Type 1} → statement M
 join-spec =
