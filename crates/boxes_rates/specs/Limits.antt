@@ -75,9 +75,9 @@ pub record NarrowAsked (S : List ℤ) (reach : ℤ) (i : ℕ) : Type 0 where
   pub near : Bound reach neighborhoodLimit
   pub start : (up : Bool) → Bound (side up S i) limit
 
--- the rates of a step of k ticks from the box S can be worked out with the working box E
-pub record RatesAsked (p : Plant) (v S : List ℤ) (k : ℕ) (E : List ℤ) : Type 0 where
+-- the rates of a step of T ticks from the box S can be worked out with the working box E
+pub record RatesAsked (p : Plant) (v S : List ℤ) (T : ℕ) (E : List ℤ) : Type 0 where
   pub plant : Describes p v
-  pub ticks : k ≤ maxTicks
+  pub ticks : T ≤ maxTicks
   pub start : Near (vars v) limit S
   pub work : Near (vars v) limit E

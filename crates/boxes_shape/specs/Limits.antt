@@ -15,16 +15,16 @@ use Rattle.machine_spec.specs.Box.{Near, trim, hull, moved}
 use Rattle.machine_spec.specs.Rate.{outer}
 use Rattle.boxes_arithmetic.specs.Limits.{limit}
 
--- the side x can be moved by k of the rate r
-pub record SideMovable (x : ℤ) (k : ℕ) (r : ℤ) : Type 0 where
+-- the side x can be moved by T of the rate r
+pub record SideMovable (x : ℤ) (T : ℕ) (r : ℤ) : Type 0 where
   pub side : Bound x limit
-  pub ticks : k ≤ maxTicks
+  pub ticks : T ≤ maxTicks
   pub rate : Bound r maxCap
 
--- the box A of n variables can be moved by k of the rates R
-pub record Movable (n : ℕ) (A : List ℤ) (k : ℕ) (R : List ℤ) : Type 0 where
+-- the box A of n variables can be moved by T of the rates R
+pub record Movable (n : ℕ) (A : List ℤ) (T : ℕ) (R : List ℤ) : Type 0 where
   pub room : n ≤ N
-  pub ticks : k ≤ maxTicks
+  pub ticks : T ≤ maxTicks
   pub start : Near n limit A
   pub rates : Near n maxCap R
 
@@ -34,9 +34,9 @@ pub record Trimmed (n : ℕ) (E A P : List ℤ) : Type 0 where
   pub at : trim n A ≡ A
   pub path : trim n P ≡ P
 
--- A moved by k of the rates R is B, the working box F is that too, and P is the hull of both ends
-pub record ArriveDone (n : ℕ) (A : List ℤ) (k : ℕ) (R B F P : List ℤ) : Type 0 where
-  pub end : B ≡ moved n A k R
+-- A moved by T of the rates R is B, the working box F is that too, and P is the hull of both ends
+pub record ArriveDone (n : ℕ) (A : List ℤ) (T : ℕ) (R B F P : List ℤ) : Type 0 where
+  pub end : B ≡ moved n A T R
   pub work : F ≡ B
   pub path : P ≡ hull n A B
 
@@ -47,12 +47,12 @@ pub record TookIn (i : ℕ) (low high : ℤ) (E : List ℤ) (inside : Bool) (F :
   pub test : inside ≡ (leZ (lo E i) low && leZ high (hi E i))
   pub joined : F ≡ set (set E i (minZ (lo E i) low)) (i + N) (maxZ (hi E i) high)
 
--- A's side at a place, moved by k of its rate
+-- A's side at a place, moved by T of its rate
 abbrev pub movedSide : List ℤ → ℕ → List ℤ → ℕ → ℤ
-movedSide A k R place = A ! place +ℤ pos k *ℤ R ! place
+movedSide A T R place = A ! place +ℤ pos T *ℤ R ! place
 
 -- A, the working box E and the path P become B, F and Q: at one place, as `ArriveDone` says of all
-pub record ArriveSideDone (up : Bool) (place : ℕ) (A : List ℤ) (k : ℕ) (R E P B F Q : List ℤ) : Type 0 where
-  pub end : B ≡ set A place (movedSide A k R place)
-  pub work : F ≡ set E place (movedSide A k R place)
-  pub path : Q ≡ set P place (outer up (A ! place) (movedSide A k R place))
+pub record ArriveSideDone (up : Bool) (place : ℕ) (A : List ℤ) (T : ℕ) (R E P B F Q : List ℤ) : Type 0 where
+  pub end : B ≡ set A place (movedSide A T R place)
+  pub work : F ≡ set E place (movedSide A T R place)
+  pub path : Q ≡ set P place (outer up (A ! place) (movedSide A T R place))

@@ -18,21 +18,21 @@ stepLimit = 4000000
 abbrev pub countLimit : ℕ
 countLimit = 4294967295
 
--- a round of k ticks from the box S with the working box E
-pub record RoundAsked (p : Plant) (v S : List ℤ) (k : ℕ) (E : List ℤ) : Type 0 where
+-- a round of T ticks from the box S with the working box E
+pub record RoundAsked (p : Plant) (v S : List ℤ) (T : ℕ) (E : List ℤ) : Type 0 where
   pub plant : Describes p v
-  pub some : 0 < k
-  pub most : k ≤ maxTicks
+  pub some : 0 < T
+  pub most : T ≤ maxTicks
   pub start : Near (vars v) limit S
   pub work : Near (vars v) limit E
   pub trimmed : trim (vars v) E ≡ E
-  pub first : k ≡ 1 → E ≡ S
+  pub first : T ≡ 1 → E ≡ S
 
--- rounds of at most k ticks from the box S, at most `more` of them after c rounds; E is the working box and R the rates, both lent
-pub record StepAsked (p : Plant) (v S : List ℤ) (k c more : ℕ) (E R : List ℤ) : Type 0 where
+-- rounds of at most T ticks from the box S, at most `more` of them after c rounds; E is the working box and R the rates, both lent
+pub record StepAsked (p : Plant) (v S : List ℤ) (T c more : ℕ) (E R : List ℤ) : Type 0 where
   pub plant : Describes p v
-  pub some : 0 < k
-  pub most : k ≤ maxTicks
+  pub some : 0 < T
+  pub most : T ≤ maxTicks
   pub counts : c + more ≤ countLimit
   pub start : Near (vars v) stepLimit S
   pub trimmed : trim (vars v) S ≡ S

@@ -18,11 +18,11 @@ stepOf n S R (Settled t c) = ok (record { ticks = t; end = moved n S t R }) c
 stepOf n S R (Unsettled c) = failed unsettled c
 stepOf n S R (Exhausted c) = exhausted c
 
--- a round of k ticks from S with the working box E answers whether it settles, and leaves the rates R and the working box F
-pub record RoundDone (m : Machine) (S : List ℤ) (k : ℕ) (E : List ℤ) (answer : Bool) (F R : List ℤ) : Type 0 where
-  pub settled : answer ≡ settles m S k E
-  pub rated : R ≡ rates m S k E
-  pub grew : answer ≡ false → F ≡ grown m S k E
+-- a round of T ticks from S with the working box E answers whether it settles, and leaves the rates R and the working box F
+pub record RoundDone (m : Machine) (S : List ℤ) (T : ℕ) (E : List ℤ) (answer : Bool) (F R : List ℤ) : Type 0 where
+  pub settled : answer ≡ settles m S T E
+  pub rated : R ≡ rates m S T E
+  pub grew : answer ≡ false → F ≡ grown m S T E
   pub trimmed : trim (varsOf m) F ≡ F
 
 -- rounds from S that are to give `result` answer r, and leave the rates R and the working box F
