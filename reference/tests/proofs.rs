@@ -1,4 +1,4 @@
-//! The worked examples in the crates' proofs are those of `examples.txt` and `limits.txt`.
+//! The worked examples that are proved are those of `examples.txt` and `limits.txt`.
 
 use std::process::Command;
 
@@ -17,18 +17,18 @@ fn words(text: &str) -> Vec<&str> {
 
 #[test]
 fn the_sheet_examples_are_those_of_the_list() {
-    let kept = include_str!("../../crates/sheet_spec/proofs/Reference.antt");
+    let kept = include_str!("../../crates/worked_examples/proofs/Sheet.antt");
     assert_eq!(words(&printed("sheet")), words(kept));
 }
 
 #[test]
 fn the_reach_examples_are_those_of_the_list() {
-    let kept = include_str!("../../crates/boxes_spec/proofs/Reference.antt");
-    assert_eq!(words(&printed("boxes")), words(kept));
+    let kept = include_str!("../../crates/worked_examples/proofs/Reach.antt");
+    assert_eq!(words(&printed("reach")), words(kept));
 }
 
 #[test]
 fn the_decision_examples_are_those_of_the_list() {
-    let kept = include_str!("../../crates/decision_spec/proofs/Reference.antt");
+    let kept = include_str!("../../crates/worked_examples/proofs/Decision.antt");
     assert_eq!(words(&printed("decision")), words(kept));
 }

@@ -1,7 +1,8 @@
--- What is accepted at its bound, and not past it: an allowance, and the last end box of an attempt; and which of several faults counts. Assumes nothing.
+-- What is accepted at its bound, and not past it: an allowance, and the last end box of an attempt; which of several faults counts; and that a
+-- short tail has a line. Assumes nothing.
 use mathlib.Core.Path.{_≡_, refl}
 use mathlib.Core.Bool.{Bool, true, false}
-use mathlib.Core.List.{List, [], _∷_}
+use mathlib.Core.List.{List, [], _∷_, _++_}
 use Prim.Native.Nat.{ℕ}
 use lib.IntN.{ℤ, pos}
 use lib.Seq.{sets}
@@ -12,6 +13,7 @@ use Rattle.machine_spec.specs.declared.Law.the-variants.{Command}
 use Rattle.boxes_spec.specs.Step.{Result, ok, failed, exhausted}
 use Rattle.decision_spec.specs.Question.{allowanceRefusal, questionRefusal}
 use Rattle.decision_spec.specs.Decision.{attempt, decisionPhases}
+use Rattle.decision_spec.specs.Listing.{questionLine, questionLines}
 use Rattle.decision_spec.specs.Starred.{interval}
 use Rattle.decision_spec.proofs.Everything.{everything}
 
@@ -48,3 +50,11 @@ attempted v = succeeds (attempt true 100 v 4 (decisionPhases v (Command (pos 25)
 pub recovered : (attempted (sheet 12 20) ≡ true) × (attempted (sheet 13 20) ≡ false) × (attempted (sheet 12 19) ≡ false)
 unfolding everything
 recovered = (refl, refl, refl)
+
+-- a question on sheet A, and two bytes after it: two lines
+abbrev tail : List ℕ
+tail = 81 ∷ 83 ∷ []
+
+pub tail-listed : questionLines fileA 20 1 (faulty 83 0 25 ++ tail) ≡ questionLine fileA 1 (faulty 83 0 25) ++ questionLine fileA 2 tail
+unfolding everything
+tail-listed = refl

@@ -11,4 +11,3 @@ pub mod Attempt
 pub mod Allowance
 pub mod Spent
 pub mod Rounds
-mod Reference

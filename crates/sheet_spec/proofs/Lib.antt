@@ -19,6 +19,5 @@ pub mod RoundTrip
 pub mod ReadWrite
 pub mod Everything
 mod Examples
-mod Reference
 pub mod FieldRuns
 pub mod FieldPlaces

@@ -1,7 +1,6 @@
 //! Prints examples of `examples.txt` and `limits.txt` as a file of proofs: `print_proofs sheet` those of reading and writing,
-//! `print_proofs boxes` those of the reach, `print_proofs decision` the listings, and the decisions and recovery checks that are
-//! listed in `PROVED` or in `limits.txt`. The definitions compute each of them; a test holds the printed files to those in the
-//! repository.
+//! `print_proofs reach` those of the reach, `print_proofs decision` the decisions, recovery checks and listings. The
+//! definitions compute each of them; a test holds the printed files to those in the repository.
 
 use std::collections::HashMap;
 
@@ -262,12 +261,12 @@ use Prim.Native.Nat.{ℕ}
 use lib.IntN.{pos}
 use lib.ListN.{take, replicate}
 use lib.Seq.{sets}
 use Rattle.sheet_spec.specs.Sheet.{refusal, values, writeRefusal}
 use Rattle.sheet_spec.specs.SheetA.{fileA}
 use Rattle.sheet_spec.proofs.Everything.{everything}
 ";
 
-const BOXES: &str = "\
+const REACH: &str = "\
 use mathlib.Core.Path.{_≡_, refl}
 use mathlib.Core.List.{List, [], _∷_}
 use Prim.Native.Nat.{ℕ}
@@ -322,31 +321,6 @@ fn print(examples: &[Example], header: &str, bases: &Bases) {
     }
 }
 
-/// The decisions and recovery checks of `examples.txt` that are proved: each kind of answer, at several widths, n and bands. The other examples
-/// repeat one of these with another width or allowance, and would double the time of the check.
-const PROVED: [&str; 14] = [
-    // kept at the first, second and third width: n = 2, two and three bands, a spread, negative coefficients, clamped and
-    // unclamped changes, delta other than alpha
-    "keep_first_width",
-    "keep_with_the_last_round",
-    "keep_third_width",
-    // failed at width 1, in either way
-    "finest_outside_recovery",
-    "finest_at_an_unsafe_box",
-    // spent where a width begins, inside one, and in a step that halves twice
-    "spent_between_widths",
-    "spent_second_width",
-    "two_halvings_spent",
-    // n = 4, 3 and 1
-    "chain_keep",
-    "gentle_keep",
-    "stiff_keep",
-    // recovery checks, and a refused question
-    "check_passes",
-    "check_fails",
-    "refused_measured_side",
-];
-
 fn lines(text: &str) -> impl Iterator<Item = Example<'_>> {
     text.lines().filter(|line| !line.is_empty() && !line.starts_with('#')).map(Example::parse)
 }
@@ -356,15 +330,14 @@ fn main() {
     let limits = lines(include_str!("../../limits.txt"));
     let (files, limits): (Vec<Example>, Vec<Example>) = limits.partition(|line| line.call == "file");
     let named: Vec<(&str, &str)> = files.iter().map(|file| (file.name, file.field("bytes"))).collect();
-    let proved = |example: &Example| example.call == "reach" || PROVED.contains(&example.name);
-    let examples = lines(include_str!("../../examples.txt")).filter(proved).chain(limits);
+    let examples = lines(include_str!("../../examples.txt")).chain(limits);
     let of = |calls: &'static [&str]| examples.filter(|example| calls.contains(&example.call)).collect::<Vec<Example>>();
     let (examples, header) = match part.as_str() {
         "sheet" => (of(&["read", "write"]), SHEET),
-        "boxes" => (of(&["reach"]), BOXES),
+        "reach" => (of(&["reach"]), REACH),
         "decision" => (of(&["decide", "check", "listing"]), DECISION),
         _ => {
-            eprintln!("usage: print_proofs sheet|boxes|decision");
+            eprintln!("usage: print_proofs sheet|reach|decision");
             std::process::exit(2);
         }
     };

@@ -1,0 +1,3 @@
+mod Sheet
+mod Reach
+mod Decision
