@@ -14,7 +14,7 @@ use Rattle.sheet_spec.specs.Slots.{_!_, headSize, varsSlot, bandsSlot, boxesSlo
 use Rattle.sheet_spec.specs.Refusals.{Cause, number}
 use Rattle.sheet_spec.specs.declared.Shape.{Shape}
 use Rattle.sheet_spec.specs.declared.Record.the-variants.{Head}
-use Rattle.sheet_spec.specs.File.{shape, Small, records, recordAt, fieldsAt, countAt, recordStart, filledAll, marked, markedAt, badAll}
+use Rattle.sheet_spec.specs.File.{shape, Small, records, recordAt, fieldsAt, fieldCountAt, recordStart, filledAll, marked, markedAt, badAll}
 use Rattle.sheet_spec.specs.Fields.{offset, filled, bad}
 use Rattle.sheet_spec.specs.Sizes.{letters, capsAt}
 use Rattle.sheet_spec.specs.Layout.{_▸_, capField, headFields, fields}
@@ -52,7 +52,7 @@ all-again s f zero =
     filled-part headFields capField headSize (s .vars) (cap-run (s .vars)) f letters (headOf f)
     ∙ ap (filled capField f (letters + offset headFields headSize) (s .vars)) (head-again f)
     ∙ sym (filled-part headFields capField headSize (s .vars) (cap-run (s .vars)) f letters zeros)
-all-again s f (suc r) = ap (filled (fieldsAt s (suc r)) f (recordStart s (suc r) + letters) (countAt s (suc r))) (all-again s f r)
+all-again s f (suc r) = ap (filled (fieldsAt s (suc r)) f (recordStart s (suc r) + letters) (fieldCountAt s (suc r))) (all-again s f r)
 
 -- where h is the head as read, its numbers are in range, and s has its counts
 module _ (f : List ℕ) (h : List ℤ) (s : Shape) (begun : leb capsAt (length f) && marked f 0 Head ≡ true) (hh : h ≡ headOf f)

@@ -13,7 +13,7 @@ use Rattle.sheet_spec.specs.Fields.{filled}
 use Rattle.sheet_spec.specs.Sizes.{letters, rowBytes}
 use Rattle.sheet_spec.specs.declared.Shape.{Shape}
 use Rattle.sheet_spec.specs.declared.Record.{Record}
-use Rattle.sheet_spec.specs.Layout.{fields, count}
+use Rattle.sheet_spec.specs.Layout.{fields, fieldCount}
 use Rattle.sheet_spec.specs.File.{Small, HasRoom, records, recordAt, recordLength, recordStart, filledAll, badNumbers, badRecord, badAll}
 use Rattle.sheet_spec.proofs.Records.{room-at}
 
@@ -34,12 +34,12 @@ module _ (s : Shape) (r : ℕ) where
     pub start-more : {a l b : ℕ} → l ≡ recordLength (s .vars) x → a ≡ recordStart s r → b ≡ a + l → b ≡ recordStart s (r + 1)
     start-more hl ha hb = omega (arith, next-start, hl ∙ ap (recordLength (s .vars)) is)
 
-    pub filled-more : (f : List ℕ) (v : List ℤ) {b : ℕ} {u w : List ℤ} → u ≡ filled (fields (s .vars) x) f (b + letters) (count (s .vars) x) w → b ≡ recordStart s r → w ≡ filledAll s f r v → u ≡ filledAll s f (r + 1) v
+    pub filled-more : (f : List ℕ) (v : List ℤ) {b : ℕ} {u w : List ℤ} → u ≡ filled (fields (s .vars) x) f (b + letters) (fieldCount (s .vars) x) w → b ≡ recordStart s r → w ≡ filledAll s f r v → u ≡ filledAll s f (r + 1) v
     unfolding filledAll
     filled-more f v {b} {u} {w} hu hb hw =
         rw (add-one r, filledAll)
-        (hu ∙ ap (λ (y : Record). filled (fields (s .vars) y) f (b + letters) (count (s .vars) y) w) is
-        ∙ ap₂ (λ (b : ℕ) (w : List ℤ). filled (fields (s .vars) (recordAt s r)) f (b + letters) (count (s .vars) (recordAt s r)) w) hb hw)
+        (hu ∙ ap (λ (y : Record). filled (fields (s .vars) y) f (b + letters) (fieldCount (s .vars) y) w) is
+        ∙ ap₂ (λ (b : ℕ) (w : List ℤ). filled (fields (s .vars) (recordAt s r)) f (b + letters) (fieldCount (s .vars) (recordAt s r)) w) hb hw)
 
     pub bad-is : (marks : ℕ → Bool) (v : List ℤ) {t : Bool} {y z : ℕ} → t ≡ marks r → y ≡ badNumbers v s x → z ≡ afterMark t y → z ≡ badRecord marks s v r
     bad-is marks v h i e = e ∙ ap₂ (λ (t : Bool) (y : ℕ). afterMark t y) h (i ∙ ap (badNumbers v s) is)

@@ -10,7 +10,7 @@ ghost use Rattle.sheet_spec.specs.Refusals.{Cause, refuseUnless, unlessRefused}
 ghost use Rattle.sheet_spec.specs.File.{Small, HasRoom, records, recordLength, recordStart, filledAll, markedAt, badAll};
 ghost use Rattle.sheet_spec.specs.Fields.{filled};
 ghost use Rattle.sheet_spec.specs.Sizes.{letters, capsAt, capBytes, rowBytes, bandBytes, boxBytes};
-ghost use Rattle.sheet_spec.specs.Layout.{headFields, rowFields, rowCount, bandFields, bandCount, boxFields, boxCount, fields, count};
+ghost use Rattle.sheet_spec.specs.Layout.{headFields, rowFields, rowCount, bandFields, bandCount, boxFields, boxCount, fields, fieldCount};
 use sheet_encoding::bytes::get_i16;
 use sheet_encoding::bytes::get_i32;
 use sheet_encoding::bytes::get_u8;
@@ -109,7 +109,7 @@ fn read_box(f: &[u8], at: usize, n: usize, slot: usize, v: &mut [i32; SLOTS])
 fn read_record(f: &[u8], at: usize, shape: Shape, record: Record, v: &mut [i32; SLOTS])
     requires { ⌜ Small shape × HasRoom «record» ⌝ }
     requires { ⌜ at + recordLength (shape .vars) «record» ≤ length (now f) ⌝ }
-    ensures { λ _. ⌜ now (v .exit) ≡ filled (fields (shape .vars) «record») (now (f .entry)) (at + letters) (count (shape .vars) «record») (now (v .entry)) ⌝ }
+    ensures { λ _. ⌜ now (v .exit) ≡ filled (fields (shape .vars) «record») (now (f .entry)) (at + letters) (fieldCount (shape .vars) «record») (now (v .entry)) ⌝ }
 {
     let n = shape.vars;
     let body = at + LETTERS;

@@ -15,9 +15,9 @@ use Rattle.sheet_spec.specs.Refusals.{Cause}
 use Rattle.sheet_spec.specs.Sizes.{letters, capsAt}
 use Rattle.sheet_spec.specs.declared.Record.{Record}
 use Rattle.sheet_spec.specs.declared.Record.the-variants.{Head}
-use Rattle.sheet_spec.specs.Layout.{_▸_, headFields, fields, count}
+use Rattle.sheet_spec.specs.Layout.{_▸_, headFields, fields, fieldCount}
 use Rattle.sheet_spec.specs.declared.Shape.{Shape}
-use Rattle.sheet_spec.specs.File.{shape, Small, records, recordAt, fieldsAt, countAt, recordStart, marked, markedAt}
+use Rattle.sheet_spec.specs.File.{shape, Small, records, recordAt, fieldsAt, fieldCountAt, recordStart, marked, markedAt}
 use Rattle.sheet_spec.specs.Sheet.{zeros, headOf, shapeOf, contents, stage, stages, refusal, values}
 use Rattle.sheet_spec.proofs.Streams.{Each, lt-or-le}
 use Rattle.sheet_spec.proofs.Box.{and-both}
@@ -72,7 +72,7 @@ head-number f =
     filled-at headFields f letters headSize zeros (λ i j a b e. omega (arith, head-slot i, head-slot j)) (λ j l. omega (arith, head-slot j, length-zeros))
 
 module _ (f : List ℕ) (m : Small (shapeOf f)) where
-  pub number-at : (r : ℕ) → r < records (shapeOf f) → (j : ℕ) → j < countAt (shapeOf f) r
+  pub number-at : (r : ℕ) → r < records (shapeOf f) → (j : ℕ) → j < fieldCountAt (shapeOf f) r
       → contents f ! fieldsAt (shapeOf f) r j .slot ≡ decoded (fieldsAt (shapeOf f) r j .kind) (drop (recordStart (shapeOf f) r + letters + offset (fieldsAt (shapeOf f) r) j) f)
   unfolding contents
   number-at = all-at (shapeOf f) f m zeros length-zeros (records (shapeOf f)) (omega arith)
@@ -81,7 +81,7 @@ module _ (f : List ℕ) (m : Small (shapeOf f)) where
   unfolding fields recordStart
   same-head j l =
       let s = shapeOf f in
-      let P : Record → Type 0 = λ x. j < count (s .vars) x → contents f ! fields (s .vars) x j .slot ≡ decoded (fields (s .vars) x j .kind) (drop (0 + letters + offset (fields (s .vars) x) j) f) in
+      let P : Record → Type 0 = λ x. j < fieldCount (s .vars) x → contents f ! fields (s .vars) x j .slot ≡ decoded (fields (s .vars) x j .kind) (drop (0 + letters + offset (fields (s .vars) x) j) f) in
       subst P (head-at s) (number-at 0 (omega arith) j) (omega arith) ∙ sym (head-number f j l)
 
   pub same-shape : shape (contents f) ≡ shapeOf f

@@ -15,7 +15,7 @@ use Rattle.sheet_spec.specs.declared.Record.{Record}
 use Rattle.sheet_spec.specs.declared.Record.the-variants.{Head, Band, Unsafe, Recovery}
 use Rattle.sheet_spec.specs.Layout.{headFields}
 use Rattle.sheet_spec.specs.declared.Shape.{Shape}
-use Rattle.sheet_spec.specs.File.{shape, records, recordAt, fieldsAt, countAt, recordStart, marked, markedAt, closing, badRecord, badAll}
+use Rattle.sheet_spec.specs.File.{shape, records, recordAt, fieldsAt, fieldCountAt, recordStart, marked, markedAt, closing, badRecord, badAll}
 use Rattle.sheet_spec.specs.Sheet.{headOf, shapeOf, contents, stage, stages, refusal, valueRefusal, length-of, writeRefusal}
 use Rattle.sheet_spec.proofs.Laws.{either-most, first-most, unless-most}
 
@@ -40,7 +40,7 @@ all-most marks s v =
     first-most (badRecord marks s v)
     (λ r.
     either-most _ _ (unless-most (marks r) Cause.mark)
-    (either-most _ _ (bad-most (fieldsAt s r) v (countAt s r)) (closing-most v s (recordAt s r))))
+    (either-most _ _ (bad-most (fieldsAt s r) v (fieldCountAt s r)) (closing-most v s (recordAt s r))))
 
 stage-most : (f : List ℕ) (i : ℕ) → stage f i ≤ greatestNumber
 unfolding stage

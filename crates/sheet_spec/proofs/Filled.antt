@@ -13,7 +13,7 @@ use Rattle.sheet_spec.specs.Slots.{_!_, slots}
 use Rattle.sheet_spec.specs.Fields.{Field, decoded, offset, filled}
 use Rattle.sheet_spec.specs.Sizes.{letters}
 use Rattle.sheet_spec.specs.declared.Shape.{Shape}
-use Rattle.sheet_spec.specs.File.{Small, records, fieldsAt, countAt, recordStart, filledAll}
+use Rattle.sheet_spec.specs.File.{Small, records, fieldsAt, fieldCountAt, recordStart, filledAll}
 use Rattle.sheet_spec.proofs.Places.{field-apart, record-apart, slot-lt}
 
 -- slot i is that of one of the first k fields
@@ -60,13 +60,13 @@ module _ (p : ℕ → Field) (f : List ℕ) (at : ℕ) where
 pub record TakenAll (s : Shape) (k i : ℕ) : Type 0 where
   pub r : ℕ
   pub below : r < k
-  pub taken : Taken (fieldsAt s r) (countAt s r) i
+  pub taken : Taken (fieldsAt s r) (fieldCountAt s r) i
 
 module _ (s : Shape) (f : List ℕ) where
   pub length-all : (k : ℕ) (v : List ℤ) → length (filledAll s f k v) ≡ length v
   unfolding filledAll
   length-all zero v = refl
-  length-all (suc k) v = length-filled (fieldsAt s k) f (recordStart s k + letters) (countAt s k) (filledAll s f k v) ∙ length-all k v
+  length-all (suc k) v = length-filled (fieldsAt s k) f (recordStart s k + letters) (fieldCountAt s k) (filledAll s f k v) ∙ length-all k v
 
   pub origin-all : (k : ℕ) (v : List ℤ) (i : ℕ) → (filledAll s f k v ! i ≡ v ! i) ⊎ TakenAll s k i
   unfolding filledAll
@@ -75,21 +75,21 @@ module _ (s : Shape) (f : List ℕ) where
       ⊎-elim
       (λ e. ⊎-elim (λ d. inl (e ∙ d)) (λ t. inr (record { r = t .r; below = omega arith; taken = t .taken })) (origin-all k v i))
       (λ t. inr (record { r = k; below = omega arith; taken = t }))
-      (origin (fieldsAt s k) f (recordStart s k + letters) (countAt s k) (filledAll s f k v) i)
+      (origin (fieldsAt s k) f (recordStart s k + letters) (fieldCountAt s k) (filledAll s f k v) i)
 
-  pub all-at : Small s → (v : List ℤ) → length v ≡ slots → (k : ℕ) → k ≤ records s → (r : ℕ) → r < k → (j : ℕ) → j < countAt s r
+  pub all-at : Small s → (v : List ℤ) → length v ≡ slots → (k : ℕ) → k ≤ records s → (r : ℕ) → r < k → (j : ℕ) → j < fieldCountAt s r
       → filledAll s f k v ! fieldsAt s r j .slot ≡ decoded (fieldsAt s r j .kind) (drop (recordStart s r + letters + offset (fieldsAt s r) j) f)
   unfolding filledAll
   all-at m v e zero h r l j b = absurd (let z : ⊥ = omega arith in z)
   all-at m v e (suc k) h r l j b =
       ⊎-elim
       (λ (q : r ≡ k).
-      let c : j < countAt s k = rw q at b in
+      let c : j < fieldCountAt s k = rw q at b in
       rw q
-      (filled-at (fieldsAt s k) f (recordStart s k + letters) (countAt s k) (filledAll s f k v) (field-apart s m k)
+      (filled-at (fieldsAt s k) f (recordStart s k + letters) (fieldCountAt s k) (filledAll s f k v) (field-apart s m k)
       (λ i a. omega (arith, length-all k v, slot-lt s m k (omega arith) i a)) j c))
       (λ (q : r < k).
-      filled-other (fieldsAt s k) f (recordStart s k + letters) (countAt s k) (filledAll s f k v) (fieldsAt s r j .slot)
+      filled-other (fieldsAt s k) f (recordStart s k + letters) (fieldCountAt s k) (filledAll s f k v) (fieldsAt s r j .slot)
       (λ t. let z : k ≡ r = record-apart s m k r (omega arith) (omega arith) (t .j) j (t .below) b (t .is) in omega arith)
       ∙ all-at m v e k (omega arith) r q j b)
       (let m : r ≤ k = omega arith in eq-or-lt-of-le m)

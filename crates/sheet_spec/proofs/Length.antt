@@ -11,7 +11,7 @@ use Rattle.sheet_spec.specs.Sizes.{letters, capsAt, capBytes, rowsAt, co
 use Rattle.sheet_spec.specs.Limits.{maxUnsafeSide, maxRecoverySide}
 use Rattle.sheet_spec.specs.declared.Record.{Record}
 use Rattle.sheet_spec.specs.declared.Record.the-variants.{Head, Band, Unsafe, Recovery}
-use Rattle.sheet_spec.specs.Layout.{_▸_, capField, headFields, edgeField, rowRest, rowFields, bandFields, sideFields, boxFields, fields, count, rowCount}
+use Rattle.sheet_spec.specs.Layout.{_▸_, capField, headFields, edgeField, rowRest, rowFields, bandFields, sideFields, boxFields, fields, fieldCount, rowCount}
 use Rattle.sheet_spec.specs.declared.Shape.{Shape}
 use Rattle.sheet_spec.specs.File.{shape, records, recordAt, recordStart}
 use Rattle.sheet_spec.specs.Sheet.{length-of}
@@ -75,7 +75,7 @@ recordSize n (Band k) = bandHead + n * rowBytes n
 recordSize n (Unsafe j) = letters + boxBytes n
 recordSize n Recovery = letters + boxBytes n
 
-pub record-size : (n : ℕ) (x : Record) → letters + offset (fields n x) (count n x) ≡ recordSize n x
+pub record-size : (n : ℕ) (x : Record) → letters + offset (fields n x) (fieldCount n x) ≡ recordSize n x
 unfolding fields
 record-size n Head = cap-offset n
 record-size n (Band k) = omega (arith, row-offset n k n)

@@ -9,9 +9,9 @@ use Rattle.sheet_spec.specs.Fields.{Field}
 use Rattle.sheet_spec.specs.Limits.{maxBands, maxUnsafeSide, maxRecoverySide}
 use Rattle.sheet_spec.specs.declared.Record.{Record}
 use Rattle.sheet_spec.specs.declared.Record.the-variants.{Head, Band, Unsafe, Recovery}
-use Rattle.sheet_spec.specs.Layout.{_▸_, first, groups, always, headFields, edgeField, rowRest, rowFields, bandFields, sideFields, boxFields, fields, count, rowCount, bandCount, boxCount}
+use Rattle.sheet_spec.specs.Layout.{_▸_, first, groups, always, headFields, edgeField, rowRest, rowFields, bandFields, sideFields, boxFields, fields, fieldCount, rowCount, bandCount, boxCount}
 use Rattle.sheet_spec.specs.declared.Shape.{Shape}
-use Rattle.sheet_spec.specs.File.{Small, records, recordAt, fieldsAt, countAt}
+use Rattle.sheet_spec.specs.File.{Small, records, recordAt, fieldsAt, fieldCountAt}
 use Rattle.sheet_spec.proofs.Streams.{each-first, first-low, first-high, lt-or-le, rows-more}
 use Rattle.sheet_spec.proofs.Records.{record-cases}
 
@@ -171,7 +171,7 @@ module _ (n : ℕ) (l : n ≤ N) where
     apart = λ i j a b e. omega (arith, side-slot h s i, side-slot h s j);
   }
 
-  spread-record : (x : Record) → Spread (fields n x) (count n x) (base x) (limit x)
+  spread-record : (x : Record) → Spread (fields n x) (fieldCount n x) (base x) (limit x)
   unfolding fields
   spread-record Head = spread-run 0 head-slot (omega arith)
   spread-record (Band k) = spread-band k
@@ -207,30 +207,30 @@ same-variable x y a b h k e =
     (λ (m : b ≤ a). ⊎-elim (λ (l : b < a). absurd (let z : ⊥ = omega arith in z)) (λ (l : a ≤ b). omega arith) (lt-or-le b a)) (lt-or-le a b)
 
 module _ (s : Shape) (l : Small s) where
-  spread-at : (r : ℕ) → Spread (fieldsAt s r) (countAt s r) (base (recordAt s r)) (limit (recordAt s r))
+  spread-at : (r : ℕ) → Spread (fieldsAt s r) (fieldCountAt s r) (base (recordAt s r)) (limit (recordAt s r))
   spread-at r = spread-record (s .vars) (omega (arith, l .vars)) (recordAt s r)
 
   -- no two fields of a record have one slot, and no two records
-  pub field-apart : (r i j : ℕ) → i < countAt s r → j < countAt s r → fieldsAt s r i .slot ≡ fieldsAt s r j .slot → i ≡ j
+  pub field-apart : (r i j : ℕ) → i < fieldCountAt s r → j < fieldCountAt s r → fieldsAt s r i .slot ≡ fieldsAt s r j .slot → i ≡ j
   field-apart r = spread-at r .apart
 
-  pub record-apart : (r m : ℕ) → r < records s → m < records s → (i j : ℕ) → i < countAt s r → j < countAt s m → fieldsAt s r i .slot ≡ fieldsAt s m j .slot → r ≡ m
+  pub record-apart : (r m : ℕ) → r < records s → m < records s → (i j : ℕ) → i < fieldCountAt s r → j < fieldCountAt s m → fieldsAt s r i .slot ≡ fieldsAt s m j .slot → r ≡ m
   record-apart r m a b i j c d e =
       one-owner s (fieldsAt s r i .slot) (l .bands) r m (owner s (fieldsAt s r i .slot) (l .bands) r a (spread-at r .low i c) (spread-at r .high i c))
       (subst (λ (x : ℕ). Owner s x m) (sym e) (owner s (fieldsAt s m j .slot) (l .bands) m b (spread-at m .low j d) (spread-at m .high j d)))
 
   -- each slot is within the value
-  pub slot-lt : (r : ℕ) → r < records s → (j : ℕ) → j < countAt s r → fieldsAt s r j .slot < slots
+  pub slot-lt : (r : ℕ) → r < records s → (j : ℕ) → j < fieldCountAt s r → fieldsAt s r j .slot < slots
   slot-lt r a j b =
       let x : limit (recordAt s r) ≤ slots = record-cases s (λ r y. limit y ≤ slots) (omega arith) (λ k q. omega (arith, l .bands)) (λ j q. omega (arith, l .boxes)) (omega arith) r a in
       omega (arith, spread-at r .high j b)
 
   -- no field has the slot of a side of the recovery box beyond the variables
-  pub recovery-free : (i q : ℕ) → s .vars ≤ i → i < N → q < pairSize → (r : ℕ) → r < records s → (j : ℕ) → j < countAt s r → fieldsAt s r j .slot ≡ recoverySlot + i + q * N → ⊥
+  pub recovery-free : (i q : ℕ) → s .vars ≤ i → i < N → q < pairSize → (r : ℕ) → r < records s → (j : ℕ) → j < fieldCountAt s r → fieldsAt s r j .slot ≡ recoverySlot + i + q * N → ⊥
   unfolding fields
   recovery-free i q b h k =
       let room : s .vars ≤ N = omega (arith, l .vars) in
-      record-cases s (λ r x. (j : ℕ) → j < count (s .vars) x → fields (s .vars) x j .slot ≡ recoverySlot + i + q * N → ⊥)
+      record-cases s (λ r x. (j : ℕ) → j < fieldCount (s .vars) x → fields (s .vars) x j .slot ≡ recoverySlot + i + q * N → ⊥)
       (λ j c e. omega (arith, spread-record (s .vars) room Head .high j c))
       (λ m d j c e. omega (arith, spread-record (s .vars) room (Band m) .high j c, l .bands))
       (λ m d j c e. omega (arith, spread-record (s .vars) room (Unsafe m) .low j c))

@@ -8,7 +8,7 @@ use Rattle.sheet_spec.specs.Fields.{Field}
 use Rattle.sheet_spec.specs.Limits.{maxUnsafeSide, maxRecoverySide}
 use Rattle.sheet_spec.specs.declared.Record.{Record}
 use Rattle.sheet_spec.specs.declared.Record.the-variants.{Head, Band, Unsafe, Recovery}
-use Rattle.sheet_spec.specs.Layout.{_▸_, capField, headFields, rowFields, bandFields, sideFields, boxFields, fields, count, rowCount, bandCount, boxCount}
+use Rattle.sheet_spec.specs.Layout.{_▸_, capField, headFields, rowFields, bandFields, sideFields, boxFields, fields, fieldCount, rowCount, bandCount, boxCount}
 use Rattle.sheet_spec.specs.declared.Shape.{Shape}
 use Rattle.sheet_spec.specs.File.{Small, HasRoom, records, recordAt}
 use Rattle.sheet_spec.proofs.Streams.{Each, each-rest, each-group, next, first-low, first-high, first-after, lt-or-le, rows-more}
@@ -62,7 +62,7 @@ module _ (s : Shape) where
 
 -- P holds of each field of a record, of each field of a sheet
 abbrev pub EachOf : (Field → Type 0) → ℕ → Record → Type 0
-EachOf P n x = Each P (fields n x) (count n x)
+EachOf P n x = Each P (fields n x) (fieldCount n x)
 
 abbrev pub EachField : (Field → Type 0) → Shape → Type 0
 EachField P s = Each (EachOf P (s .vars)) (recordAt s) (records s)

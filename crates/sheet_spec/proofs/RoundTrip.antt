@@ -16,7 +16,7 @@ use Rattle.sheet_spec.specs.Fields.{decoded, offset}
 use Rattle.sheet_spec.specs.Sizes.{letters, capsAt}
 use Rattle.sheet_spec.specs.declared.Record.{Record}
 use Rattle.sheet_spec.specs.declared.Record.the-variants.{Head}
-use Rattle.sheet_spec.specs.Layout.{_▸_, headFields, fields, count}
+use Rattle.sheet_spec.specs.Layout.{_▸_, headFields, fields, fieldCount}
 use Rattle.sheet_spec.specs.declared.Shape.{Shape}
 use Rattle.sheet_spec.specs.File.{shape, records, fieldsAt, recordStart, filledAll, codedAll, marked, markedAt, badAll}
 use Rattle.sheet_spec.specs.Sheet.{zeros, headOf, shapeOf, contents, stage, stages, refusal, values, valueRefusal, length-of, bytesOf, writeRefusal, written, Same}
@@ -49,7 +49,7 @@ module _ (v : List ℤ) (f : List ℕ) (g : AllGood v) (size : length f ≡ reco
   unfolding fields recordStart
   head-equal =
       let n = shape v .vars in
-      let P : Record → Type 0 = λ x. (j : ℕ) → j < count n x → v ! fields n x j .slot ≡ decoded (fields n x j .kind) (drop (0 + letters + offset (fields n x) j) f) in
+      let P : Record → Type 0 = λ x. (j : ℕ) → j < fieldCount n x → v ! fields n x j .slot ≡ decoded (fields n x j .kind) (drop (0 + letters + offset (fields n x) j) f) in
       record { at = λ j l. subst P (head-at (shape v)) (t .numbers 0 (omega arith)) j (omega arith) ∙ sym (head-number f j l) }
 
   shape-is : shape v ≡ shapeOf f

@@ -18,7 +18,7 @@ use Rattle.sheet_spec.specs.Sizes.{letters}
 use Rattle.sheet_spec.specs.declared.Record.{Record}
 use Rattle.sheet_spec.specs.Layout.{mark}
 use Rattle.sheet_spec.specs.declared.Shape.{Shape}
-use Rattle.sheet_spec.specs.File.{recordAt, fieldsAt, countAt, recordStart, recordBytes, codedAll, marked, markedAt}
+use Rattle.sheet_spec.specs.File.{recordAt, fieldsAt, fieldCountAt, recordStart, recordBytes, codedAll, marked, markedAt}
 use Rattle.sheet_spec.proofs.Streams.{Each}
 use Rattle.sheet_spec.proofs.Box.{and-both}
 use Rattle.sheet_spec.proofs.Ranges.{FieldFits}
@@ -27,7 +27,7 @@ use Rattle.sheet_spec.proofs.Numbers.{length-coded, coded-read, read-co
 -- the first k records of f say v
 pub record Says (s : Shape) (f : List ℕ) (v : List ℤ) (k : ℕ) : Type 0 where
   pub marks : (r : ℕ) → r < k → markedAt s f r ≡ true
-  pub numbers : (r : ℕ) → r < k → (j : ℕ) → j < countAt s r → v ! fieldsAt s r j .slot ≡ decoded (fieldsAt s r j .kind) (drop (recordStart s r + letters + offset (fieldsAt s r) j) f)
+  pub numbers : (r : ℕ) → r < k → (j : ℕ) → j < fieldCountAt s r → v ! fieldsAt s r j .slot ≡ decoded (fieldsAt s r j .kind) (drop (recordStart s r + letters + offset (fieldsAt s r) j) f)
 
 marked-bytes : (f : List ℕ) (at : ℕ) (x : Record) → marked f at x ≡ true → (getD f at 0 ≡ mark x .0) × (getD f (at + 1) 0 ≡ mark x .1)
 unfolding marked
@@ -38,11 +38,11 @@ unfolding marked
 bytes-marked f at x a b = rw (eq-eqb (getD f at 0) (mark x .0) a, eq-eqb (getD f (at + 1) 0) (mark x .1) b)
 
 module _ (s : Shape) (f : List ℕ) (v : List ℤ) (b : Bytes f) where
-  record-read : (k r : ℕ) → r < k → Says s f v k → recordStart s (suc r) ≤ length f → recordBytes (s .vars) (recordAt s r) v ≡ take (letters + offset (fieldsAt s r) (countAt s r)) (drop (recordStart s r) f)
+  record-read : (k r : ℕ) → r < k → Says s f v k → recordStart s (suc r) ≤ length f → recordBytes (s .vars) (recordAt s r) v ≡ take (letters + offset (fieldsAt s r) (fieldCountAt s r)) (drop (recordStart s r) f)
   unfolding recordStart
   record-read k r l h m =
       let p = fieldsAt s r in
-      let c = countAt s r in
+      let c = fieldCountAt s r in
       let q = marked-bytes f (recordStart s r) (recordAt s r) (h .marks r l) in
       ap₂ (λ (x y : ℕ). x ∷ (y ∷ coded p v c)) (sym (q .0)) (sym (q .1))
       ∙ ap₂ _++_ (sym (two f (recordStart s r) (omega arith)))
@@ -54,8 +54,8 @@ module _ (s : Shape) (f : List ℕ) (v : List ℤ) (b : Bytes f) where
   unfolding codedAll recordStart
   bytes-of zero h l = refl
   bytes-of (suc k) h l =
-      let w = letters + offset (fieldsAt s k) (countAt s k) in
-      let e : recordStart s k + w ≡ recordStart s k + letters + offset (fieldsAt s k) (countAt s k) = omega arith in
+      let w = letters + offset (fieldsAt s k) (fieldCountAt s k) in
+      let e : recordStart s k + w ≡ recordStart s k + letters + offset (fieldsAt s k) (fieldCountAt s k) = omega arith in
       ap₂ _++_ (bytes-of k (record { marks = λ r q. h .marks r (omega arith); numbers = λ r q. h .numbers r (omega arith) }) (omega arith)) (record-read (suc k) k (omega arith) h l)
       ∙ sym (take-add (recordStart s k) w f) ∙ ap (λ (n : ℕ). take n f) e
 
@@ -64,7 +64,7 @@ module _ (s : Shape) (v : List ℤ) where
   unfolding codedAll recordStart
   length-codedAll zero = refl
   length-codedAll (suc k) =
-      length-append (codedAll s v k) (recordBytes (s .vars) (recordAt s k) v) ∙ omega (arith, length-codedAll k, length-coded (fieldsAt s k) v (countAt s k))
+      length-append (codedAll s v k) (recordBytes (s .vars) (recordAt s k) v) ∙ omega (arith, length-codedAll k, length-coded (fieldsAt s k) v (fieldCountAt s k))
 
   module _ (k : ℕ) (post : List ℕ) where
     before : List ℕ
@@ -74,7 +74,7 @@ module _ (s : Shape) (v : List ℤ) where
     signs = mark (recordAt s k) .0 ∷ (mark (recordAt s k) .1 ∷ [])
 
     body : List ℕ
-    body = coded (fieldsAt s k) v (countAt s k)
+    body = coded (fieldsAt s k) v (fieldCountAt s k)
 
     last-marked : markedAt s ((before ++ (signs ++ body)) ++ post) k ≡ true
     unfolding before signs
@@ -84,15 +84,15 @@ module _ (s : Shape) (v : List ℤ) where
         rw (append-assoc before (signs ++ body) post)
         (bytes-marked _ (recordStart s k) (recordAt s k) (rw (e, getD-append-add)) (rw (d, getD-append-add)))
 
-    last-numbers : Each (FieldFits v) (fieldsAt s k) (countAt s k) → (j : ℕ) → j < countAt s k
+    last-numbers : Each (FieldFits v) (fieldsAt s k) (fieldCountAt s k) → (j : ℕ) → j < fieldCountAt s k
         → v ! fieldsAt s k j .slot ≡ decoded (fieldsAt s k j .kind) (drop (recordStart s k + letters + offset (fieldsAt s k) j) ((before ++ (signs ++ body)) ++ post))
     unfolding before signs body
     last-numbers h j l =
-        read-coded (fieldsAt s k) v (recordStart s k + letters) (countAt s k) (before ++ signs) post (length-append before signs ∙ ap (λ (n : ℕ). n + letters) (length-codedAll k)) h j l
+        read-coded (fieldsAt s k) v (recordStart s k + letters) (fieldCountAt s k) (before ++ signs) post (length-append before signs ∙ ap (λ (n : ℕ). n + letters) (length-codedAll k)) h j l
         ∙ ap (λ (f : List ℕ). decoded (fieldsAt s k j .kind) (drop (recordStart s k + letters + offset (fieldsAt s k) j) f)) (simp append-assoc)
 
   -- v's bytes, whatever follows, say v
-  pub says : (k : ℕ) (post : List ℕ) → ((r : ℕ) → r < k → Each (FieldFits v) (fieldsAt s r) (countAt s r)) → Says s (codedAll s v k ++ post) v k
+  pub says : (k : ℕ) (post : List ℕ) → ((r : ℕ) → r < k → Each (FieldFits v) (fieldsAt s r) (fieldCountAt s r)) → Says s (codedAll s v k ++ post) v k
   unfolding codedAll before signs body
   says zero post h = record { marks = λ r l. absurd (let z : ⊥ = omega arith in z); numbers = λ r l. absurd (let z : ⊥ = omega arith in z) }
   says (suc k) post h =

@@ -12,7 +12,7 @@ use Rattle.sheet_spec.specs.Refusals.{Cause, number, refuseUnless}
 use Rattle.sheet_spec.specs.Fields.{Field, test, bad}
 use Rattle.sheet_spec.specs.declared.Record.{Record}
 use Rattle.sheet_spec.specs.declared.Shape.{Shape}
-use Rattle.sheet_spec.specs.File.{shape, records, recordAt, fieldsAt, countAt, closing, badNumbers, badRecord, badAll}
+use Rattle.sheet_spec.specs.File.{shape, records, recordAt, fieldsAt, fieldCountAt, closing, badNumbers, badRecord, badAll}
 use Rattle.sheet_spec.specs.Sheet.{valueRefusal}
 use Rattle.sheet_spec.proofs.Box.{le-is, le-not, and-both}
 use Rattle.sheet_spec.proofs.Streams.{Each}
@@ -70,8 +70,8 @@ module _ (marks : ℕ → Bool) (s : Shape) (v : List ℤ) (k : ℕ) where
 
     record-good : Good v s (recordAt s r)
     record-good =
-        let b = none-either (bad (fieldsAt s r) v (countAt s r)) (closing v s (recordAt s r)) (passed .1) in
-        record { ranges = bad-ranges (fieldsAt s r) v (countAt s r) (b .0); closed = b .1 }
+        let b = none-either (bad (fieldsAt s r) v (fieldCountAt s r)) (closing v s (recordAt s r)) (passed .1) in
+        record { ranges = bad-ranges (fieldsAt s r) v (fieldCountAt s r) (b .0); closed = b .1 }
 
   pub all-good : badAll marks s v k ≡ 0 → Each (Good v s) (recordAt s) k
   all-good e = record { at = record-good e }
@@ -82,7 +82,7 @@ module _ (marks : ℕ → Bool) (s : Shape) (v : List ℤ) (k : ℕ) where
       none-first (badRecord marks s v) k (record {
         at = λ r l.
             goes-on (λ c. c) _ (ap (λ (b : Bool). refuseUnless b Cause.mark) (m r l))
-            ∙ goes-on (λ c. c) _ (ranges-bad (fieldsAt s r) v (countAt s r) (g .at r l .ranges)) ∙ g .at r l .closed;
+            ∙ goes-on (λ c. c) _ (ranges-bad (fieldsAt s r) v (fieldCountAt s r) (g .at r l .ranges)) ∙ g .at r l .closed;
       })
 
 -- every number of a sheet, up to its counts, lies in its range; every record is good

@@ -12,7 +12,7 @@ use Rattle.sheet_spec.specs.Fields.{Field, offset, filled, coded, bad}
 use Rattle.sheet_spec.specs.Sizes.{letters}
 use Rattle.sheet_spec.specs.declared.Record.{Record}
 use Rattle.sheet_spec.specs.declared.Record.the-variants.{Head, Band, Unsafe, Recovery}
-use Rattle.sheet_spec.specs.Layout.{_▸_, first, always, mark, fields, count}
+use Rattle.sheet_spec.specs.Layout.{_▸_, first, always, mark, fields, fieldCount}
 use Rattle.sheet_spec.specs.declared.Shape.{Shape}
 
 -- the counts of a sheet, which its file's records depend on
@@ -41,25 +41,25 @@ recordAt s = Head ▸ first (s .bands) Band (first (s .boxes) Unsafe (always Rec
 abbrev pub fieldsAt : Shape → ℕ → ℕ → Field
 fieldsAt s r = fields (s .vars) (recordAt s r)
 
-abbrev pub countAt : Shape → ℕ → ℕ
-countAt s r = count (s .vars) (recordAt s r)
+abbrev pub fieldCountAt : Shape → ℕ → ℕ
+fieldCountAt s r = fieldCount (s .vars) (recordAt s r)
 
 -- a record's length, and where record r starts
 abbrev pub recordLength : ℕ → Record → ℕ
-recordLength n x = letters + offset (fields n x) (count n x)
+recordLength n x = letters + offset (fields n x) (fieldCount n x)
 
 unfoldable pub recordStart : Shape → ℕ → ℕ
 recordStart s zero = 0
-recordStart s (suc r) = recordStart s r + letters + offset (fieldsAt s r) (countAt s r)
+recordStart s (suc r) = recordStart s r + letters + offset (fieldsAt s r) (fieldCountAt s r)
 
 -- v with the values of the first r records of f
 unfoldable pub filledAll : Shape → List ℕ → ℕ → List ℤ → List ℤ
 filledAll s f zero v = v
-filledAll s f (suc r) v = filled (fieldsAt s r) f (recordStart s r + letters) (countAt s r) (filledAll s f r v)
+filledAll s f (suc r) v = filled (fieldsAt s r) f (recordStart s r + letters) (fieldCountAt s r) (filledAll s f r v)
 
 -- a record's bytes, and those of the first r records
 abbrev pub recordBytes : ℕ → Record → List ℤ → List ℕ
-recordBytes n x v = mark x .0 ∷ (mark x .1 ∷ coded (fields n x) v (count n x))
+recordBytes n x v = mark x .0 ∷ (mark x .1 ∷ coded (fields n x) v (fieldCount n x))
 
 unfoldable pub codedAll : Shape → List ℤ → ℕ → List ℕ
 codedAll s v zero = []
@@ -84,7 +84,7 @@ closing v s Recovery = 0
 
 -- the refusal of a record's fields or, if there is none, of the whole record
 abbrev pub badNumbers : List ℤ → Shape → Record → ℕ
-badNumbers v s x = unlessRefused (bad (fields (s .vars) x) v (count (s .vars) x)) (λ c. c) (closing v s x)
+badNumbers v s x = unlessRefused (bad (fields (s .vars) x) v (fieldCount (s .vars) x)) (λ c. c) (closing v s x)
 
 -- the first refusal of the first r records, a record's mark before its numbers. `marks` says which marks are right
 abbrev pub badRecord : (ℕ → Bool) → Shape → List ℤ → ℕ → ℕ

@@ -119,8 +119,8 @@ fields n (Band k) = bandFields n k
 fields n (Unsafe j) = boxFields maxUnsafeSide (unsafeSlot j)
 fields n Recovery = boxFields maxRecoverySide recoverySlot
 
-abbrev pub count : ℕ → Record → ℕ
-count n Head = headSize + n
-count n (Band k) = bandCount n
-count n (Unsafe j) = boxCount n
-count n Recovery = boxCount n
+abbrev pub fieldCount : ℕ → Record → ℕ
+fieldCount n Head = headSize + n
+fieldCount n (Band k) = bandCount n
+fieldCount n (Unsafe j) = boxCount n
+fieldCount n Recovery = boxCount n

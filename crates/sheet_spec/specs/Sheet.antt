@@ -14,7 +14,7 @@ use Rattle.sheet_spec.specs.Sizes.{letters, capsAt}
 use Rattle.sheet_spec.specs.declared.Record.the-variants.{Head}
 use Rattle.sheet_spec.specs.Layout.{headFields}
 use Rattle.sheet_spec.specs.declared.Shape.{Shape}
-use Rattle.sheet_spec.specs.File.{shape, records, fieldsAt, countAt, recordStart, filledAll, codedAll, marked, markedAt, badAll}
+use Rattle.sheet_spec.specs.File.{shape, records, fieldsAt, fieldCountAt, recordStart, filledAll, codedAll, marked, markedAt, badAll}
 
 unfoldable pub zeros : List ℤ
 zeros = replicate slots (pos 0)
@@ -71,4 +71,4 @@ written v buffer place = unlessRefused (writeRefusal v buffer place) (λ c. buff
 
 -- ---- two sheets are the same when their values up to their counts are
 pub record Same (v w : List ℤ) : Type 0 where
-  pub same : (r : ℕ) → r < records (shape v) → (j : ℕ) → j < countAt (shape v) r → v ! fieldsAt (shape v) r j .slot ≡ w ! fieldsAt (shape v) r j .slot
+  pub same : (r : ℕ) → r < records (shape v) → (j : ℕ) → j < fieldCountAt (shape v) r → v ! fieldsAt (shape v) r j .slot ≡ w ! fieldsAt (shape v) r j .slot

@@ -10,7 +10,7 @@ ghost use Rattle.sheet_spec.specs.Slots.{_!_, N, headSize, boxSize, rowSize, sl
 ghost use Rattle.sheet_spec.specs.Refusals.{number, unlessRefused};
 ghost use Rattle.sheet_spec.specs.File.{Small, HasRoom, records, closing, badNumbers, badAll};
 ghost use Rattle.sheet_spec.specs.Fields.{Field, test, bad};
-ghost use Rattle.sheet_spec.specs.Layout.{headFields, edgeField, rowFields, rowCount, bandFields, bandCount, boxFields, boxCount, fields, count};
+ghost use Rattle.sheet_spec.specs.Layout.{headFields, edgeField, rowFields, rowCount, bandFields, bandCount, boxFields, boxCount, fields, fieldCount};
 use sheet_encoding::records::record_at;
 use sheet_encoding::records::record_count;
 use sheet_spec::Record;
@@ -166,7 +166,7 @@ pub fn bad_box(v: &[i32; SLOTS], n: usize, slot: usize, most: u32) -> u8
 // The fields of a record.
 fn bad_fields(v: &[i32; SLOTS], n: usize, record: Record) -> u8
     requires { ⌜ (n ≤ N) × HasRoom «record» ⌝ }
-    ensures { λ x. ⌜ x ≡ bad (fields n «record») (now (v .entry)) (count n «record») ⌝ }
+    ensures { λ x. ⌜ x ≡ bad (fields n «record») (now (v .entry)) (fieldCount n «record») ⌝ }
 {
     match record {
         Record::Head => bad_caps(v, n),

@@ -15,7 +15,7 @@ use Rattle.sheet_spec.specs.Refusals.{Cause, number}
 use Rattle.sheet_spec.specs.Fields.{bad}
 use Rattle.sheet_spec.specs.declared.Shape.{Shape}
 use Rattle.sheet_spec.specs.declared.Record.{Record}
-use Rattle.sheet_spec.specs.Layout.{headFields, fields, count}
+use Rattle.sheet_spec.specs.Layout.{headFields, fields, fieldCount}
 use Rattle.sheet_spec.specs.File.{shape, records, recordAt, recordLength, recordStart, recordBytes, codedAll, badAll}
 use Rattle.sheet_spec.specs.Sheet.{valueRefusal, length-of, bytesOf}
 use Rattle.sheet_spec.specs.Written.{writtenLength, Wrote}
@@ -31,7 +31,7 @@ use Rattle.sheet_writer.proofs.RecordTurn.{then}
 -- ---- the records of a sheet
 
 pub length-record : (n : ℕ) (x : Record) (v : List ℤ) → length (recordBytes n x v) ≡ recordLength n x
-length-record n x v = omega (arith, length-coded (fields n x) v (count n x))
+length-record n x v = omega (arith, length-coded (fields n x) v (fieldCount n x))
 
 -- the r-th record, which is x
 pub record-next : (s : Shape) (v : List ℤ) (b : List ℕ) (r : ℕ) {x : Record} {a : ℕ} {t u : List ℕ} → x ≡ recordAt s r → u ≡ sets t a (recordBytes (s .vars) x v) → a ≡ recordStart s r → t ≡ sets b 0 (codedAll s v r)

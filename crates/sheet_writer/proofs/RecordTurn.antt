@@ -14,7 +14,7 @@ use Rattle.sheet_spec.specs.Slots.{_!_}
 use Rattle.sheet_spec.specs.Fields.{Kind, i32, Field, bytesIn, encoded, offset, coded}
 use Rattle.sheet_spec.specs.Sizes.{letters, coefficientBytes}
 use Rattle.sheet_spec.specs.declared.Record.{Record}
-use Rattle.sheet_spec.specs.Layout.{edgeField, rowRest, rowFields, mark, fields, count}
+use Rattle.sheet_spec.specs.Layout.{edgeField, rowRest, rowFields, mark, fields, fieldCount}
 use Rattle.sheet_spec.specs.File.{recordBytes}
 use Rattle.sheet_spec.proofs.Length.{rest-offset}
 use Rattle.sheet_spec.proofs.Numbers.{length-coded}
@@ -68,6 +68,6 @@ edge-bytes (suc k) = refl
 
 -- ---- with its mark
 
-pub record-is : (n : ℕ) (x : Record) (v : List ℤ) (b : List ℕ) {p q : ℕ} {u : List ℕ} → u ≡ sets (set (set b 0 p) 1 q) letters (coded (fields n x) v (count n x)) → p ≡ mark x .0 → q ≡ mark x .1
+pub record-is : (n : ℕ) (x : Record) (v : List ℤ) (b : List ℕ) {p q : ℕ} {u : List ℕ} → u ≡ sets (set (set b 0 p) 1 q) letters (coded (fields n x) v (fieldCount n x)) → p ≡ mark x .0 → q ≡ mark x .1
     → u ≡ sets b 0 (recordBytes n x v)
-record-is n x v b hu hp hq = hu ∙ ap₂ (λ (p q : ℕ). sets (set (set b 0 p) 1 q) letters (coded (fields n x) v (count n x))) hp hq
+record-is n x v b hu hp hq = hu ∙ ap₂ (λ (p q : ℕ). sets (set (set b 0 p) 1 q) letters (coded (fields n x) v (fieldCount n x))) hp hq

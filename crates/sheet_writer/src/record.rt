@@ -10,7 +10,7 @@ ghost use Rattle.sheet_spec.specs.Slots.{N, headSize, rowSize, boxSize, slots};
 ghost use Rattle.sheet_spec.specs.File.{Small, HasRoom, recordLength, recordBytes};
 ghost use Rattle.sheet_spec.specs.Fields.{coded};
 ghost use Rattle.sheet_spec.specs.Sizes.{letters, capsAt, capBytes, rowBytes, bandBytes, boxBytes};
-ghost use Rattle.sheet_spec.specs.Layout.{headFields, rowFields, rowCount, bandFields, bandCount, boxFields, boxCount, fields, count};
+ghost use Rattle.sheet_spec.specs.Layout.{headFields, rowFields, rowCount, bandFields, bandCount, boxFields, boxCount, fields, fieldCount};
 use sheet_encoding::bytes::put_i32;
 use sheet_encoding::bytes::put_u8;
 use sheet_encoding::bytes::put_u16;
@@ -101,7 +101,7 @@ fn write_box(s: &mut [u8], n: usize, v: &[i32; SLOTS], slot: usize)
 fn write_numbers(s: &mut [u8], shape: Shape, record: Record, v: &[i32; SLOTS])
     requires { ⌜ Small shape × HasRoom «record» ⌝ }
     requires { ⌜ recordLength (shape .vars) «record» ≤ length (now s) ⌝ }
-    ensures { λ _. ⌜ now (s .exit) ≡ sets (now (s .entry)) letters (coded (fields (shape .vars) «record») (now (v .entry)) (count (shape .vars) «record»)) ⌝ }
+    ensures { λ _. ⌜ now (s .exit) ≡ sets (now (s .entry)) letters (coded (fields (shape .vars) «record») (now (v .entry)) (fieldCount (shape .vars) «record»)) ⌝ }
 {
     let n = shape.vars;
     match record {

@@ -11,7 +11,7 @@ use Rattle.sheet_spec.specs.Fields.{filled}
 use Rattle.sheet_spec.specs.Limits.{maxRecoverySide, maxUnsafeSide}
 use Rattle.sheet_spec.specs.declared.Record.{Record}
 use Rattle.sheet_spec.specs.File.{HasRoom}
-use Rattle.sheet_spec.specs.Layout.{count, fields}
+use Rattle.sheet_spec.specs.Layout.{fieldCount, fields}
 use Rattle.sheet_spec.specs.Sizes.{letters}
 use Rattle.sheet_reader.proofs.read_record.Statement.{statement}
 use Rattle.sheet_reader.proofs.read_record.Tie as tie
@@ -29,7 +29,7 @@ module _ (c : tie.Start) {x : Record} (is : c .args .«record» ≡ x) where
   ends = omega (arith, c .pre .1, record-size n (c .args .«record») ∙ ap (recordSize n) is)
 
   abbrev read : Record → List ℤ
-  read y = filled (fields n y) (c .args .f .now) (c .args .at + letters) (count n y) (c .args .v .now)
+  read y = filled (fields n y) (c .args .f .now) (c .args .at + letters) (fieldCount n y) (c .args .v .now)
 
   those : {w : List ℤ} → w ≡ read x → w ≡ read (c .args .«record»)
   those h = h ∙ ap read (sym is)

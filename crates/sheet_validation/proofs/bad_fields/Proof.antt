@@ -6,7 +6,7 @@ use borrow.Author.Needs.{needs}
 use Rattle.sheet_spec.specs.Fields.{bad}
 use Rattle.sheet_spec.specs.declared.Record.{Record}
 use Rattle.sheet_spec.specs.File.{HasRoom}
-use Rattle.sheet_spec.specs.Layout.{count, fields}
+use Rattle.sheet_spec.specs.Layout.{fieldCount, fields}
 use Rattle.sheet_validation.proofs.bad_fields.Statement.{statement}
 use Rattle.sheet_validation.proofs.bad_fields.Tie as tie
 
@@ -16,7 +16,7 @@ module _ (c : tie.Start) {x : Record} (is : c .args .«record» ≡ x) where
   room = subst HasRoom is (c .pre .1)
 
   abbrev tested : Record → ℕ
-  tested y = bad (fields (c .args .n) y) (c .args .v .now) (count (c .args .n) y)
+  tested y = bad (fields (c .args .n) y) (c .args .v .now) (fieldCount (c .args .n) y)
 
   those : {u : ℕ} → u ≡ tested x → u ≡ tested (c .args .«record»)
   those e = e ∙ ap tested (sym is)

@@ -10,7 +10,7 @@ use Rattle.sheet_spec.specs.Fields.{coded}
 use Rattle.sheet_spec.specs.Limits.{maxUnsafeSide, maxRecoverySide}
 use Rattle.sheet_spec.specs.declared.Record.{Record}
 use Rattle.sheet_spec.specs.File.{HasRoom}
-use Rattle.sheet_spec.specs.Layout.{count, fields}
+use Rattle.sheet_spec.specs.Layout.{fieldCount, fields}
 use Rattle.sheet_spec.specs.Sizes.{letters}
 use borrow.Author.Needs.{needs}
 use Rattle.sheet_writer.proofs.record.write_numbers.Statement.{statement}
@@ -29,7 +29,7 @@ module _ (c : tie.Start) {x : Record} (is : c .args .«record» ≡ x) where
   ends = omega (arith, c .pre .1, record-size n (c .args .«record») ∙ ap (recordSize n) is)
 
   abbrev written : Record → List ℕ
-  written y = sets (c .args .s .now) letters (coded (fields n y) (c .args .v .now) (count n y))
+  written y = sets (c .args .s .now) letters (coded (fields n y) (c .args .v .now) (fieldCount n y))
 
   those : {t : List ℕ} → t ≡ written x → t ≡ written (c .args .«record»)
   those h = h ∙ ap written (sym is)
