@@ -1,6 +1,7 @@
 // A question's bytes (document 01, "Sheet layout"), read once: the refusal, or the question as one value, whose head (allowance and law) is
 // read apart from the measured box. `pairs` also reads the start box of a reach from its bytes. The definitions are in
-// decision_spec/specs/Question, and specs/HeadRead and specs/QuestionRead say what reading gives; laws and boxes are tested in `boxes_refusals`.
+// decision_spec/specs/Question; specs/HeadRead and specs/QuestionRead say what reading gives. Laws and boxes are tested in
+// `boxes_refusals`.
 ghost use mathlib.Core.Path.{_≡_};
 ghost use Prim.Native.Nat.{_+_, _≤_};
 ghost use lib.ListN.{length};

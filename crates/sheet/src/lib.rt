@@ -50,7 +50,8 @@ fn read_rest(f: &[u8], v: &mut [i32; SLOTS]) -> u8
     sheet_reader::bad_file(f, shape, v)
 }
 
-fn read_cleared(f: &[u8], v: &mut [i32; SLOTS]) -> u8
+// Reads a sheet into an array of zeros. If the sheet is refused, the numbers read so far are left there.
+fn read_values(f: &[u8], v: &mut [i32; SLOTS]) -> u8
     requires { ⌜ now v ≡ zeros ⌝ }
     ensures { λ r. ⌜ (r ≡ refusal (now (f .entry))) × (r ≡ 0 → now (v .exit) ≡ contents (now (f .entry))) ⌝ }
 {
@@ -74,7 +75,7 @@ pub fn read_zeroed(f: &[u8], v: &mut [i32; SLOTS]) -> u8
     requires { ⌜ now v ≡ zeros ⌝ }
     ensures { λ r. ⌜ (r ≡ refusal (now (f .entry))) × (now (v .exit) ≡ values (now (f .entry))) ⌝ }
 {
-    let refused = read_cleared(f, v);
+    let refused = read_values(f, v);
     if refused != 0 {
         zero(v);
     }

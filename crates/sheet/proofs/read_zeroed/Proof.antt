@@ -10,13 +10,13 @@ use Rattle.sheet.proofs.read_zeroed.Tie as tie
 returns : tie.Need-returns
 returns at-return =
     let refused = at-return .before .before in
-    let e = refused .before .read-cleared .ensures in
+    let e = refused .before .read-values .ensures in
     (e .0, at-return .zero .ensures ∙ sym (values-zero _ (λ z. refused .if1 .taken (e .0 ∙ z))))
 
 -- accepted
 returns-2 : tie.Need-returns-2
 returns-2 at-return =
-    let e = at-return .before .read-cleared .ensures in
+    let e = at-return .before .read-values .ensures in
     (e .0, e .1 (at-return .if1 .left) ∙ sym (accepted _ (sym (e .0) ∙ at-return .if1 .left) .values))
 
 pub read-zeroed-spec : {M : Type 1} → statement M

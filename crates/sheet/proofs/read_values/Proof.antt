@@ -1,4 +1,4 @@
--- `read_cleared`: the file's beginning, the head's numbers, and the rest. Assumes nothing.
+-- `read_values`: the file's beginning, the head's numbers, and the rest. Assumes nothing.
 use mathlib.Core.Bool.{_&&_, true}
 use mathlib.Core.List.{List}
 use mathlib.Core.Path.{_∙_, _≡_, ap, sym}
@@ -17,8 +17,8 @@ use Rattle.sheet_spec.specs.Layout.{headFields}
 use Rattle.sheet_spec.specs.Sheet.{headOf}
 use Rattle.sheet_spec.specs.Slots.{headSize}
 use Rattle.sheet_spec.specs.Sizes.{letters, capsAt}
-use Rattle.sheet.proofs.read_cleared.Statement.{statement}
-use Rattle.sheet.proofs.read_cleared.Tie as tie
+use Rattle.sheet.proofs.read_values.Statement.{statement}
+use Rattle.sheet.proofs.read_values.Tie as tie
 
 begun : (c : tie.Else2) → leb capsAt (length (c .before .before .before .before .args .f .now)) && marked (c .before .before .before .before .args .f .now) 0 Head ≡ true
 begun c = begins _ (c .before .before .if1 .left) (c .before .marked .ensures) (not-false _ (c .if2 .left))
@@ -41,8 +41,8 @@ read-rest-requires : tie.Need-read-rest-requires
 read-rest-requires c κs = let h = c .before .before .before .before in
     (begun (h .before .before), (head-read h, sym (c .before .if3 .left) ∙ c .before .before .bad-head .ensures))
 
-pub read-cleared-spec : {M : Type 1} → statement M
-read-cleared-spec =
+pub read-values-spec : {M : Type 1} → statement M
+read-values-spec =
     tie.close
     (tie.spec
     returns
