@@ -97,7 +97,7 @@ module _ {n : ℕ} (room : n ≤ N) (A B : List ℤ) where
 pub trim-holds : {n : ℕ} → n ≤ N → (B : List ℤ) → Inside n B (trim n B)
 trim-holds {n} room B = record { at = λ up i h. rw (trim-side n i room h up B) (beyond-refl up (side up B i)) }
 
--- and that of a box with a hull that it lies in is that hull
+-- the hull of a box and of a hull that it lies in is that hull
 pub hull-absorbs : {n : ℕ} → n ≤ N → (A B C : List ℤ) → Inside n A (hull n B C) → hull n A (hull n B C) ≡ hull n B C
 unfolding hull
 hull-absorbs {n} room A B C s =

@@ -1,4 +1,4 @@
--- `law_refusal` refuses a command that the sheet does not allow, and no other and not the plain law. Assumes nothing.
+-- `law_refusal` refuses a command that the sheet does not allow, no other command, and not the plain law. Assumes nothing.
 use mathlib.Core.Path.{refl}
 use mathlib.Core.List.{List}
 use lib.IntN.{ℤ}
