@@ -10,13 +10,13 @@ use lib.Signed.{_≤ℤ_}
 use Rattle.integers.proofs.Z.{ints, flat, prod, mul-mono, le-or-lt}
 use Rattle.sheet_spec.specs.Slots.{N, boxSize, edge}
 use Rattle.sheet_spec.specs.Box.{lo, hi}
-use Rattle.machine_spec.specs.Box.{side, In, hull, moved}
+use Rattle.machine_spec.specs.Box.{side, Ordered, In, hull, moved}
 use Rattle.machine_spec.specs.Machine.{Machine, varsOf, bandVarOf, cap}
 use Rattle.machine_spec.specs.Accepted.{Accepted}
 use Rattle.machine_spec.specs.Rate.{neutral, neighborhood, faceRate, rates}
 use Rattle.machine_spec.proofs.Box.{sides-length}
 use Rattle.machine_spec.proofs.Face.{Beyond, beyond-refl, beyond-sum, beyond-times}
-use Rattle.machine_spec.proofs.Inside.{lift-side, Inside, inside-refl, inside-trans, inside-in, hull-left, hull-right, hull-least, hull-absorbs, Ordered, inside-ordered, corner}
+use Rattle.machine_spec.proofs.Inside.{lift-side, Inside, inside-refl, inside-trans, inside-in, hull-left, hull-right, hull-least, hull-absorbs, inside-ordered, corner}
 use Rattle.machine_spec.proofs.Bands.{has-band}
 use Rattle.machine_spec.proofs.Neighborhood.{near-in, neighborhood-part, neighborhood-inside, neighborhood-ordered, neighborhoods-touch}
 use Rattle.machine_spec.proofs.Facts.{room, cap-low}

@@ -13,7 +13,7 @@ use Rattle.sheet_spec.specs.Limits.{maxVars, maxCommand, maxCap, maxEdge, maxCo
 use Rattle.sheet_spec.specs.Slots.{N, vars, edge, leastCommand, greatestCommand, recoverySlot, recoveryBox}
 use Rattle.sheet_spec.specs.Refusals.{Cause, unlessRefused}
 use Rattle.sheet_spec.specs.Box.{lo, hi}
-use Rattle.machine_spec.specs.Box.{side, Near, trim, hull}
+use Rattle.machine_spec.specs.Box.{side, Near, Ordered, Sized, trim, hull}
 use Rattle.sheet_spec.specs.Valid.{Valid}
 use Rattle.machine_spec.specs.declared.Law.{Law}
 use Rattle.machine_spec.specs.declared.Law.the-variants.{Baseline, Command}
@@ -22,7 +22,6 @@ use Rattle.machine_spec.specs.Accepted.{Lawful, Accepted}
 use Rattle.machine_spec.specs.Rate.{part, rowOver, neighborhood}
 use Rattle.sheet_spec.proofs.Laws.{unless-zero}
 use Rattle.sheet_spec.proofs.Box.{and-both, all-at, box-lo, box-hi}
-use Rattle.machine_spec.proofs.Inside.{Ordered}
 use Rattle.machine_spec.proofs.Neighborhood.{inward, neighborhood-part}
 use Rattle.machine_spec.proofs.Facts.{room}
 use Rattle.machine_spec.proofs.Ranges.{near-less, near-part, zero-near, trim-near, hull-near, moved-near, rates-near, limit-near, number-near}
@@ -68,11 +67,6 @@ module _ {m : Machine} (wf : Valid (m .sheet)) where
       let n = settled-near s e in
       let all = hull-near (room wf) (near-less (omega arith) u) (hull-near (room wf) (near-less (omega arith) s) n) in
       near-less (omega (arith, steps-less w, e .most)) (swept-near w n all)
-
--- a box that is not empty, and whose sides are at most b
-pub record Sized (n b : ℕ) (B : List ℤ) : Type 0 where
-  pub near : Near n b B
-  pub ordered : Ordered n B
 
 module _ {m : Machine} (wf : Accepted m) where
   above-first : {b : ℕ} (E : List ℤ) → Near (varsOf m) b E → b ≤ maxEdge → edge (m .sheet) 0 ≤ℤ lo E (bandVarOf m)

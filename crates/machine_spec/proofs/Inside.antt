@@ -10,7 +10,7 @@ use Rattle.integers.specs.Order.{minZ, maxZ}
 use Rattle.integers.proofs.Z.{ints, min-is, max-is}
 use Rattle.sheet_spec.specs.Slots.{_!_, N}
 use Rattle.sheet_spec.specs.Box.{lo, hi, meets}
-use Rattle.machine_spec.specs.Box.{side, In, boxOf, trim, hull, within, moved}
+use Rattle.machine_spec.specs.Box.{side, Ordered, In, boxOf, trim, hull, within, moved}
 use Rattle.machine_spec.specs.Machine.{Machine, varsOf}
 use Rattle.machine_spec.specs.Rate.{outer, faceRate, rates}
 use Rattle.sheet_spec.proofs.Box.{le-is, all-of}
@@ -108,9 +108,6 @@ hull-absorbs {n} room A B C s =
     (low ∙ hull-lo n i room h B C, high ∙ hull-hi n i room h B C))
 
 -- ---- no variable's lower side is above its upper one
-
-pub record Ordered (n : ℕ) (B : List ℤ) : Type 0 where
-  pub at : (i : ℕ) → i < n → lo B i ≤ℤ hi B i
 
 pub ordered-side : {n : ℕ} {B : List ℤ} → Ordered n B → (up : Bool) (i : ℕ) → i < n → Beyond up (side up B i) (side (not up) B i)
 ordered-side o false i h = record { order = o .at i h }

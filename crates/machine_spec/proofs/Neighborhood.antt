@@ -10,11 +10,11 @@ use lib.ListN.{length, set}
 use lib.Signed.{_≤ℤ_}
 use Rattle.integers.proofs.Z.{ints, flat}
 use Rattle.sheet_spec.specs.Slots.{_!_, N}
-use Rattle.machine_spec.specs.Box.{side, In}
+use Rattle.machine_spec.specs.Box.{side, Ordered, In}
 use Rattle.machine_spec.specs.Rate.{outer, neighborhood}
 use Rattle.sheet_spec.proofs.Box.{differ}
 use Rattle.machine_spec.proofs.Face.{Beyond, beyond-refl, beyond-trans, beyond-flip, beyond-back, outer-left, outer-in, outer-mono}
-use Rattle.machine_spec.proofs.Inside.{in-side, in-by, Inside, Ordered, ordered-side, ordered-by}
+use Rattle.machine_spec.proofs.Inside.{in-side, in-by, Inside, ordered-side, ordered-by}
 
 -- what lies as far as `reach` in from s
 abbrev pub inward : Bool → ℤ → ℤ → ℤ

@@ -11,12 +11,12 @@ use Rattle.sheet_spec.specs.Slots.{bands, leastCommand, greatestCommand}
 use Rattle.sheet_spec.specs.Valid.{Between, Valid}
 use Rattle.machine_spec.specs.declared.Law.{Law}
 use Rattle.machine_spec.specs.declared.Law.the-variants.{Baseline, Command}
-use Rattle.machine_spec.specs.Box.{In}
+use Rattle.machine_spec.specs.Box.{Ordered, In}
 use Rattle.machine_spec.specs.Machine.{Machine, machine, varsOf, bandsOf, offeredAt, Offered}
 use Rattle.machine_spec.specs.Accepted.{Lawful, Accepted}
 use Rattle.machine_spec.specs.Rate.{offeredOver}
 use Rattle.machine_spec.proofs.Face.{Beyond, beyond-refl}
-use Rattle.machine_spec.proofs.Inside.{Inside, Ordered, corner}
+use Rattle.machine_spec.proofs.Inside.{Inside, corner}
 
 module _ (m : Machine) (k : ℕ) where
   -- neither the least nor the greatest command at a state of the box is beyond its bound

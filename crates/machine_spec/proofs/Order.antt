@@ -8,12 +8,12 @@ use lib.IntN.{ℤ, _*ℤ_}
 use lib.Signed.{_≤ℤ_}
 use Rattle.integers.proofs.Z.{ints}
 use Rattle.sheet_spec.specs.Slots.{_!_, Row}
-use Rattle.machine_spec.specs.Box.{In}
+use Rattle.machine_spec.specs.Box.{Ordered, In}
 use Rattle.machine_spec.specs.Machine.{Machine, varsOf, bandsOf, bandVarOf, cap, rowOf}
 use Rattle.machine_spec.specs.Accepted.{Accepted}
 use Rattle.machine_spec.specs.Rate.{outer, outermost, weighted, bound, bandMet, part, bandRate, rate}
 use Rattle.machine_spec.proofs.Face.{Beyond, beyond-refl, beyond-sum, sum-beyond, outer-in, outer-mono, span, change-mono}
-use Rattle.machine_spec.proofs.Inside.{Inside, Ordered}
+use Rattle.machine_spec.proofs.Inside.{Inside}
 use Rattle.machine_spec.proofs.Facts.{cap-low, divisor}
 use Rattle.machine_spec.proofs.Offers.{over-wider, over-ordered}
 use Rattle.machine_spec.proofs.Bands.{Band, meets-read, meets-show, meets-wider}

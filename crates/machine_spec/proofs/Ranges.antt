@@ -13,13 +13,13 @@ use Rattle.sheet_spec.specs.Limits.{maxCommand, maxCap, maxCoefficient, maxCons
 use Rattle.sheet_spec.specs.Slots.{_!_, N, boxSize, Row, vars, cap}
 use Rattle.sheet_spec.specs.Box.{lo, hi}
 use Rattle.sheet_spec.specs.Valid.{Between, ValidRow, Valid}
-use Rattle.machine_spec.specs.Box.{side, Near, sum, trim, hull, moved}
+use Rattle.machine_spec.specs.Box.{side, Near, Ordered, sum, trim, hull, moved}
 use Rattle.machine_spec.specs.declared.Law.{Law}
 use Rattle.machine_spec.specs.Machine.{Machine, machine, varsOf, bandsOf}
 use Rattle.machine_spec.specs.Accepted.{Accepted}
 use Rattle.machine_spec.specs.Rate.{outer, neighborhood, weighted, bound, rowOver, rate, rates, faceRate}
 use Rattle.machine_spec.proofs.Face.{outer-one}
-use Rattle.machine_spec.proofs.Inside.{hull-side, moved-side, trim-side, rates-side, Inside, Ordered}
+use Rattle.machine_spec.proofs.Inside.{hull-side, moved-side, trim-side, rates-side, Inside}
 use Rattle.machine_spec.proofs.Neighborhood.{inward, cut, sides-one}
 use Rattle.machine_spec.proofs.Facts.{room, cap-low, cap-near}
 use Rattle.machine_spec.proofs.Offers.{over-near}

@@ -32,6 +32,15 @@ side true B i = hi B i
 pub record Near (n b : ℕ) (B : List ℤ) : Type 0 where
   pub at : (up : Bool) (i : ℕ) → i < n → Bound (side up B i) b
 
+-- no variable's lower side is above its upper one
+pub record Ordered (n : ℕ) (B : List ℤ) : Type 0 where
+  pub at : (i : ℕ) → i < n → lo B i ≤ℤ hi B i
+
+-- a box that is not empty, and whose sides are at most b
+pub record Sized (n b : ℕ) (B : List ℤ) : Type 0 where
+  pub near : Near n b B
+  pub ordered : Ordered n B
+
 -- the box holds the state: each variable lies from its lower to its upper side, both counted
 pub record In (n : ℕ) (B x : List ℤ) : Type 0 where
   pub low : (i : ℕ) → i < n → lo B i ≤ℤ x ! i

@@ -14,7 +14,7 @@ use Rattle.integers.proofs.Z.{ints, sub, neg}
 use Rattle.sheet_spec.specs.Limits.{maxTicks, maxCap, maxEdge, maxSide}
 use Rattle.sheet_spec.specs.Slots.{_!_, vars, δ, α, ρ, recoveryBox}
 use Rattle.sheet_spec.specs.Valid.{Valid}
-use Rattle.machine_spec.specs.Box.{In}
+use Rattle.machine_spec.specs.Box.{Sized, In}
 use Rattle.machine_spec.specs.declared.Law.{Law}
 use Rattle.machine_spec.specs.declared.Law.the-variants.{Baseline, Command}
 use Rattle.machine_spec.specs.Accepted.{Lawful}
@@ -22,7 +22,7 @@ use Rattle.machine_spec.specs.Machine.{machine, Tick}
 use Rattle.machine_spec.specs.Rate.{neutral}
 use Rattle.machine_spec.proofs.Sound.{cap-bounds}
 use Rattle.boxes_spec.proofs.Sound.{Ticks}
-use Rattle.boxes_spec.proofs.Ranges.{Sized, lawful, start-sized, recovery-sized}
+use Rattle.boxes_spec.proofs.Ranges.{lawful, start-sized, recovery-sized}
 use Rattle.decision_spec.specs.Question.{questionOf, questionRefusal, allowanceOf, commandOf, measured}
 use Rattle.decision_spec.specs.Decision.{recoveryOf, decisionTo, isKeep}
 use Rattle.decision_spec.proofs.Passes.{question-passes}
