@@ -8,28 +8,31 @@ use Rattle.sheet_spec.specs.Limits.{maxTicks, maxWidth, maxSide}
 use Rattle.sheet_spec.specs.Slots.{vars}
 use Rattle.sheet_spec.specs.Valid.{Valid}
 use Rattle.sheet_spec.proofs.FirstRefusal.{found-stops, found-none}
-use Rattle.machine_spec.specs.Box.{Near, trim}
+use Rattle.machine_spec.specs.Box.{Sized, trim}
 use Rattle.machine_spec.specs.declared.Law.{Law}
 use Rattle.machine_spec.specs.Machine.{machine}
+use Rattle.machine_spec.specs.Accepted.{Lawful}
 use Rattle.machine_spec.proofs.Facts.{room}
-use Rattle.machine_spec.proofs.Ranges.{near-as, trim-near}
+use Rattle.machine_spec.proofs.Inside.{trim-holds, inside-ordered}
+use Rattle.machine_spec.proofs.Ranges.{trim-near}
 use Rattle.boxes.specs.declared.steps.ReachResult.{ReachResult}
 use Rattle.boxes.specs.declared.steps.ReachResult.the-variants.{Ended, Unsettled, Unsafe, Exhausted}
 use Rattle.boxes.specs.ReachResult.{resultOf, reachedOf}
 use Rattle.boxes_spec.specs.Reach.{reach, clear, reachRefusal, refused, answer, reachOf}
 use Rattle.boxes_spec.proofs.Refusals.{reach-passes}
-use Rattle.boxes_spec.proofs.Ranges.{start-sized}
+use Rattle.boxes_spec.proofs.Ranges.{sized-as, lawful, start-sized}
 
 -- the code's refusal of a reach is a
 pub record Refusal (v : List ℤ) (ticks w : ℕ) (l : Law) (B : List ℤ) (a : ℕ) : Type 0 where
   pub is : a ≡ reachRefusal v ticks w l B
 
--- what holds of a reach of T ticks at the width w from S that is not refused
-pub record Reachable (n T w : ℕ) (S : List ℤ) : Type 0 where
+-- what holds of a reach of T ticks at the width w from S that is not refused, on the sheet v under the law k
+pub record Reachable (v : List ℤ) (T w : ℕ) (k : Law) (S : List ℤ) : Type 0 where
   pub some : 0 < w
   pub most : w ≤ maxWidth
   pub ticks : T ≤ maxTicks
-  pub start : Near n maxSide S
+  pub law : Lawful v k
+  pub start : Sized (vars v) maxSide S
 
 module _ {v : List ℤ} (wf : Valid v) {ticks w : ℕ} {l : Law} {B : List ℤ} {a : ℕ} (r : Refusal v ticks w l B a) where
   pub reach-refused : (a ≡ 0 → ⊥) → refused a ≡ reachOf v ticks w l B
@@ -41,14 +44,16 @@ module _ {v : List ℤ} (wf : Valid v) {ticks w : ℕ} {l : Law} {B : List ℤ} 
     start-is : S ≡ trim (vars v) B
     start-is = s ∙ ap (λ (i : ℕ). trim i B) p
 
-    pub reachable : Reachable (vars v) ticks w S
+    pub reachable : Reachable v ticks w k S
     reachable =
         let passes = reach-passes v ticks w l B (sym (r .is) ∙ e) in
+        let asked = start-sized (vars v) B (passes .start) in
         record {
           some = passes .some;
           most = passes .most;
           ticks = passes .few;
-          start = near-as start-is (trim-near (room wf) (start-sized (vars v) B (passes .start) .near));
+          law = rw q (lawful v l (passes .law));
+          start = sized-as start-is (record { near = trim-near (room wf) (asked .near); ordered = inside-ordered (trim-holds (room wf) B) (asked .ordered) });
         }
 
     -- a reach came to o

@@ -5,18 +5,16 @@ use Prim.Native.Nat.{ℕ, _+_, _*_, _≤_, _<_}
 use lib.IntN.{ℤ}
 use Rattle.sheet_spec.specs.Limits.{maxBoxes, maxTicks, maxWidth}
 use Rattle.sheet_spec.specs.Slots.{vars}
-use Rattle.machine_spec.specs.Box.{Near, trim}
+use Rattle.machine_spec.specs.Box.{Sized, trim}
+use Rattle.machine_spec.specs.Accepted.{Lawful}
 use Rattle.boxes_rates.specs.Plant.{Describes}
 use Rattle.boxes_step.specs.Limits.{stepLimit, countLimit}
 use Rattle.boxes.specs.declared.steps.ReachPlan.{ReachPlan}
 
--- how far the sides of a reach's start box go
-abbrev pub reachLimit : ℕ
-reachLimit = 3000000
-
 -- the plan can be followed on the sheet v
 pub record Followable (p : ReachPlan) (v : List ℤ) : Type 0 where
   pub plant : Describes (p .plant) v
+  pub law : Lawful v (p .plant .law)
   pub boxes : p .boxes ≤ maxBoxes
   pub some : 0 < p .width
   pub most : p .width ≤ maxWidth
@@ -26,7 +24,7 @@ pub record TestedAsked (p : ReachPlan) (v : List ℤ) (left c : ℕ) (A E P : Li
   pub plan : Followable p v
   pub due : 0 < left
   pub counts : c + 8 * p .width ≤ countLimit
-  pub start : Near (vars v) stepLimit A
+  pub start : Sized (vars v) (stepLimit left) A
   pub trimmed : trim (vars v) A ≡ A
   pub work : E ≡ A
   pub swept : trim (vars v) P ≡ P
@@ -36,5 +34,5 @@ pub record ReachAsked (p : ReachPlan) (v : List ℤ) (T c : ℕ) (A : List ℤ) 
   pub plan : Followable p v
   pub ticks : T ≤ maxTicks
   pub counts : c + 73 * T + 8 * p .width ≤ countLimit
-  pub start : Near (vars v) reachLimit A
+  pub start : Sized (vars v) (stepLimit T) A
   pub trimmed : trim (vars v) A ≡ A

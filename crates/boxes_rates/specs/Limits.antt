@@ -6,10 +6,10 @@ use Prim.Native.Nat.{ℕ, _+_, _*_, _≤_, _<_}
 use lib.IntN.{ℤ, pos, negℤ, _*ℤ_}
 use lib.Signed.{_≤ℤ_}
 use Rattle.integers.specs.Bound.{Bound}
-use Rattle.sheet_spec.specs.Limits.{maxTicks, maxCap}
+use Rattle.sheet_spec.specs.Limits.{maxTicks, maxCap, maxEdge}
 use Rattle.sheet_spec.specs.Slots.{N, rowSize, slots, vars, bands, cap, Row, rowAt}
 use Rattle.sheet_spec.specs.Valid.{Between}
-use Rattle.machine_spec.specs.Box.{side, Near}
+use Rattle.machine_spec.specs.Box.{side, Near, Ordered, within}
 use Rattle.machine_spec.specs.Machine.{Machine}
 use Rattle.machine_spec.specs.Rate.{bound, offeredOver, outer}
 use Rattle.boxes_arithmetic.specs.Limits.{Capped, limit, word}
@@ -75,9 +75,11 @@ pub record NarrowAsked (S : List ℤ) (reach : ℤ) (i : ℕ) : Type 0 where
   pub near : Bound reach neighborhoodLimit
   pub start : (up : Bool) → Bound (side up S i) limit
 
--- the rates of a step of T ticks from the box S can be worked out with the working box E
+-- the rates of a step of T ticks from the box S can be worked out with the working box E: S is not empty, E holds it, and the
+-- first edge is not above it
 pub record RatesAsked (p : Plant) (v S : List ℤ) (T : ℕ) (E : List ℤ) : Type 0 where
   pub plant : Describes p v
   pub ticks : T ≤ maxTicks
-  pub start : Near (vars v) limit S
-  pub work : Near (vars v) limit E
+  pub start : Ordered (vars v) S
+  pub holds : within (vars v) S E ≡ true
+  pub work : Near (vars v) maxEdge E

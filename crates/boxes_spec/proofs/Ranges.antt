@@ -1,6 +1,6 @@
 -- How far the numbers of a reach go: sides, neighborhoods and the rows' numbers, at every step of a reach; and no box on the way is
 -- reversed. Assumes nothing.
-use mathlib.Core.Path.{_≡_, refl}
+use mathlib.Core.Path.{_≡_, refl, sym, subst}
 use mathlib.Core.Bool.{Bool, true, false, _&&_}
 use mathlib.Core.List.{List}
 use Prim.Native.Nat.{ℕ, zero, suc, _+_, _*_, _-_, _≤_, _<_}
@@ -31,6 +31,15 @@ use Rattle.boxes_spec.proofs.Settled.{Working, starts, grows, Settled, 
 use Rattle.boxes_spec.proofs.Stages.{Takes, value, failure, spent}
 use Rattle.boxes_spec.proofs.Refusals.{reach-passes}
 use Rattle.boxes_spec.proofs.Order.{working-holds, face-ordered, end-ordered}
+
+-- ---- a box that is not empty, and whose sides are at most b
+
+pub sized-less : {n b c : ℕ} {B : List ℤ} → b ≤ c → Sized n b B → Sized n c B
+sized-less h s = record { near = near-less h (s .near); ordered = s .ordered }
+
+-- an equal box
+pub sized-as : {n b : ℕ} {A B : List ℤ} → A ≡ B → Sized n b B → Sized n b A
+sized-as {n} {b} e s = subst (Sized n b) (sym e) s
 
 -- ---- a step of length k from S, whose sides are at most b
 
@@ -73,7 +82,7 @@ module _ {m : Machine} (wf : Accepted m) where
   above-first E e h = omega (ints, wf .sheet .first-edge, e .at false (bandVarOf m) (wf .sheet .var) .at-most)
 
   -- after a step
-  settled-sized : {S : List ℤ} {k b : ℕ} {t : Step} → Sized (varsOf m) b S → b + k * maxCap ≤ maxEdge → Settled m S k t → Sized (varsOf m) (b + t .ticks * maxCap) (t .end)
+  pub settled-sized : {S : List ℤ} {k b : ℕ} {t : Step} → Sized (varsOf m) b S → b + k * maxCap ≤ maxEdge → Settled m S k t → Sized (varsOf m) (b + t .ticks * maxCap) (t .end)
   settled-sized {S} {t = t} s h e = record {
     near = settled-near (wf .sheet) (s .near) e;
     ordered = rw (e .end) (end-ordered wf S (t .ticks) (s .ordered) (working-holds (room (wf .sheet)) (e .working))

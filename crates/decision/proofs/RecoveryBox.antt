@@ -1,6 +1,5 @@
--- The recovery box of an accepted sheet as the code has it: with 0 at places that no variable has, and in the range of start boxes. Assumes nothing.
+-- The recovery box of an accepted sheet has 0 at places that no variable has. Assumes nothing.
 use mathlib.Core.Path.{_≡_, sym, _∙_}
-use mathlib.Core.Bool.{true, false}
 use mathlib.Core.Logic.{⊎-elim}
 use mathlib.Core.List.{List}
 use Prim.Native.Nat.{ℕ, zero, suc, _+_, _*_, _-_, _≤_, _<_}
@@ -14,15 +13,11 @@ use Rattle.sheet_spec.specs.Valid.{Valid}
 use Rattle.sheet_spec.proofs.Streams.{lt-or-le}
 use Rattle.sheet_spec.proofs.Valid.{valid, recovery-beyond}
 use Rattle.sheet_spec.specs.Box.{lo, hi}
-use Rattle.machine_spec.specs.Box.{Near, boxOf, trim}
+use Rattle.machine_spec.specs.Box.{boxOf, trim}
 use Rattle.sheet_spec.proofs.Box.{box-at}
 use Rattle.machine_spec.proofs.Box.{sides-length, sides-lo, sides-hi}
-use Rattle.machine_spec.proofs.Facts as facts
-use Rattle.machine_spec.proofs.Ranges.{trim-near}
-use Rattle.boxes_spec.proofs.Ranges.{recovery-sized}
-use Rattle.decision_attempt.specs.Limits.{startLimit}
 
--- ---- nothing beyond the variables. Variable i has the slots i + q·N of a box: its lower side with q = 0, its upper side with q = 1
+-- variable i has the slots i + q·N of a box: its lower side with q = 0, its upper side with q = 1
 
 sides-none : (n : ℕ) (lower upper : ℕ → ℤ) (slot : ℕ) → slot < boxSize → ((i : ℕ) → i < n → (slot ≡ i → ⊥) × (slot ≡ i + N → ⊥)) → boxOf n lower upper ! slot ≡ pos 0
 unfolding boxOf
@@ -67,8 +62,3 @@ module _ (f : List ℕ) (passed : refusal f ≡ 0) where
   pub recovery-trimmed : trim (vars v) (recoveryBox v) ≡ recoveryBox v
   recovery-trimmed =
       trim-same (vars v) (recoveryBox v) (omega (arith, sheet .vars-high)) beyond (omega (arith, length-take boxSize (drop recoverySlot v), length-drop recoverySlot v, sheet .size))
-
--- ---- a start box
-
-pub recovery-near : {v : List ℤ} → Valid v → Near (vars v) startLimit (trim (vars v) (recoveryBox v))
-recovery-near sheet = trim-near (facts.room sheet) (recovery-sized sheet .near)

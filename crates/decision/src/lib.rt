@@ -38,7 +38,7 @@ fn larger(one: usize, other: usize) -> usize
 
 // The decision on an accepted sheet's value and a question that is not refused.
 fn decision_to(sheet: &[i32; SLOTS], question: Question) -> Decision
-    requires { ⌜ DecisionAsked (now sheet) (question .measured) ⌝ }
+    requires { ⌜ DecisionAsked (now sheet) question ⌝ }
     ensures { λ r. ⌜ replyOf r ≡ decisionTo (now (sheet .entry)) question ⌝ }
 {
     let head = question.head;

@@ -14,7 +14,7 @@ use lib.Seq.{drop-cons, getD-take}
 use Rattle.sheet_spec.specs.Slots.{N, vars, boxes, recoveryBox}
 use Rattle.sheet_spec.specs.Valid.{Valid}
 use Rattle.sheet_spec.specs.Box.{all, lowestMet}
-use Rattle.machine_spec.specs.Box.{Near, trim, within}
+use Rattle.machine_spec.specs.Box.{Sized, trim, within}
 use Rattle.machine_spec.specs.declared.Law.{Law}
 use Rattle.machine_spec.specs.Machine.{machine}
 use Rattle.machine_spec.proofs.Box.{trim-lo, trim-hi}
@@ -22,12 +22,13 @@ use Rattle.boxes.specs.declared.steps.ReachResult.{ReachResult}
 use Rattle.boxes.specs.declared.steps.ReachResult.the-variants.{Ended, Unsettled, Unsafe}
 use Rattle.boxes.specs.declared.steps.ReachResult.the-variants as result
 use Rattle.boxes_spec.specs.Step.{Result, ok, failed, exhausted, unrecovered, andThen}
-use Rattle.sheet_spec.specs.Limits.{maxTicks, maxWidth, maxCap}
+use Rattle.sheet_spec.specs.Limits.{maxSide, maxTicks, maxWidth}
 use Rattle.boxes_spec.specs.Reach.{Reached, reach, clear}
 use Rattle.boxes.specs.ReachResult.{resultOf, reachedOf, Names}
 use Rattle.boxes_spec.proofs.Stages.{value, failure, spent}
-use Rattle.machine_spec.proofs.Ranges.{near-less}
-use Rattle.boxes.proofs.Bounds.{reach-near}
+use Rattle.boxes_spec.proofs.Ranges.{sized-less}
+use Rattle.boxes_step.specs.Limits.{stepLimit}
+use Rattle.boxes.proofs.Bounds.{reach-sized}
 use Rattle.integers.proofs.Tests.{pick-yes, pick-no}
 use Rattle.decision_answers.specs.declared.Decision.the-variants.{Keep, Finest, Spent}
 use Rattle.decision_attempt.specs.declared.AttemptPlan.{AttemptPlan}
@@ -41,7 +42,7 @@ use Rattle.decision_spec.specs.Decision as decision
 use Rattle.decision_answers.specs.Decision.{replyOf}
 use Rattle.decision_attempt.specs.AttemptResult.{failureOf, summary}
 use Rattle.decision_attempt.specs.AttemptPlan.{phasesOf, attemptOf}
-use Rattle.decision_attempt.specs.Limits.{startLimit}
+use Rattle.decision_attempt.specs.Limits.{AllLawful}
 use Rattle.decision_spec.proofs.Attempts.{outcome, replyFrom, reply-turn}
 use Rattle.decision_spec.proofs.Allowance.{Spends, attempt-takes}
 
@@ -92,13 +93,14 @@ module _ (limited : Bool) (allowance : ℕ) (v : List ℤ) (w : ℕ) where
 
   -- an attempt of the phases ps from S after c rounds, whose loop has come to E after d rounds with the phases `rest` left
   pub record Following (ps : List Phase) (S : List ℤ) (c : ℕ) (rest : List Phase) (E : List ℤ) (d : ℕ) : Type 0 where
-    pub fewer : ticksOf rest ≤ ticksOf ps
-    pub near : Near (vars v) (startLimit + (ticksOf ps - ticksOf rest) * maxCap) E
+    pub few : ticksOf rest ≤ maxTicks
+    pub laws : AllLawful v rest
+    pub sized : Sized (vars v) (stepLimit (ticksOf rest)) E
     pub counts : d + 73 * ticksOf rest ≤ c + 73 * ticksOf ps
     pub same : attempted ps S c ≡ attempted rest E d
 
-  pub following-starts : (ps : List Phase) (S : List ℤ) (c : ℕ) → Near (vars v) startLimit S → Following ps S c ps S c
-  following-starts ps S c near = record { fewer = le-refl (ticksOf ps); near = near-less (omega arith) near; counts = omega arith; same = refl }
+  pub following-starts : (ps : List Phase) (S : List ℤ) (c : ℕ) → ticksOf ps ≤ maxTicks → AllLawful v ps → Sized (vars v) maxSide S → Following ps S c ps S c
+  following-starts ps S c few laws sized = record { few = few; laws = laws; sized = sized-less (omega arith) sized; counts = omega arith; same = refl }
 
   -- no phase is left
   pub following-ends : {ps : List Phase} {S : List ℤ} {c : ℕ} {E : List ℤ} {d : ℕ} → Following ps S c [] E d → finish v E d ≡ attempted ps S c
@@ -118,10 +120,11 @@ module _ (limited : Bool) (allowance : ℕ) (v : List ℤ) (w : ℕ) where
     pub following-on : (t i : ℕ) → r ≡ Ended t i → Valid v → 0 < w → w ≤ maxWidth → Following ps S c rest F i
     unfolding attempt andThen resultOf ticksOf
     following-on t i ended sheet some most =
-        let b = reach-near limited allowance _ _ w E (p .ticks) d sheet some most (k .near) (sym reaches ∙ ap (reachedOf F W) ended) in
+        let b = reach-sized limited allowance _ _ w E (p .ticks) d (record { sheet = sheet; law = k .laws .0 }) some most (k .sized) (omega (arith, k .few)) (sym reaches ∙ ap (reachedOf F W) ended) in
         record {
-          fewer = omega (arith, k .fewer);
-          near = near-less (omega (arith, k .fewer)) (b .0);
+          few = omega (arith, k .few);
+          laws = k .laws .1;
+          sized = sized-less (omega (arith, k .few)) (b .0);
           counts = omega (arith, k .counts, b .1);
           same = k .same ∙ sym phase-turn ∙ ap (λ (o : ReachResult). others (reachedOf F W o)) ended;
         }

@@ -7,7 +7,7 @@ use Rattle.sheet_spec.specs.Slots.{N}
 use Rattle.machine_spec.proofs.InPlace.{trim-trim, trim-as, trimmed-by}
 use Rattle.boxes_rates.specs.Plant.{Describes}
 use Rattle.machine_spec.proofs.Facts as facts
-use Rattle.machine_spec.proofs.Ranges.{near-less}
+use Rattle.boxes_spec.proofs.Ranges.{sized-less}
 use Rattle.boxes.proofs.Answer.{Refusal, reach-refused, reachable, reach-ended, reach-failed}
 use Rattle.boxes.proofs.Turn.{not-ended}
 use Rattle.boxes.proofs.reach_of.Statement.{statement}
@@ -46,10 +46,10 @@ reach-requires c κs =
     let n = at-plant .plant .result .n in
     let accepted = reachable (at-start at-plant .pre) (refusal-is at-refusal) (at-trim .before .if1 .left) (law-is at-plant) (described at-plant .n) (at-trim .trim .ensures) in
     record {
-      plan = record { plant = described at-plant; boxes = omega arith; some = accepted .some; most = accepted .most };
+      plan = record { plant = described at-plant; law = accepted .law; boxes = omega arith; some = accepted .some; most = accepted .most };
       ticks = accepted .ticks;
       counts = omega (arith, accepted .ticks, accepted .most);
-      start = near-less (omega arith) (accepted .start);
+      start = sized-less (omega (arith, accepted .ticks)) (accepted .start);
       trimmed = trimmed-by (described at-plant .n) (trim-as n (at-trim .trim .ensures) (trim-trim n (room at-plant) (at-start at-plant .args .start .now)));
     }
 

@@ -8,7 +8,7 @@ use native.Mathlib.Omega.{arith}
 use lib.Dec.{eqb}
 use lib.IntN.{ℤ}
 use borrow.Author.Needs.{needs}
-use Rattle.sheet_spec.specs.Limits.{maxCap}
+use Rattle.sheet_spec.specs.Limits.{maxCap, maxEdge}
 use Rattle.machine_spec.specs.Box.{Near, trim}
 use Rattle.sheet_spec.specs.Slots.{N}
 use Rattle.machine_spec.specs.Machine.{Machine, machine, varsOf}
@@ -16,7 +16,8 @@ use Rattle.machine_spec.specs.Rate.{rates}
 use Rattle.sheet_spec.proofs.Box.{differ}
 use Rattle.machine_spec.proofs.InPlace.{trim-as, trimmed-by}
 use Rattle.machine_spec.proofs.Facts as facts
-use Rattle.machine_spec.proofs.Ranges.{near-as, near-by, rates-near}
+use Rattle.machine_spec.proofs.Inside.{within-inside}
+use Rattle.machine_spec.proofs.Ranges.{near-less, near-as, near-by, near-part, rates-near}
 use Rattle.boxes_step.proofs.Turn.{settles-first, settles-is, grown-is, grown-trimmed}
 use Rattle.boxes_step.proofs.round.Statement.{statement}
 use Rattle.boxes_step.proofs.round.Tie as tie
@@ -62,20 +63,24 @@ module _ (at-rates : tie.After-rates) where
   vars-are : at-start .args .plant .n ≡ varsOf M
   vars-are = at-start .pre .plant .n
 
+  -- the start box, as the working box holds it
+  start-near : Near (varsOf M) maxEdge S
+  start-near = near-part (at-start .pre .start) (within-inside S E (at-start .pre .holds)) (at-start .pre .work)
+
   trimmed : trim (varsOf M) F ≡ F
   trimmed = trim-as (varsOf M) same-work (at-start .pre .trimmed)
 
 rates-requires : tie.Need-rates-requires
 rates-requires at-start κs =
     let asked = at-start .before .before .pre in
-    record { plant = asked .plant; ticks = asked .most; start = asked .start; work = asked .work }
+    record { plant = asked .plant; ticks = asked .most; start = asked .start; holds = asked .holds; work = asked .work }
 
 grow-requires : tie.Need-grow-requires
 grow-requires c κs =
     let at-rates = c .before .before .before in
     let asked = at-start at-rates .pre in
     let n = sym (vars-are at-rates) in
-    (record { room = omega (arith, vars-are at-rates, room at-rates); ticks = omega (arith, asked .some, asked .most); start = near-by n (asked .start); rates = near-by n (slow at-rates) }, trimmed-by n (trimmed at-rates))
+    (record { room = omega (arith, vars-are at-rates, room at-rates); ticks = omega (arith, asked .some, asked .most); start = near-by n (near-less (omega arith) (start-near at-rates)); rates = near-by n (slow at-rates) }, trimmed-by n (trimmed at-rates))
 
 -- one tick
 returns : tie.Need-returns

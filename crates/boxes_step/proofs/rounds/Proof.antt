@@ -1,22 +1,22 @@
 -- `rounds` does what eight rounds of the definition do. Invariant: what is left to do of the definition's rounds, from the working
 -- box and the count that the loop has. Measure: the rounds left. Assumes nothing.
-use mathlib.Core.Path.{_≡_, _∙_}
+use mathlib.Core.Path.{_≡_, ap, _∙_}
 use mathlib.Core.Bool.{true}
 use mathlib.Core.List.{List}
-use Prim.Native.Nat.{ℕ, _≤_, _+_, _*_}
+use Prim.Native.Nat.{ℕ, _≤_, _+_}
 use native.Mathlib.Omega.{arith}
 use lib.IntN.{ℤ}
-use Rattle.sheet_spec.specs.Limits.{maxCap}
+use Rattle.sheet_spec.specs.Limits.{maxCap, maxEdge}
 use Rattle.sheet_spec.specs.Slots.{vars}
-use Rattle.machine_spec.specs.Box.{Near, trim}
+use Rattle.machine_spec.specs.Box.{Near, trim, within}
 use Rattle.machine_spec.specs.Machine.{Machine, machine, varsOf}
 use Rattle.sheet_spec.proofs.Box.{differ}
 use Rattle.machine_spec.proofs.InPlace.{trim-as}
 use Rattle.machine_spec.proofs.Facts.{room}
+use Rattle.machine_spec.proofs.Inside.{inside-refl, inside-within}
 use Rattle.machine_spec.proofs.Ranges.{near-less, near-as, rates-near}
 use Rattle.boxes_step.specs.declared.Budget.{Budget}
-use Rattle.boxes_step.specs.Limits.{stepLimit}
-use Rattle.boxes_step.proofs.Bounds.{grown-near}
+use Rattle.boxes_step.proofs.Bounds.{grown-near, grown-holds}
 use Rattle.boxes_step.proofs.Turn.{settles-first, Rounding, rounding-starts, rounding-ends, rounding-exhausted, rounding-settles, rounding-on}
 use Rattle.boxes_step.proofs.rounds.Statement.{statement}
 use Rattle.boxes_step.proofs.rounds.Tie as tie
@@ -26,7 +26,8 @@ record Invariant (b : Budget) (m : Machine) (S : List ℤ) (k c : ℕ) (E R : Li
   counts : d + left ≤ c + 8
   trimmed : trim (varsOf m) E ≡ E
   rates : Near (varsOf m) maxCap R
-  near : Near (varsOf m) (stepLimit + k * maxCap) E
+  holds : within (varsOf m) S E ≡ true
+  near : Near (varsOf m) maxEdge E
   rounding : Rounding (b .limited) (b .allowance) m S k c left E d
   first : k ≡ 1 → E ≡ S
 
@@ -45,7 +46,8 @@ loop-holds at-start =
       counts = omega arith;
       trimmed = trim-as (vars (a .sheet .now)) (asked .work) (asked .trimmed);
       rates = asked .rates;
-      near = near-as (asked .work) (near-less (omega arith) (asked .start));
+      holds = ap (within (vars (a .sheet .now)) (a .start .now)) (asked .work) ∙ inside-within (inside-refl (a .start .now));
+      near = near-as (asked .work) (near-less (omega arith) (asked .start .near));
       rounding = rounding-starts (a .budget .limited) (a .budget .allowance) _ (a .ticks) (a .count) (asked .work);
       first = λ one. asked .work;
     }
@@ -65,8 +67,9 @@ round-requires c κs =
       plant = asked .plant;
       some = asked .some;
       most = asked .most;
-      start = near-less (omega arith) (asked .start);
-      work = near-less (omega (arith, asked .most)) (inv .near);
+      start = asked .start .ordered;
+      holds = inv .holds;
+      work = inv .near;
       trimmed = inv .trimmed;
       first = inv .first;
     }
@@ -118,7 +121,8 @@ loop-again c =
       counts = omega (arith, inv .counts);
       trimmed = done .trimmed;
       rates = slow at-round;
-      near = near-as grew (grown-near _ (asked .plant .sheet) (k at-round) (asked .start) (inv .near));
+      holds = ap (within _ (S at-round)) grew ∙ grown-holds _ (asked .plant .sheet) (S at-round) _ (k at-round) (inv .holds);
+      near = near-as grew (grown-near _ (asked .plant .sheet) (k at-round) (omega (arith, asked .most)) (asked .start .near) (inv .near));
       rounding = rounding-on (inv .rounding) (omega arith) _ (due .before .is-exhausted .ensures) (due .if1 .left) _ (done .settled) _ grew (c .if2 .left);
       first = λ one. absurd (differ (one-tick at-round one) (c .if2 .left));
     }

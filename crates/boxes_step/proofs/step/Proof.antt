@@ -12,6 +12,7 @@ use Rattle.machine_spec.specs.Box.{Near}
 use Rattle.machine_spec.specs.Machine.{Machine, machine, varsOf}
 use Rattle.sheet_spec.specs.Limits.{maxCap}
 use Rattle.boxes_step.specs.declared.Budget.{Budget}
+use Rattle.boxes_spec.proofs.Ranges.{sized-less}
 use Rattle.boxes_step.proofs.Bounds.{halving-count}
 use Rattle.boxes_step.proofs.Turn.{Halving, halving-starts, halving-ends, halving-finest, halving-on}
 use Rattle.boxes_step.proofs.StepResult.{the-type}
@@ -55,7 +56,7 @@ rounds-requires c κs =
       some = inv .halving .some;
       most = omega (arith, inv .shorter, asked .most);
       counts = omega (arith, inv .counts, inv .halving .some, asked .counts);
-      start = asked .start;
+      start = sized-less (omega (arith, inv .shorter)) (asked .start);
       trimmed = asked .trimmed;
       work = inv .work;
       rates = inv .rates;

@@ -1,19 +1,17 @@
 -- `check_on` is the recovery check of the definitions on an accepted sheet's value. Assumes nothing.
-use mathlib.Core.Path.{_≡_, sym, ap, _∙_, subst}
+use mathlib.Core.Path.{_≡_, sym, ap, _∙_}
 use mathlib.Core.List.{List}
 use Prim.Native.Nat.{ℕ}
 use native.Mathlib.Omega.{arith}
 use lib.IntN.{ℤ}
 use Rattle.sheet_spec.specs.Slots.{vars, recoveryBox, varsSlot, ρSlot}
 use Rattle.machine_spec.specs.Box.{trim}
-use Rattle.machine_spec.proofs.Ranges.{near-as}
 use Rattle.machine_spec.proofs.InPlace.{trim-as}
 use Rattle.decision_spec.specs.Decision.{ticksOf, recoveryOf}
 use Rattle.decision_answers.specs.Decision.{replyOf}
-use Rattle.decision_attempt.specs.Limits.{startLimit}
+use Rattle.boxes_spec.proofs.Ranges.{sized-as, recovery-sized}
 use Rattle.decision_spec.proofs.Allowance.{recoveryOf-unspent}
 use Rattle.decision.proofs.Answer.{plan-checks}
-use Rattle.decision.proofs.RecoveryBox.{recovery-near}
 use Rattle.decision.proofs.check_on.Statement.{statement}
 use Rattle.decision.proofs.check_on.Tie as tie
 
@@ -54,10 +52,11 @@ attempts-requires c κs =
     let ρ-is = c .before .count2 .ensures in
     record {
       sheet = wf;
-      start = near-as (start at-box) (recovery-near wf);
+      start = sized-as (start at-box ∙ trimmed) (recovery-sized wf);
       trimmed = trim-as _ (start at-box ∙ trimmed) trimmed;
       phases = omega arith;
       among = omega arith;
+      laws = (tt, tt);
       ticks = omega (arith, ρ-is, wf .ρ-high);
       some = omega (arith, ρ-is, wf .ρ-low);
       most = omega (arith, ρ-is, wf .ρ-high);

@@ -4,17 +4,15 @@ use mathlib.Core.List.{List}
 use Prim.Native.Nat.{ℕ, _≤_}
 use native.Mathlib.Omega.{arith}
 use lib.IntN.{ℤ}
-use borrow.Author.Needs.{needs}
 use Rattle.sheet_spec.specs.Slots.{N, vars, varsSlot}
 use Rattle.sheet_spec.proofs.FirstRefusal.{found-stops, found-none}
-use Rattle.machine_spec.proofs.Ranges.{near-as}
-use Rattle.machine_spec.proofs.InPlace.{trim-as}
-use Rattle.decision_spec.specs.declared.Question.{Question}
-use Rattle.decision_spec.specs.Question.{questionOf, measured, questionRefusal}
+use Rattle.boxes_spec.proofs.Ranges.{lawful, start-sized}
+use Rattle.decision_spec.specs.Question.{questionHead, questionOf, measured, questionRefusal}
 use Rattle.decision_spec.specs.Decision.{refused, decisionTo}
 use Rattle.decision_answers.specs.Decision.{replyOf}
-use Rattle.decision_question.proofs.Measured.{measured-near, measured-trimmed}
-use Rattle.decision_attempt.specs.Limits.{startLimit}
+use Rattle.decision_question.proofs.Measured.{measured-trimmed}
+use Rattle.decision_spec.proofs.Passes.{question-passes}
+use Rattle.decision.specs.Limits.{DecisionAsked}
 use Rattle.decision.proofs.decide_on.Statement.{statement}
 use Rattle.decision.proofs.decide_on.Tie as tie
 
@@ -57,12 +55,14 @@ returns at-return = found-stops refused _ (at-return .before .read .ensures .ref
 decision-to-requires : tie.Need-decision-to-requires
 decision-to-requires accepted κs =
     let r = at-read accepted in
-    let box-is = ap (λ (q : Question). q .measured) (question-is accepted) in
-    record {
+    let passes = question-passes (v r) (g r) (passed accepted) in
+    subst (DecisionAsked (v r)) (sym (question-is accepted))
+    (record {
       sheet = at-start r .pre;
-      start = near-as box-is (measured-near (v r) (g r) (passed accepted));
-      trimmed = trim-as (vars (v r)) box-is (measured-trimmed (vars (v r)) (g r) (room r));
-    }
+      start = start-sized (vars (v r)) (measured (vars (v r)) (g r)) (passes .start);
+      trimmed = measured-trimmed (vars (v r)) (g r) (room r);
+      law = lawful (v r) (questionHead (g r) .law) (passes .head .law);
+    })
 
 -- decided
 returns-2 : tie.Need-returns-2

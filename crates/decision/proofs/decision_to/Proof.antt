@@ -1,8 +1,6 @@
 -- `decision_to` is the decision of the definitions on an accepted sheet's value and a question that is not refused. Assumes nothing.
 use mathlib.Core.Path.{_∙_}
-use mathlib.Core.List.{List}
 use native.Mathlib.Omega.{arith}
-use lib.IntN.{ℤ}
 use borrow.Author.Needs.{needs}
 use Rattle.sheet_spec.specs.Slots.{δSlot, αSlot}
 use Rattle.decision_spec.specs.Decision.{ticksOf}
@@ -40,6 +38,7 @@ attempts-requires at-width κs =
       trimmed = asked .trimmed;
       phases = omega arith;
       among = omega arith;
+      laws = (asked .law, (tt, tt));
       ticks = omega (arith, δ-is, α-is, asked .sheet .sum-high);
       some = omega (arith, δ-is, α-is, width-is, asked .sheet .δ-low);
       most = omega (arith, δ-is, α-is, width-is, asked .sheet .sum-high);

@@ -1,23 +1,22 @@
 -- `attempt` does what the definition's attempt does, but for the box. Invariant: what is left to do of the definition's phases, from
 -- the box and the count that the loop has. Measure: the phases left. Assumes nothing.
-use mathlib.Core.Path.{_≡_, refl, sym, ap, _∙_, subst}
+use mathlib.Core.Path.{_≡_, refl, ap, _∙_, subst}
 use mathlib.Core.List.{List, [], _∷_}
-use Prim.Native.Nat.{ℕ, _+_, _*_, _-_, _≤_}
+use Prim.Native.Nat.{ℕ, _+_, _-_, _≤_}
 use native.Mathlib.Omega.{arith}
 use lib.IntN.{ℤ}
-use lib.ListN.{getD, length, take, drop, length-take, drop-of-length-le}
+use lib.ListN.{getD, drop, length-take, drop-of-length-le}
 use borrow.Author.Needs.{needs}
 use Rattle.sheet_spec.specs.Slots.{vars}
 use Rattle.machine_spec.specs.Box.{trim}
 use Rattle.machine_spec.specs.declared.Law.the-variants.{Baseline}
-use Rattle.machine_spec.proofs.Ranges.{near-less}
+use Rattle.boxes_spec.proofs.Ranges.{sized-less}
 use Rattle.boxes.proofs.Turn.{not-ended}
 use Rattle.decision_spec.specs.declared.Phase.{Phase}
 use Rattle.decision_spec.specs.Decision.{phase, ticksOf}
 use Rattle.decision_attempt.specs.declared.AttemptPlan.{AttemptPlan}
 use Rattle.decision_attempt.specs.AttemptPlan.{phasesOf}
 use Rattle.decision_attempt.specs.AttemptResult.{summary}
-use Rattle.decision_attempt.specs.Limits.{startLimit}
 use Rattle.decision_attempt.proofs.Turn.{next-phase, Following, following-starts, following-ends, following-on, following-stops}
 use Rattle.decision_attempt.proofs.attempt.Statement.{statement}
 use Rattle.decision_attempt.proofs.attempt.Tie as tie
@@ -38,7 +37,7 @@ loop-holds : tie.Need-loop-holds Inv-loop μ-loop
 loop-holds c =
     let at-start = c .before .before in
     let asked = at-start .pre .attempts in
-    record { among = omega arith; trimmed = asked .trimmed; following = following-starts _ _ _ _ (phasesOf (at-start .args .t1)) _ _ (asked .start) }
+    record { among = omega arith; trimmed = asked .trimmed; following = following-starts _ _ _ _ (phasesOf (at-start .args .t1)) _ _ (asked .ticks) (asked .laws) (asked .start) }
 
 -- in a turn of the loop
 module _ (at-phase : tie.After-phase Inv-loop μ-loop) where
@@ -86,9 +85,10 @@ reach-phase-requires c κs =
     let k = following at-phase in
     record {
       sheet = all .sheet;
-      start = near-less (omega (arith, k .fewer, all .ticks)) (k .near);
+      start = sized-less (omega arith) (k .sized);
       trimmed = at-loop at-phase .loop .inv .trimmed;
-      ticks = omega (arith, k .fewer, all .ticks);
+      law = k .laws .0;
+      ticks = omega (arith, k .few);
       counts = omega (arith, k .counts, asked .counts);
       some = all .some;
       most = all .most;

@@ -38,6 +38,7 @@ attempt-requires at-loop κs =
         trimmed = asked .trimmed;
         phases = asked .phases;
         among = asked .among;
+        laws = asked .laws;
         ticks = asked .ticks;
         some = inv .attempting .some;
         most = omega (arith, inv .narrower, asked .most);

@@ -1,5 +1,5 @@
 -- `reach_phase` does what the definition's reach of a phase does. Assumes nothing.
-use mathlib.Core.Path.{_≡_, _∙_}
+use mathlib.Core.Path.{_∙_}
 use native.Mathlib.Omega.{arith}
 use borrow.Author.Needs.{needs}
 use Rattle.sheet_spec.specs.Slots.{boxesSlot}
@@ -16,7 +16,7 @@ reach-requires c κs =
     let at-plant = at-count .before in
     let asked = at-plant .before .pre in
     record {
-      plan = record { plant = at-plant .plant .ensures .1; boxes = omega (arith, at-count .count .ensures, asked .sheet .boxes-high); some = asked .some; most = asked .most };
+      plan = record { plant = at-plant .plant .ensures .1; law = rw (at-plant .plant .ensures .0) (asked .law); boxes = omega (arith, at-count .count .ensures, asked .sheet .boxes-high); some = asked .some; most = asked .most };
       ticks = asked .ticks;
       counts = asked .counts;
       start = asked .start;

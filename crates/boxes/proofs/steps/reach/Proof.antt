@@ -2,18 +2,17 @@
 -- left and the count that the loop has; the working box is the end box so far. Measure: the ticks left. Assumes nothing.
 use mathlib.Core.Path.{_≡_, refl, sym, ap, _∙_}
 use mathlib.Core.List.{List}
-use Prim.Native.Nat.{ℕ, _≤_, _-_, _+_, _*_}
+use Prim.Native.Nat.{ℕ, _≤_, _+_, _*_}
 use native.Mathlib.Omega.{arith}
 use lib.IntN.{ℤ}
 use borrow.Author.Needs.{needs}
-use Rattle.sheet_spec.specs.Limits.{maxCap}
 use Rattle.sheet_spec.specs.Slots.{N, vars}
-use Rattle.machine_spec.specs.Box.{Near, trim, hull}
+use Rattle.machine_spec.specs.Box.{Sized, trim, hull}
 use Rattle.machine_spec.proofs.InPlace.{trim-as-hull, trimmed-by}
 use Rattle.machine_spec.proofs.Facts as facts
-use Rattle.machine_spec.proofs.Ranges.{near-less}
+use Rattle.boxes_spec.proofs.Ranges.{sized-less}
+use Rattle.boxes_step.specs.Limits.{stepLimit}
 use Rattle.boxes.specs.declared.steps.ReachPlan.{ReachPlan}
-use Rattle.boxes.specs.Limits.{reachLimit}
 use Rattle.boxes.specs.ReachPlan.{machineOn, clearOn}
 use Rattle.boxes.specs.ReachResult.{isEnded, coveredOf, Names, Arrived}
 use Rattle.boxes.proofs.Bounds.{StepBounds, tested-bounds}
@@ -29,7 +28,7 @@ record Invariant (p : ReachPlan) (v : List ℤ) (T c : ℕ) (A E W F P : List �
   trimmed : trim (vars v) E ≡ E
   swept : trim (vars v) W ≡ W
   path : trim (vars v) P ≡ P
-  near : Near (vars v) (reachLimit + (T - left) * maxCap) E
+  sized : Sized (vars v) (stepLimit left) E
   reaching : Reaching (p .budget .limited) (p .budget .allowance) (machineOn p v) (clearOn p v) (p .width) A T c E W left d
 
 abbrev Inv-loop : tie.InvT-loop
@@ -83,11 +82,12 @@ module _ (at-join : tie.After-join Inv-loop μ-loop) where
   unfolding isEnded
   arrived = at-step .tested-step .ensures .arrived (ap isEnded (ended .r .given .1))
 
-  bounds : StepBounds (n at-step) (reachLimit + (at-start at-step .args .ticks - at-loop at-step .loop .left) * maxCap) (at-loop at-step .loop .left) t (E at-step) × (d ≤ at-loop at-step .loop .counted + 73)
+  bounds : StepBounds (n at-step) (stepLimit (at-loop at-step .loop .left)) (at-loop at-step .loop .left) t (E at-step) × (d ≤ at-loop at-step .loop .counted + 73)
   bounds =
-      let plan = at-start at-step .pre .plan in
+      let asked = at-start at-step .pre in
+      let plan = asked .plan in
       let inv = at-loop at-step .loop .inv in
-      tested-bounds (inv .reaching) (plan .plant .sheet) (plan .some) (plan .most) (inv .near) (omega arith) (at-step .tested-step .result) _ (P at-step) (at-step .tested-step .ensures .same) t d (ended .r .given .1)
+      tested-bounds (inv .reaching) (record { sheet = plan .plant .sheet; law = plan .law }) (plan .some) (plan .most) (inv .sized) (omega (arith, inv .fewer, asked .ticks)) (omega arith) (at-step .tested-step .result) _ (P at-step) (at-step .tested-step .ensures .same) t d (ended .r .given .1)
 
 loop-holds : tie.Need-loop-holds Inv-loop μ-loop
 loop-holds c =
@@ -101,7 +101,7 @@ loop-holds c =
       trimmed = asked .trimmed;
       swept = asked .trimmed;
       path = asked .trimmed;
-      near = near-less (omega arith) (asked .start);
+      sized = asked .start;
       reaching = reaching-starts (a .plan .budget .limited) (a .plan .budget .allowance) _ _ (a .plan .width) _ (a .ticks) (a .count);
     }
 
@@ -114,7 +114,7 @@ tested-step-requires c κs =
       plan = asked .plan;
       due = omega arith;
       counts = omega (arith, inv .counts, asked .counts);
-      start = near-less (omega (arith, asked .ticks)) (inv .near);
+      start = inv .sized;
       trimmed = inv .trimmed;
       work = inv .work;
       swept = inv .path;
@@ -152,7 +152,7 @@ loop-again c =
       trimmed = s .tested-step .ensures .trimmed;
       swept = trim-as-hull (n s) (at .swept) (P s) (room s) joined;
       path = trim-as-hull (n s) (at .end) (E s) (room s) (arrived c .swept);
-      near = near-less (omega (arith, b .0 .some, b .0 .most, inv .fewer)) (b .0 .sides);
+      sized = sized-less (omega (arith, b .0 .most, inv .fewer, at-start s .pre .ticks)) (b .0 .end);
       reaching =
           reaching-on (inv .reaching) (s .tested-step .result) _ (P s) (omega arith) (s .tested-step .ensures .same) (t c) (d c) (ended c .r .given .1) (b .0 .some) (b .0 .most) (arrived c .swept) _ joined;
     }

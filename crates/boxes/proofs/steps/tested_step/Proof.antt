@@ -15,6 +15,7 @@ use Rattle.machine_spec.proofs.Facts as facts
 use Rattle.machine_spec.proofs.Ranges.{near-less, near-by, zero-near}
 use Rattle.boxes_shape.specs.Limits.{ArriveDone}
 use Rattle.boxes_spec.specs.Step.{step}
+use Rattle.boxes_spec.proofs.Ranges.{sized-less}
 use Rattle.boxes.specs.declared.steps.ReachPlan.{ReachPlan}
 use Rattle.boxes.specs.ReachPlan.{machineOn, clearOn, lowestOn}
 use Rattle.boxes.specs.ReachResult.{isEnded, Names}
@@ -101,7 +102,7 @@ step-requires c κs =
       some = omega (arith, length, asked .plan .some, asked .due);
       most = omega (arith, length, asked .plan .most);
       counts = omega (arith, length, asked .counts);
-      start = asked .start;
+      start = sized-less (omega (arith, length)) (asked .start);
       trimmed = asked .trimmed;
       work = asked .work;
       rates = zero-near _ _;
@@ -116,7 +117,7 @@ arrive-requires c κs =
     let plan = asked .plan in
     let most = step-ticks (stepping at-step) (room at-step) (plan .some) (plan .most) (asked .due) (settled .r .given .0 .0) (settled .r .given .0 .1 .0) (settled .r .given .1) in
     let n = sym (vars-are at-step) in (
-      record { room = omega (arith, vars-are at-step, room at-step); ticks = omega (arith, most, plan .most); start = near-by n (near-less (omega arith) (asked .start)); rates = near-by n (done .rates) },
+      record { room = omega (arith, vars-are at-step, room at-step); ticks = omega (arith, most, plan .most); start = near-by n (near-less (omega arith) (asked .start .near)); rates = near-by n (done .rates) },
       record { work = trimmed-by n (done .trimmed); at = trimmed-by n (asked .trimmed); path = trimmed-by n (asked .swept) },
     )
 

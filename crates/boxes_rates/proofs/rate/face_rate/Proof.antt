@@ -14,13 +14,16 @@ use Rattle.integers.specs.Bound.{Bound}
 use Rattle.integers.proofs.Z.{told, up32, bound-lit, bound-less, bound-mul, fits64}
 use Rattle.sheet_spec.specs.Slots.{_!_, N, boxSize, vars, cap}
 use Rattle.sheet_spec.specs.Limits.{maxTicks}
+use Rattle.machine_spec.specs.Box.{Near}
 use Rattle.machine_spec.specs.Rate.{neighborhood, faceRate}
+use Rattle.boxes_arithmetic.specs.Limits.{limit}
 use Rattle.boxes_rates.specs.Limits.{neighborhoodLimit, RatesAsked}
 use Rattle.boxes_arithmetic.proofs.Bounds.{wide, times-low}
 use Rattle.boxes_rates.proofs.Cut.{cut-below, cut-back}
 use Rattle.machine_spec.proofs.Facts.{cap-low, cap-near}
 use Rattle.machine_spec.proofs.Facts as facts
-use Rattle.machine_spec.proofs.Ranges.{neighborhood-near}
+use Rattle.machine_spec.proofs.Inside.{within-inside}
+use Rattle.machine_spec.proofs.Ranges.{near-less, near-part, neighborhood-near}
 use Rattle.boxes_rates.proofs.rate.face_rate.Statement.{statement}
 use Rattle.boxes_rates.proofs.rate.face_rate.Tie as tie
 
@@ -42,6 +45,13 @@ module _ (at-start : tie.Start) where
 
   room : at-start .args .i < N
   room = omega (arith, asked .plant .sheet .vars-high, var)
+
+  work-near : Near (vars v) limit E
+  work-near = near-less (omega arith) (asked .work)
+
+  -- as the working box holds it
+  start-near : Near (vars v) limit S
+  start-near = near-part (asked .start) (within-inside S E (asked .holds)) work-near
 
   -- one cap more than ticks
   abbrev reach : ℤ
@@ -78,7 +88,7 @@ narrow-requires : tie.Need-narrow-requires
 narrow-requires at-old κs =
     let at-reach = at-old .before .before .before in
     let at-start = at-reach .before in
-    record { room = room at-start; near = simp (wide, at-reach .reach .given, reach-is at-start) (reach-bound at-start); start = λ up. asked at-start .start .at up (at-start .args .i) (var at-start) }
+    record { room = room at-start; near = simp (wide, at-reach .reach .given, reach-is at-start) (reach-bound at-start); start = λ up. start-near at-start .at up (at-start .args .i) (var at-start) }
 
 -- the narrowed box B, and that it is the working box again with the saved side
 module _ (at-narrow : tie.After-narrow) where
@@ -109,7 +119,7 @@ rate-requires after-narrow κs =
     let at-start = start at-narrow in
     record {
       plant = asked at-start .plant;
-      sides = rw (narrowed at-narrow) (neighborhood-near (facts.room (asked at-start .plant .sheet)) (reach-low at-start) (asked at-start .start) (asked at-start .work) (at-start .args .up) (at-start .args .i) (var at-start));
+      sides = rw (narrowed at-narrow) (neighborhood-near (facts.room (asked at-start .plant .sheet)) (reach-low at-start) (start-near at-start) (work-near at-start) (at-start .args .up) (at-start .args .i) (var at-start));
       var = var at-start;
     }
 

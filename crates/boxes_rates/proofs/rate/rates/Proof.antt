@@ -52,7 +52,7 @@ module _ (at-loop : tie.At-loop Inv-loop μ-loop) where
 
   -- it is asked for with the working box as it was
   asked : {F : List ℤ} → F ≡ E → RatesAsked (at-start .args .plant) (at-start .args .sheet .now) (at-start .args .start .now) (at-start .args .ticks) F
-  asked same = let before = at-start .pre in record { plant = before .plant; ticks = before .ticks; start = before .start; work = rw same (before .work) }
+  asked same = let before = at-start .pre in record { plant = before .plant; ticks = before .ticks; start = before .start; holds = rw same (before .holds); work = rw same (before .work) }
 
 -- after the lower face
 module _ (at-lower : tie.After-face-rate Inv-loop μ-loop) where
