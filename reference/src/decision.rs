@@ -2,7 +2,7 @@
 //! and the one number that the drive gets.
 
 use crate::boxes::StateBox;
-use crate::reach::{advance, Budget, Face, Law, NoWatch, Step, Stop, Watch};
+use crate::reach::{advance, Budget, Law, NoWatch, Step, Stop, Watch};
 use crate::sheet::{self, Fields, Refusal, Sheet, START_LIMIT};
 use std::ops::ControlFlow;
 
@@ -120,8 +120,8 @@ struct Safety<'a, W> {
 
 impl<W: Watch> Watch for Safety<'_, W> {
     #[inline]
-    fn neighborhood(&mut self, variable: usize, face: Face, bands: usize) {
-        self.watch.neighborhood(variable, face, bands);
+    fn round(&mut self, sheet: &Sheet, start: &StateBox, enclosure: &StateBox, ticks: u32) {
+        self.watch.round(sheet, start, enclosure, ticks);
     }
 
     #[inline]

@@ -37,18 +37,11 @@ pub struct Reach {
     pub rounds: u64,
 }
 
-/// The side of a box in one variable.
-#[derive(Clone, Copy, Debug, PartialEq, Eq)]
-pub enum Face {
-    Lower,
-    Upper,
-}
-
 /// Sees what the engine does. Methods left as they are cost nothing.
 pub trait Watch {
-    /// A face's neighborhood meets `bands` bands.
+    /// A round begins over this enclosure, in a step of so many ticks from the start box.
     #[inline]
-    fn neighborhood(&mut self, _variable: usize, _face: Face, _bands: usize) {}
+    fn round(&mut self, _sheet: &Sheet, _start: &StateBox, _enclosure: &StateBox, _ticks: u32) {}
 
     /// A band's bound on the change, before and after the clamp.
     #[inline]
@@ -118,23 +111,23 @@ fn greatest_product(coefficient: i32, lower: i64, upper: i64) -> i64 {
     i64::from(coefficient) * if coefficient >= 0 { upper } else { lower }
 }
 
-/// The least value of a row's numerator over a neighborhood, side by side:
+/// The least value of a row's numerator over a box, side by side:
 /// each variable, and the command, at the end that makes its own term least.
 #[inline]
-fn least_numerator<const N: usize>(row: &Row, around: &StateBox, commands: (i64, i64)) -> i64 {
+fn least_numerator<const N: usize>(row: &Row, over: &StateBox, commands: (i64, i64)) -> i64 {
     let mut sum = least_product(row.b, commands.0, commands.1) + i64::from(row.c);
     for j in 0..N {
-        sum += least_product(row.a[j], around.lower[j], around.upper[j]);
+        sum += least_product(row.a[j], over.lower[j], over.upper[j]);
     }
     sum
 }
 
 /// The greatest value likewise.
 #[inline]
-fn greatest_numerator<const N: usize>(row: &Row, around: &StateBox, commands: (i64, i64)) -> i64 {
+fn greatest_numerator<const N: usize>(row: &Row, over: &StateBox, commands: (i64, i64)) -> i64 {
     let mut sum = greatest_product(row.b, commands.0, commands.1) + i64::from(row.c);
     for j in 0..N {
-        sum += greatest_product(row.a[j], around.lower[j], around.upper[j]);
+        sum += greatest_product(row.a[j], over.lower[j], over.upper[j]);
     }
     sum
 }
@@ -151,7 +144,8 @@ fn commands(law: Law, band: &Band) -> (i64, i64) {
     }
 }
 
-/// One round: the rate of every face over its neighborhood within the enclosure.
+/// One round: the rate of every face over its neighborhood within the enclosure,
+/// each band's row over the part of the neighborhood that lies in that band.
 #[inline]
 fn round<const N: usize, W: Watch>(
     sheet: &Sheet,
@@ -161,55 +155,66 @@ fn round<const N: usize, W: Watch>(
     ticks: u32,
     watch: &mut W,
 ) -> Rates {
-    let v = sheet.band_variable as usize;
+    watch.round(sheet, start, enclosure, ticks);
+    // It is below N; the compiler is told.
+    let v = (sheet.band_variable as usize).min(N - 1);
     let bands = sheet.bands();
     let met_by_all = bands_met(sheet, enclosure.lower[v], enclosure.upper[v]);
     let mut rates = Rates::default();
-    // The part of the enclosure that is looked at; only the face's own side differs from it.
-    let mut around = *enclosure;
+    // The part that is looked at; only the face's own side and the band variable's differ from
+    // the enclosure. From the last band down, what is left of the latter ends below the edge.
+    let mut part = *enclosure;
     for i in 0..N {
         let cap = i64::from(sheet.caps[i]);
         let depth = i64::from(ticks + 1) * cap;
 
-        let inner = enclosure.upper[i].min(start.lower[i] + depth);
-        around.upper[i] = inner;
+        part.upper[i] = enclosure.upper[i].min(start.lower[i] + depth);
         let met = if i == v {
-            bands_met(sheet, enclosure.lower[i], inner)
+            bands_met(sheet, part.lower[i], part.upper[i])
         } else {
             met_by_all.clone()
         };
-        watch.neighborhood(i, Face::Lower, met.len());
         let mut rate = cap;
-        for band in &bands[met] {
+        for band in bands[met].iter().rev() {
+            let edge = i64::from(band.edge);
+            part.lower[v] = enclosure.lower[v].max(edge);
             let row = &band.rows[i];
-            let numerator = least_numerator::<N>(row, &around, commands(law, band));
+            let numerator = least_numerator::<N>(row, &part, commands(law, band));
             let change = least_change(row, numerator);
             let clamped = change.clamp(-cap, cap);
             watch.bound(change, clamped);
             rate = rate.min(clamped);
+            part.upper[v] = edge - 1;
         }
         rates.lower[i] = rate;
-        around.upper[i] = enclosure.upper[i];
+        part.lower[v] = enclosure.lower[v];
+        part.upper[v] = enclosure.upper[v];
+        part.upper[i] = enclosure.upper[i];
 
         let inner = enclosure.lower[i].max(start.upper[i] - depth);
-        around.lower[i] = inner;
+        part.lower[i] = inner;
         let met = if i == v {
-            bands_met(sheet, inner, enclosure.upper[i])
+            bands_met(sheet, part.lower[i], part.upper[i])
         } else {
             met_by_all.clone()
         };
-        watch.neighborhood(i, Face::Upper, met.len());
+        let lower = part.lower[v];
         let mut rate = -cap;
-        for band in &bands[met] {
+        for band in bands[met].iter().rev() {
+            let edge = i64::from(band.edge);
+            part.lower[v] = lower.max(edge);
             let row = &band.rows[i];
-            let numerator = greatest_numerator::<N>(row, &around, commands(law, band));
+            let numerator = greatest_numerator::<N>(row, &part, commands(law, band));
             let change = greatest_change(row, numerator);
             let clamped = change.clamp(-cap, cap);
             watch.bound(change, clamped);
             rate = rate.max(clamped);
+            part.upper[v] = edge - 1;
         }
         rates.upper[i] = rate;
-        around.lower[i] = enclosure.lower[i];
+        part.lower[v] = enclosure.lower[v];
+        part.upper[v] = enclosure.upper[v];
+        part.lower[i] = enclosure.lower[i];
     }
     rates
 }

@@ -15,7 +15,7 @@ unfolding cutAt
 cut-below false i h = omega arith
 cut-below true i h = omega arith
 
-put-back : (l : List ℤ) (j : ℕ) (v : ℤ) → set (set l j v) j (l ! j) ≡ l
+pub put-back : (l : List ℤ) (j : ℕ) (v : ℤ) → set (set l j v) j (l ! j) ≡ l
 put-back [] j v = refl
 put-back (x ∷ l) zero v = refl
 put-back (x ∷ l) (suc j) v = ap (λ (k : List ℤ). x ∷ k) (put-back l j v)

@@ -1,3 +1,4 @@
 pub mod Cut
+pub mod Parts
 pub mod Rates
 mod RowNumbers

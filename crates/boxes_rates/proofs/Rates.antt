@@ -1,4 +1,4 @@
--- Laws about bands, laws and rates. Assumes nothing.
+-- Laws about the commands that a law offers. Assumes nothing.
 use mathlib.Core.Path.{_≡_, refl, ap, _∙_}
 use mathlib.Core.Bool.{Bool, true, false}
 use mathlib.Core.List.{List}
@@ -32,22 +32,3 @@ module _ {l : Law} (up : Bool) (v : List ℤ) (k : ℕ) (B : List ℤ) where
   pub over-one : {u : ℤ} → l ≡ Command u → offeredOver up (machine v l) k B ≡ u
   unfolding offeredOver
   over-one e = rw e refl
-
--- band k and the numbers from l to h
-module _ (v : List ℤ) (bands k : ℕ) (l h : ℤ) where
-  pub meets-below : h <ℤ edge v k → bandMeets v bands k l h ≡ false
-  unfolding bandMeets
-  meets-below g = rw (le-not (edge v k) h g) refl
-
-  pub meets-last : edge v k ≤ℤ h → bands ≤ k + 1 → bandMeets v bands k l h ≡ true
-  unfolding bandMeets
-  meets-last g e = rw (le-is (edge v k) h g, le-leb bands (k + 1) e) refl
-
-  pub meets-next : edge v k ≤ℤ h → k + 1 < bands → bandMeets v bands k l h ≡ ltZ l (edge v (k + 1))
-  unfolding bandMeets
-  meets-next g e = rw (le-is (edge v k) h g, lt-leb bands (k + 1) e) refl
-
--- a plant's bands and band variable are the sheet's
-pub met-described : {p : Plant} {v : List ℤ} → Describes p v → (k : ℕ) (B : List ℤ) → bandMeets v (p .bands) k (lo B (p .var)) (hi B (p .var)) ≡ bandMet (machine v (p .law)) k B
-met-described {p} {v} d k B =
-    ap (λ (n : ℕ). bandMeets v n k (lo B (p .var)) (hi B (p .var))) (d .bands) ∙ ap (λ (i : ℕ). bandMeets v (bands v) k (lo B i) (hi B i)) (d .var)

@@ -7,11 +7,11 @@ use lib.IntN.{ℤ, pos, negℤ, _*ℤ_}
 use lib.Signed.{_≤ℤ_}
 use Rattle.integers.specs.Bound.{Bound}
 use Rattle.sheet_spec.specs.Limits.{maxTicks, maxCap, maxEdge}
-use Rattle.sheet_spec.specs.Slots.{N, rowSize, slots, vars, bands, cap, Row, rowAt}
+use Rattle.sheet_spec.specs.Slots.{N, rowSize, bandSlot, slots, vars, bands, cap, Row, rowAt}
 use Rattle.sheet_spec.specs.Valid.{Between}
-use Rattle.machine_spec.specs.Box.{side, Near, Ordered, within}
-use Rattle.machine_spec.specs.Machine.{Machine}
-use Rattle.machine_spec.specs.Rate.{bound, offeredOver, outer}
+use Rattle.machine_spec.specs.Box.{side, Near, Ordered, Sized, within}
+use Rattle.machine_spec.specs.Machine.{Machine, rowOf, change}
+use Rattle.machine_spec.specs.Rate.{bound, offeredOver, outer, rowOver}
 use Rattle.boxes_arithmetic.specs.Limits.{Capped, limit, word}
 use Rattle.boxes_rates.specs.declared.Plant.{Plant}
 use Rattle.boxes_rates.specs.Plant.{Describes}
@@ -36,9 +36,9 @@ pub record RowAsked (n row : ℕ) (B : List ℤ) : Type 0 where
   pub place : row + rowSize ≤ slots
   pub sides : Near n limit B
 
--- t is the outer one of b·u over the commands u that the law offers in a band, over any box
-pub record CommandTerm (up : Bool) (m : Machine) (r : Row) (band : ℕ) (t : ℤ) : Type 0 where
-  pub same : (B : List ℤ) → t ≡ outer up (r .b *ℤ offeredOver false m band B) (r .b *ℤ offeredOver true m band B)
+-- t is the outer one of b·u over the commands u that the law offers in the band k at a slot, over any box
+pub record CommandTerm (up : Bool) (m : Machine) (r : Row) (at : ℕ) (t : ℤ) : Type 0 where
+  pub same : (k : ℕ) → at ≡ bandSlot k → (B : List ℤ) → t ≡ outer up (r .b *ℤ offeredOver false m k B) (r .b *ℤ offeredOver true m k B)
   pub near : Bound t termLimit
 
 -- x is the row's N bounded over the box B and over the commands whose outer term is t
@@ -53,19 +53,27 @@ pub record ChangeAsked (cap : ℤ) (v : List ℤ) (row : ℕ) (x z : ℤ) : Type
   pub number : Bound x rowLimit
   pub capped : Capped cap z
 
--- ---- a rate over a box
-
--- the rate of variable i over the box B can be worked out
-pub record RateAsked (p : Plant) (v B : List ℤ) (i : ℕ) : Type 0 where
+-- the allowed change of variable i over the box B by the row of the band at a slot can be worked out, beside the outermost so far, z
+pub record BandAsked (p : Plant) (v B : List ℤ) (i at : ℕ) (z : ℤ) : Type 0 where
   pub plant : Describes p v
-  pub sides : Near (vars v) limit B
   pub var : i < vars v
-
--- so can a band's share in it, beside the outermost so far, z
-pub record BandAsked (p : Plant) (v B : List ℤ) (i band : ℕ) (z : ℤ) : Type 0 where
-  pub rate : RateAsked p v B i
+  pub sides : Near (vars v) limit B
+  pub band : ℕ
+  pub place : at ≡ bandSlot band
   pub among : band < bands v
   pub between : Between (negℤ (cap v i)) (cap v i) z
+
+-- x is the outer one of z and of that change in the band k at the slot
+pub record RowRated (up : Bool) (m : Machine) (B : List ℤ) (i at : ℕ) (z x : ℤ) : Type 0 where
+  pub same : (k : ℕ) → at ≡ bandSlot k → x ≡ outer up z (change up (cap (m .sheet) i) (rowOf m k i) (rowOver up m B i k))
+
+-- ---- a rate over a box
+
+-- the rate of variable i over the box B can be worked out: B is not empty, and the first edge is not above it
+pub record RateAsked (p : Plant) (v B : List ℤ) (i : ℕ) : Type 0 where
+  pub plant : Describes p v
+  pub var : i < vars v
+  pub sides : Sized (vars v) maxEdge B
 
 -- ---- the rates of a round
 

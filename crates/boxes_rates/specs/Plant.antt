@@ -1,10 +1,12 @@
--- What the code is given: a law and some numbers of the sheet, beside the sheet's value.
+-- What the code is given: a law and some numbers of the sheet, beside the sheet's value; and which bands and sides it looks for.
 use mathlib.Core.Path.{_≡_}
-use mathlib.Core.Bool.{Bool, true, false}
+use mathlib.Core.Bool.{Bool, true, false, not, _&&_}
 use mathlib.Core.List.{List}
-use Prim.Native.Nat.{ℕ, _+_}
+use Prim.Native.Nat.{ℕ, _+_, _<_}
+use lib.Dec.{leb}
 use lib.IntN.{ℤ}
-use Rattle.sheet_spec.specs.Slots.{N, vars, bands, bandVar}
+use lib.Signed.{leZ, _≤ℤ_, _<ℤ_}
+use Rattle.sheet_spec.specs.Slots.{_!_, N, bandSlot, vars, bands, bandVar, edge}
 use Rattle.sheet_spec.specs.Valid.{Valid}
 use Rattle.boxes_rates.specs.declared.Plant.{Plant}
 
@@ -14,6 +16,22 @@ pub record Describes (p : Plant) (v : List ℤ) : Type 0 where
   pub n : p .n ≡ vars v
   pub bands : p .bands ≡ bands v
   pub var : p .var ≡ bandVar v
+
+-- ---- bands, by the slots of their edges
+
+-- the band at a slot is one of those before the slot `end`, and starts at or below x
+unfoldable pub startsBy : List ℤ → ℕ → ℕ → ℤ → Bool
+startsBy v end at x = not (leb end at) && leZ (v ! at) x
+
+-- the band at a slot is the first that has a number from l on: those before it end at or below l, and it does not
+pub record FirstBand (v : List ℤ) (l : ℤ) (at : ℕ) : Type 0 where
+  pub band : ℕ
+  pub place : at ≡ bandSlot band
+  pub among : band < bands v
+  pub before : (k : ℕ) → k < band → edge v (k + 1) ≤ℤ l
+  pub next : band + 1 < bands v → l <ℤ edge v (band + 1)
+
+-- ---- the side that is cut
 
 -- the place of the side that the neighborhood of a face of variable i cuts: that of the other face
 unfoldable pub cutAt : Bool → ℕ → ℕ

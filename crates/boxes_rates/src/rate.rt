@@ -1,14 +1,14 @@
 // The rates of a box's faces. A face is `false` for a lower and `true` for an upper one.
 ghost use mathlib.Core.Path.{_≡_};
-ghost use mathlib.Core.Bool.{true};
 ghost use Prim.Native.Nat.{_+_, _≤_, _<_};
 ghost use Rattle.integers.specs.Bound.{Bound};
-ghost use Rattle.sheet_spec.specs.Limits.{maxBands, maxCap};
+ghost use Rattle.sheet_spec.specs.Limits.{maxCap};
 ghost use Rattle.sheet_spec.specs.Slots as slots;
-ghost use Rattle.machine_spec.specs.Machine.{bandMeets, machine};
-ghost use Rattle.machine_spec.specs.Rate.{bandMet, bandRate, faceRate, neighborhood, neutral, outer, rate, rates};
-ghost use Rattle.boxes_rates.specs.Limits.{BandAsked, CommandTerm, NarrowAsked, RateAsked, RatesAsked};
-ghost use Rattle.boxes_rates.specs.Plant.{cutAt};
+ghost use Rattle.sheet_spec.specs.Valid.{Valid};
+ghost use Rattle.machine_spec.specs.Machine.{machine};
+ghost use Rattle.machine_spec.specs.Rate.{faceRate, neighborhood, neutral, rate, rates};
+ghost use Rattle.boxes_rates.specs.Limits.{BandAsked, CommandTerm, NarrowAsked, RateAsked, RatesAsked, RowRated};
+ghost use Rattle.boxes_rates.specs.Plant.{FirstBand, cutAt, startsBy};
 use crate::Plant;
 use crate::row::bound;
 use crate::row::further;
@@ -29,21 +29,27 @@ use sheet_spec::slots::SAFETY_GREATEST;
 use sheet_spec::slots::SAFETY_LEAST;
 use sheet_spec::slots::SLOTS;
 
-// The band has a number from `low` to `high`.
-fn band_meets(sheet: &[i32; SLOTS], bands: usize, band: usize, low: i64, high: i64) -> bool
-    requires { ⌜ (band < bands) × (bands ≤ maxBands) ⌝ }
-    ensures { λ r. ⌜ r ≡ bandMeets (now (sheet .entry)) bands band low high ⌝ }
+// The band at the slot `at` is one of those before the slot `end`, and starts at or below x.
+fn starts_by(sheet: &[i32; SLOTS], end: usize, at: usize, x: i64) -> bool
+    requires { ⌜ end ≤ slots.slots ⌝ }
+    ensures { λ r. ⌜ r ≡ startsBy (now (sheet .entry)) end at x ⌝ }
 {
-    let edge = FIRST_BAND + band * BAND_SIZE;
-    if high < (sheet[edge] as i64) {
+    if end <= at {
         return false;
     }
-    let next = band + 1;
-    if bands <= next {
-        return true;
+    (sheet[at] as i64) <= x
+}
+
+// The slot of the first band that has a number from `low` on. The bands end at the slot `end`.
+fn first_band(sheet: &[i32; SLOTS], end: usize, low: i64) -> usize
+    requires { ⌜ Valid (now sheet) × (end ≡ slots.bandSlot (slots.bands (now sheet))) ⌝ }
+    ensures { λ r. ⌜ FirstBand (now (sheet .entry)) low r ⌝ }
+{
+    let mut at: usize = FIRST_BAND;
+    while starts_by(sheet, end, at + BAND_SIZE, low) {
+        at += BAND_SIZE;
     }
-    let end = FIRST_BAND + next * BAND_SIZE;
-    low < (sheet[end] as i64)
+    at
 }
 
 // The value that leaves the outermost as it is.
@@ -54,18 +60,17 @@ fn neutral(up: bool, cap: i64) -> i64
     if up { -cap } else { cap }
 }
 
-// The outer one of b·u over the commands u that the law offers in the band, where b is that of the row at a slot.
+// The outer one of b·u over the commands u that the law offers in the band at the slot `band`, where b is that of the row at a slot.
 fn command_term(up: bool, law: Law, sheet: &[i32; SLOTS], row: usize, band: usize) -> i64
-    requires { ⌜ (row + slots.rowSize ≤ slots.slots) × (band < maxBands) ⌝ }
+    requires { ⌜ (row + slots.rowSize ≤ slots.slots) × (band + slots.bandSize ≤ slots.slots) ⌝ }
     ensures { λ r. ⌜ CommandTerm up (machine (now (sheet .entry)) law) (slots.rowAt (now (sheet .entry)) row) band r ⌝ }
 {
     let slot = row + ROW_B;
     let coefficient = sheet[slot];
     match law {
         Law::Baseline => {
-            let edge = FIRST_BAND + band * BAND_SIZE;
-            let least = edge + SAFETY_LEAST;
-            let greatest = edge + SAFETY_GREATEST;
+            let least = band + SAFETY_LEAST;
+            let greatest = band + SAFETY_GREATEST;
             outer(
                 up,
                 product(coefficient, sheet[least]),
@@ -76,7 +81,7 @@ fn command_term(up: bool, law: Law, sheet: &[i32; SLOTS], row: usize, band: usiz
     }
 }
 
-// The outer one of the outermost so far and of the band's share in the rate of variable i over the box, if they meet.
+// The outer one of the outermost so far and of the allowed change of variable i over the box, by the row of the band at the slot `band`.
 fn row_rate(
     up: bool,
     plant: Plant,
@@ -86,10 +91,10 @@ fn row_rate(
     band: usize,
     outermost: i64,
 ) -> i64
-    requires { ⌜ BandAsked plant (now sheet) (now over) i band outermost × (bandMet (machine (now sheet) (plant .law)) band (now over) ≡ true) ⌝ }
-    ensures { λ r. ⌜ r ≡ outer up outermost (bandRate up (machine (now (sheet .entry)) (plant .law)) (now (over .entry)) i band) ⌝ }
+    requires { ⌜ BandAsked plant (now sheet) (now over) i band outermost ⌝ }
+    ensures { λ r. ⌜ RowRated up (machine (now (sheet .entry)) (plant .law)) (now (over .entry)) i band outermost r ⌝ }
 {
-    let row = FIRST_BAND + band * BAND_SIZE + FIRST_ROW + i * ROW_SIZE;
+    let row = band + FIRST_ROW + i * ROW_SIZE;
     let law = plant.law;
     let term = command_term(up, law, sheet, row, band);
     let number = bound(up, plant.n, sheet, row, over, term);
@@ -97,40 +102,33 @@ fn row_rate(
     further(up, sheet[slot] as i64, sheet, row, number, outermost)
 }
 
-// The outer one of the outermost so far and of the band's share in the rate of variable i over the box.
-fn band_rate(
-    up: bool,
-    plant: Plant,
-    sheet: &[i32; SLOTS],
-    over: &[i64; BOX_SIZE],
-    i: usize,
-    band: usize,
-    outermost: i64,
-) -> i64
-    requires { ⌜ BandAsked plant (now sheet) (now over) i band outermost ⌝ }
-    ensures { λ r. ⌜ r ≡ outer up outermost (bandRate up (machine (now (sheet .entry)) (plant .law)) (now (over .entry)) i band) ⌝ }
+// The least or the greatest allowed change of variable i over the box, band by band from the first that it meets to the last. The
+// part of the box that lies in a band is made in `over`, which is then as it was.
+fn rate(up: bool, plant: Plant, sheet: &[i32; SLOTS], over: &mut [i64; BOX_SIZE], i: usize) -> i64
+    requires { ⌜ RateAsked plant (now sheet) (now over) i ⌝ }
+    ensures { λ r. ⌜ r ≡ rate up (machine (now (sheet .entry)) (plant .law)) (now (over .entry)) i ⌝ }
+    ensures { λ r. ⌜ now (over .exit) ≡ now (over .entry) ⌝ }
 {
     let lower = plant.var;
     let upper = lower + N;
-    if band_meets(sheet, plant.bands, band, over[lower], over[upper]) {
-        row_rate(up, plant, sheet, over, i, band, outermost)
-    } else {
-        outermost
-    }
-}
-
-// The least or the greatest allowed change of variable i over the box.
-fn rate(up: bool, plant: Plant, sheet: &[i32; SLOTS], over: &[i64; BOX_SIZE], i: usize) -> i64
-    requires { ⌜ RateAsked plant (now sheet) (now over) i ⌝ }
-    ensures { λ r. ⌜ r ≡ rate up (machine (now (sheet .entry)) (plant .law)) (now (over .entry)) i ⌝ }
-{
+    let low = over[lower];
+    let high = over[upper];
     let slot = FIRST_CAP + i;
+    let end = FIRST_BAND + plant.bands * BAND_SIZE;
     let mut outermost = neutral(up, sheet[slot] as i64);
-    let mut band: usize = 0;
-    while band < plant.bands {
-        outermost = band_rate(up, plant, sheet, over, i, band, outermost);
-        band += 1;
+    let mut band = first_band(sheet, end, low);
+    // while the next band is met too
+    while starts_by(sheet, end, band + BAND_SIZE, high) {
+        let next = band + BAND_SIZE;
+        let last = (sheet[next] as i64) - 1;
+        over[upper] = last;
+        outermost = row_rate(up, plant, sheet, over, i, band, outermost);
+        over[lower] = last + 1;
+        band = next;
     }
+    over[upper] = high;
+    outermost = row_rate(up, plant, sheet, over, i, band, outermost);
+    over[lower] = low;
     outermost
 }
 

@@ -18,7 +18,7 @@ use Rattle.machine_spec.proofs.Box.{sides-length}
 use Rattle.machine_spec.proofs.Face.{Beyond, beyond-refl, beyond-sum, beyond-times}
 use Rattle.machine_spec.proofs.Inside.{lift-side, Inside, inside-refl, inside-trans, inside-in, hull-left, hull-right, hull-least, hull-absorbs, inside-ordered, corner}
 use Rattle.machine_spec.proofs.Bands.{has-band}
-use Rattle.machine_spec.proofs.Neighborhood.{near-in, neighborhood-part, neighborhood-inside, neighborhood-ordered, neighborhoods-touch}
+use Rattle.machine_spec.proofs.Neighborhood.{near-in, neighborhood-length, neighborhood-part, neighborhood-inside, neighborhood-ordered, neighborhoods-touch}
 use Rattle.machine_spec.proofs.Facts.{room, cap-low}
 use Rattle.machine_spec.proofs.Sound.{rate-between}
 use Rattle.machine_spec.proofs.Order.{rate-mono, rates-ordered}
@@ -52,7 +52,7 @@ module _ {m : Machine} (wf : Accepted m) (S : List ℤ) (k : ℕ) (o : Ordered (
     -- the rates of the faces and M grow with the working box
     face-mono : (up : Bool) (i : ℕ) → i < varsOf m → Beyond up (faceRate up m S k F i) (faceRate up m S k E i)
     unfolding faceRate
-    face-mono up i h = rate-mono wf _ _ (face-ordered s up i h) (neighborhood-inside (room (wf .sheet)) S _ i h up l t) up i h
+    face-mono up i h = rate-mono wf (neighborhood-length up S _ E F l i) (face-ordered s up i h) (neighborhood-inside (room (wf .sheet)) S _ i h up l t) up i h
 
     lifted-mono : Inside (varsOf m) (lifted m S k E) (lifted m S k F)
     unfolding lifted

@@ -5,6 +5,7 @@ use mathlib.Core.Bool.{Bool, true, false, _&&_}
 use mathlib.Core.List.{List}
 use Prim.Native.Nat.{ℕ, zero, suc, _+_, _*_, _-_, _≤_, _<_}
 use native.Mathlib.Omega.{arith}
+use lib.Dec.{T}
 use lib.IntN.{ℤ, pos, negℤ, _+ℤ_, _-ℤ_, _*ℤ_}
 use lib.Signed.{leZ, _≤ℤ_}
 use Rattle.integers.specs.Bound.{Bound}
@@ -19,11 +20,12 @@ use Rattle.machine_spec.specs.declared.Law.{Law}
 use Rattle.machine_spec.specs.declared.Law.the-variants.{Baseline, Command}
 use Rattle.machine_spec.specs.Machine.{Machine, machine, varsOf, bandsOf, bandVarOf, cap, rowOf}
 use Rattle.machine_spec.specs.Accepted.{Lawful, Accepted}
-use Rattle.machine_spec.specs.Rate.{part, rowOver, neighborhood}
+use Rattle.machine_spec.specs.Rate.{bandMet, part, rowOver, neighborhood}
 use Rattle.sheet_spec.proofs.Laws.{unless-zero}
 use Rattle.sheet_spec.proofs.Box.{and-both, all-at, box-lo, box-hi}
 use Rattle.machine_spec.proofs.Neighborhood.{inward, neighborhood-part}
 use Rattle.machine_spec.proofs.Facts.{room}
+use Rattle.machine_spec.proofs.Part.{part-within, part-ordered}
 use Rattle.machine_spec.proofs.Ranges.{near-less, near-part, zero-near, trim-near, hull-near, moved-near, rates-near, limit-near, number-near}
 use Rattle.boxes_spec.specs.Step.{lifted, grown, endBox, Failure, Result, Step, swept}
 use Rattle.boxes_spec.specs.Reach.{maxReached, Reached, reach, clear, lawRefusal, sidesRefusal, reachRefusal, Answer, refused, answer, reachOf}
@@ -104,7 +106,7 @@ module _ {m : Machine} (wf : Accepted m) where
 abbrev pub around : Machine → List ℤ → ℕ → List ℤ → Bool → ℕ → List ℤ
 around m S k E up i = neighborhood up S (pos (k + 1) *ℤ cap m i) E i
 
--- a row's number N over it, for band j
+-- a row's number N over the part of it in band j
 abbrev pub numeratorOver : Machine → List ℤ → ℕ → List ℤ → Bool → ℕ → ℕ → ℤ
 numeratorOver m S k E up i j = rowOver up m (part m j (around m S k E up i)) i j
 
@@ -120,10 +122,12 @@ pub record Ranges (m : Machine) (S : List ℤ) (k : ℕ) (E : List ℤ) : Type 0
   pub neighborhoods : (up : Bool) (i : ℕ) → i < varsOf m → Sized (varsOf m) (maxReached - maxCap) (around m S k E up i)
   -- where they are cut
   pub limits : (up : Bool) (i : ℕ) → i < varsOf m → Bound (inward up (side up S i) (pos (k + 1) *ℤ cap m i)) (maxReached + maxCap)
-  -- N, N − d and N + d
-  pub numbers : (up : Bool) (i j : ℕ) → i < varsOf m → j < bandsOf m → Bound (numeratorOver m S k E up i j) maxNumerator
-  pub below : (up : Bool) (i j : ℕ) → i < varsOf m → j < bandsOf m → Bound (numeratorOver m S k E up i j -ℤ rowOf m j i .d) (maxNumerator + maxSpread)
-  pub above : (up : Bool) (i j : ℕ) → i < varsOf m → j < bandsOf m → Bound (numeratorOver m S k E up i j +ℤ rowOf m j i .d) (maxNumerator + maxSpread)
+  -- their parts in the bands that they meet
+  pub parts : (up : Bool) (i j : ℕ) → i < varsOf m → T (bandMet m j (around m S k E up i)) → Sized (varsOf m) (maxReached - maxCap) (part m j (around m S k E up i))
+  -- N, N − d and N + d there
+  pub numbers : (up : Bool) (i j : ℕ) → i < varsOf m → j < bandsOf m → T (bandMet m j (around m S k E up i)) → Bound (numeratorOver m S k E up i j) maxNumerator
+  pub below : (up : Bool) (i j : ℕ) → i < varsOf m → j < bandsOf m → T (bandMet m j (around m S k E up i)) → Bound (numeratorOver m S k E up i j -ℤ rowOf m j i .d) (maxNumerator + maxSpread)
+  pub above : (up : Bool) (i j : ℕ) → i < varsOf m → j < bandsOf m → T (bandMet m j (around m S k E up i)) → Bound (numeratorOver m S k E up i j +ℤ rowOf m j i .d) (maxNumerator + maxSpread)
 
 -- a round of a step of length k, at least 1, from a box that leaves room for k ticks
 module _ {m : Machine} (wf : Accepted m) {S : List ℤ} (k : ℕ) {b : ℕ} (s : Sized (varsOf m) b S) (z : 0 < k) (h : b + k * maxCap ≤ maxReached) {E : List ℤ} (w : Working m S k E) where
@@ -132,8 +136,14 @@ module _ {m : Machine} (wf : Accepted m) {S : List ℤ} (k : ℕ) {b : ℕ} (s :
       let o = face-ordered wf S k (s .ordered) (working-holds (room (wf .sheet)) w) up i g in
       record { near = near-part o (neighborhood-part (room (wf .sheet)) S _ i g up E) (near-less (omega arith) (working-near m (wf .sheet) k (s .near) w)); ordered = o }
 
-  number : (up : Bool) (i j : ℕ) → i < varsOf m → j < bandsOf m → Bound (numeratorOver m S k E up i j) maxNumerator
-  number up i j g l = bound-less (number-near wf (near-around up i g .near) up i j g l) (omega (arith, wf .sheet .vars-high))
+  near-part-of : (up : Bool) (i j : ℕ) → i < varsOf m → T (bandMet m j (around m S k E up i)) → Sized (varsOf m) (maxReached - maxCap) (part m j (around m S k E up i))
+  near-part-of up i j g t =
+      let a = near-around up i g in
+      let o = part-ordered m (wf .sheet) j (a .ordered) t in
+      record { near = near-part o (part-within m (wf .sheet) j (around m S k E up i)) (a .near); ordered = o }
+
+  number : (up : Bool) (i j : ℕ) → i < varsOf m → j < bandsOf m → T (bandMet m j (around m S k E up i)) → Bound (numeratorOver m S k E up i j) maxNumerator
+  number up i j g l t = bound-less (number-near wf (near-part-of up i j g t .near) up i j g l) (omega (arith, wf .sheet .vars-high))
 
   spread : (i j : ℕ) → i < varsOf m → j < bandsOf m → Bound (rowOf m j i .d) maxSpread
   spread i j g l = let d = wf .sheet .rows j i l g .d in bound-in (omega (ints, d .low)) (d .high)
@@ -146,9 +156,10 @@ module _ {m : Machine} (wf : Accepted m) {S : List ℤ} (k : ℕ) {b : ℕ} (s :
     swept = hull-near (room (wf .sheet)) (near-less (omega arith) (s .near)) (near-less (omega arith) (end-near m (wf .sheet) k (s .near) E));
     neighborhoods = near-around;
     limits = λ up i g. bound-less (limit-near (wf .sheet) (s .near) up (k + 1) i g) (omega arith);
+    parts = near-part-of;
     numbers = number;
-    below = λ up i j g l. bound-sub (number up i j g l) (spread i j g l);
-    above = λ up i j g l. bound-sum (number up i j g l) (spread i j g l);
+    below = λ up i j g l t. bound-sub (number up i j g l t) (spread i j g l);
+    above = λ up i j g l t. bound-sum (number up i j g l t) (spread i j g l);
   }
 
 -- RANGES: each round of each step of a reach, its start box S and its ticks leaving room

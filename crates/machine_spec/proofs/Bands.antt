@@ -1,16 +1,18 @@
--- What it is that a band meets a range of numbers; and from the first edge on every number has a band. Assumes nothing.
+-- What it is that a band meets a range of numbers; edges ascend; and from the first edge on every number has a band. Assumes nothing.
 use mathlib.Core.Logic.{⊎-elim}
 use mathlib.Core.Bool.{Bool, true, false, not, _&&_, _||_}
 use mathlib.Core.List.{List}
 use Prim.Native.Nat.{ℕ, zero, suc, _+_, _<_}
+use native.Mathlib.Nat.{add-zero, add-suc}
 use native.Mathlib.Numerals.{add-one}
 use native.Mathlib.Omega.{arith}
 use lib.Dec.{T, leb, leb→le, nleb→lt}
 use lib.IntN.{ℤ}
-use lib.Signed.{leZ, ltZ, _≤ℤ_, _<ℤ_, leZ-yes, ltZ-yes}
+use lib.Signed.{leZ, ltZ, _≤ℤ_, _<ℤ_, ≤ℤ-refl, leZ-yes, ltZ-yes}
 use mir.Facts.{and-yes, or-yes}
 use Rattle.integers.proofs.Z.{ints, le-or-lt}
-use Rattle.sheet_spec.specs.Slots.{edge}
+use Rattle.sheet_spec.specs.Slots.{bands, edge}
+use Rattle.sheet_spec.specs.Valid.{Valid}
 use Rattle.machine_spec.specs.Machine.{bandMeets}
 
 both : (a b : Bool) → T a → T b → T (a && b)
@@ -45,6 +47,15 @@ module _ {v : List ℤ} {bands k : ℕ} {l h : ℤ} where
 -- a band that meets a range meets each that holds it
 pub meets-wider : {v : List ℤ} {bands k : ℕ} {l l′ h h′ : ℤ} → l′ ≤ℤ l → h ≤ℤ h′ → Meets v bands k l h → Meets v bands k l′ h′
 meets-wider u w s = record { above = omega (ints, s .above); below = λ g. omega (ints, s .below g) }
+
+-- ---- edges ascend
+
+pub edge-below : {v : List ℤ} → Valid v → (k : ℕ) → k + 1 < bands v → edge v k <ℤ edge v (k + 1)
+edge-below wf k h = rw add-one (wf .edges k (omega arith))
+
+pub edges-ascend : {v : List ℤ} → Valid v → (k d : ℕ) → k + d < bands v → edge v k ≤ℤ edge v (k + d)
+edges-ascend {v} wf k zero h = rw (add-zero k) (≤ℤ-refl (edge v k))
+edges-ascend wf k (suc d) h = rw (add-suc k d) (omega (ints, edges-ascend wf k d (omega arith), wf .edges (k + d) (omega arith)))
 
 -- ---- from the first edge on every number has a band
 

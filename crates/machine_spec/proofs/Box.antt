@@ -2,7 +2,7 @@
 use mathlib.Core.Path.{_≡_, refl, sym, ap, _∙_, subst}
 use mathlib.Core.Logic.{⊎-elim}
 use mathlib.Core.Bool.{Bool, true, false, _&&_, _||_}
-use mathlib.Core.List.{List}
+use mathlib.Core.List.{List, [], _∷_}
 use Prim.Native.Nat.{ℕ, zero, suc, _+_, _≤_, _<_}
 use native.Mathlib.Nat.{eq-or-lt-of-le}
 use native.Mathlib.Numerals.{add-one}
@@ -40,6 +40,21 @@ sum-mono (suc n) f g h =
     simp flat (omega ints)
 
 -- ---- the sides at a place
+
+-- two stores at one place of lists as long: what relates the numbers at j, and the stored ones if that is their place, relates them after
+pub set-both : (R : ℤ → ℤ → Type 0) (k l : List ℤ) (i j : ℕ) (v w : ℤ) → length k ≡ length l → R (k ! j) (l ! j) → (j ≡ i → R v w) → R (set k i v ! j) (set l i w ! j)
+set-both R [] [] i j v w e h f = h
+set-both R [] (y ∷ l) i j v w e h f = absurd (omega arith)
+set-both R (x ∷ k) [] i j v w e h f = absurd (omega arith)
+set-both R (x ∷ k) (y ∷ l) zero zero v w e h f = f refl
+set-both R (x ∷ k) (y ∷ l) zero (suc j) v w e h f = h
+set-both R (x ∷ k) (y ∷ l) (suc i) zero v w e h f = h
+set-both R (x ∷ k) (y ∷ l) (suc i) (suc j) v w e h f = set-both R k l i j v w (omega arith) h (λ q. f (ap suc q))
+
+-- two such stores
+pub set-two : (R : ℤ → ℤ → Type 0) (k l : List ℤ) (i i′ j : ℕ) (v w v′ w′ : ℤ) → length k ≡ length l → R (k ! j) (l ! j) → (j ≡ i → R v w) → (j ≡ i′ → R v′ w′)
+    → R (set (set k i v) i′ v′ ! j) (set (set l i w) i′ w′ ! j)
+set-two R k l i i′ j v w v′ w′ e r f g = set-both R (set k i v) (set l i w) i′ j v′ w′ (length-set k i v ∙ (e ∙ sym (length-set l i w))) (set-both R k l i j v w e r f) g
 
 pub sides-length : (n : ℕ) (f g : ℕ → ℤ) → length (boxOf n f g) ≡ boxSize
 unfolding boxOf

@@ -1,5 +1,5 @@
--- The definitions compute: document 01's checks of divisions, bands and no-go boxes, and the rates of a machine of two
--- bands. Assumes nothing.
+-- The definitions compute: document 01's checks of divisions, bands and no-go boxes, the rates of a machine of two
+-- bands and the parts of a box that lie in three. Assumes nothing.
 use mathlib.Core.Path.{_≡_, refl}
 use mathlib.Core.Bool.{Bool, true, false}
 use mathlib.Core.List.{List, [], _∷_, _++_}
@@ -10,7 +10,7 @@ use Rattle.sheet_spec.specs.Slots.{N, rowSize, rowAt}
 use Rattle.sheet_spec.specs.Box.{meets}
 use Rattle.machine_spec.specs.declared.Law.the-variants.{Baseline, Command}
 use Rattle.machine_spec.specs.Machine.{machine, bandMeets, change}
-use Rattle.machine_spec.specs.Rate.{rates}
+use Rattle.machine_spec.specs.Rate.{part, rates}
 use Rattle.machine_spec.proofs.Everything.{everything}
 
 pub zeros : ℕ → List ℤ
@@ -59,11 +59,29 @@ banded : (bandAt (negsuc 0) ≡ true ∷ (false ∷ [])) × (bandAt (pos 0) ≡ 
 unfolding everything zeros band v bandAt
 banded = (refl, refl)
 
--- a step of length 2 from −20..10 with the working box −70..60: the neighborhoods are −70..40 and −50..60
-under-baseline : rates (machine v Baseline) (box (negsuc 19) (pos 10)) 2 (box (negsuc 69) (pos 60)) ≡ box (negsuc 9) (pos 16)
+-- a step of length 2 from −20..10 with the working box −70..60: the neighborhoods are −70..40 and −50..60, of which −70..−1 and 0..40
+-- and −50..−1 and 0..60 lie in the bands
+under-baseline : rates (machine v Baseline) (box (negsuc 19) (pos 10)) 2 (box (negsuc 69) (pos 60)) ≡ box (negsuc 9) (pos 9)
 unfolding everything zeros box band v
 under-baseline = refl
 
-under-command : rates (machine v (Command (pos 5))) (box (negsuc 19) (pos 10)) 2 (box (negsuc 69) (pos 60)) ≡ box (negsuc 7) (pos 18)
+under-command : rates (machine v (Command (pos 5))) (box (negsuc 19) (pos 10)) 2 (box (negsuc 69) (pos 60)) ≡ box (negsuc 7) (pos 12)
 unfolding everything zeros box band v
 under-command = refl
+
+-- a sheet's value with edges −2,000,000, −10 and 10: of −20..30 the parts −20..−11, −10..9 and 10..30 lie in its bands
+v′ : List ℤ
+v′ = (pos 1 ∷ pos 3 ∷ pos 1 ∷ pos 0 ∷ pos 4 ∷ pos 4 ∷ pos 4 ∷ negsuc 24 ∷ pos 25 ∷ pos 20 ∷ zeros (N - 1))
+    ++ (band (negsuc 1999999) (pos 0) (pos 0) (pos 0) (pos 2) ++ (band (negsuc 9) (pos 0) (pos 0) (pos 0) (pos 2) ++ band (pos 10) (pos 0) (pos 0) (pos 0) (pos 2)))
+
+partOf : ℕ → ℤ → ℤ → List ℤ
+partOf k l h = part (machine v′ Baseline) k (box l h)
+
+parts : (partOf 0 (negsuc 19) (pos 30) ≡ box (negsuc 19) (negsuc 10)) × ((partOf 1 (negsuc 19) (pos 30) ≡ box (negsuc 9) (pos 9)) × (partOf 2 (negsuc 19) (pos 30) ≡ box (pos 10) (pos 30)))
+unfolding everything zeros box band v′ partOf
+parts = (refl, (refl, refl))
+
+-- an edge on a side: of −10..10 the parts −10..9 and 10..10 lie in the second and the last band
+on-an-edge : (partOf 2 (negsuc 9) (pos 10) ≡ box (pos 10) (pos 10)) × (partOf 1 (negsuc 9) (pos 10) ≡ box (negsuc 9) (pos 9))
+unfolding everything zeros box band v′ partOf
+on-an-edge = (refl, refl)

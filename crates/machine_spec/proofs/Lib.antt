@@ -7,6 +7,7 @@ pub mod Inside
 pub mod Neighborhood
 pub mod Bands
 pub mod Facts
+pub mod Part
 pub mod Offers
 pub mod Sound
 pub mod Progress

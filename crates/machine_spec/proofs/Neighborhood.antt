@@ -1,18 +1,19 @@
 -- The neighborhood of a face: it holds the working box's states near the face, it is a part of that box, wider in a wider one, and
 -- never empty; and the working box is had back from it by one side. Assumes nothing.
-use mathlib.Core.Path.{_≡_, refl, ap}
+use mathlib.Core.Path.{_≡_, refl, sym, _∙_}
 use mathlib.Core.Bool.{Bool, true, false, not}
-use mathlib.Core.List.{List, [], _∷_}
-use Prim.Native.Nat.{ℕ, zero, suc, _+_, _≤_, _<_}
+use mathlib.Core.List.{List}
+use Prim.Native.Nat.{ℕ, _+_, _≤_, _<_}
 use native.Mathlib.Omega.{arith}
 use lib.IntN.{ℤ, pos, _+ℤ_, _-ℤ_}
-use lib.ListN.{length, set}
+use lib.ListN.{length, length-set}
 use lib.Signed.{_≤ℤ_}
 use Rattle.integers.proofs.Z.{ints, flat}
 use Rattle.sheet_spec.specs.Slots.{_!_, N}
 use Rattle.machine_spec.specs.Box.{side, Ordered, In}
 use Rattle.machine_spec.specs.Rate.{outer, neighborhood}
 use Rattle.sheet_spec.proofs.Box.{differ}
+use Rattle.machine_spec.proofs.Box.{set-both}
 use Rattle.machine_spec.proofs.Face.{Beyond, beyond-refl, beyond-trans, beyond-flip, beyond-back, outer-left, outer-in, outer-mono}
 use Rattle.machine_spec.proofs.Inside.{in-side, in-by, Inside, ordered-side, ordered-by}
 
@@ -33,15 +34,10 @@ not-self : (up : Bool) → up ≡ not up → ⊥
 not-self false e = differ e refl
 not-self true e = differ refl e
 
--- two stores at one place of lists as long: what relates the numbers at j, and the stored ones if that is their place, relates them after
-set-both : (R : ℤ → ℤ → Type 0) (k l : List ℤ) (i j : ℕ) (v w : ℤ) → length k ≡ length l → R (k ! j) (l ! j) → (j ≡ i → R v w) → R (set k i v ! j) (set l i w ! j)
-set-both R [] [] i j v w e h f = h
-set-both R [] (y ∷ l) i j v w e h f = absurd (omega arith)
-set-both R (x ∷ k) [] i j v w e h f = absurd (omega arith)
-set-both R (x ∷ k) (y ∷ l) zero zero v w e h f = f refl
-set-both R (x ∷ k) (y ∷ l) zero (suc j) v w e h f = h
-set-both R (x ∷ k) (y ∷ l) (suc i) zero v w e h f = h
-set-both R (x ∷ k) (y ∷ l) (suc i) (suc j) v w e h f = set-both R k l i j v w (omega arith) h (λ q. f (ap suc q))
+pub neighborhood-length : (up : Bool) (S : List ℤ) (reach : ℤ) (E F : List ℤ) → length E ≡ length F → (i : ℕ) → length (neighborhood up S reach E i) ≡ length (neighborhood up S reach F i)
+unfolding neighborhood
+neighborhood-length false S reach E F l i = length-set E (i + N) _ ∙ (l ∙ sym (length-set F (i + N) _))
+neighborhood-length true S reach E F l i = length-set E i _ ∙ (l ∙ sym (length-set F i _))
 
 -- ---- its states and its sides
 

@@ -1,10 +1,12 @@
 -- A wider box has wider rates, and the rates over two boxes that share a state are in order. Assumes nothing.
+use mathlib.Core.Path.{_≡_}
 use mathlib.Core.Bool.{Bool, true, false, cond}
 use mathlib.Core.List.{List}
 use Prim.Native.Nat.{ℕ, zero, suc, _<_}
 use native.Mathlib.Omega.{arith}
 use lib.Dec.{T}
 use lib.IntN.{ℤ, _*ℤ_}
+use lib.ListN.{length}
 use lib.Signed.{_≤ℤ_}
 use Rattle.integers.proofs.Z.{ints}
 use Rattle.sheet_spec.specs.Slots.{_!_, Row}
@@ -17,6 +19,7 @@ use Rattle.machine_spec.proofs.Inside.{Inside}
 use Rattle.machine_spec.proofs.Facts.{cap-low, divisor}
 use Rattle.machine_spec.proofs.Offers.{over-wider, over-ordered}
 use Rattle.machine_spec.proofs.Bands.{Band, meets-read, meets-show, meets-wider}
+use Rattle.machine_spec.proofs.Part.{part-ordered, part-inside}
 use Rattle.machine_spec.proofs.Sound.{change-between, beyond-neutral, rate-bounds}
 use Rattle.machine_spec.proofs.Progress.{some-tick}
 
@@ -42,14 +45,7 @@ cond-beyond true false f g h = absurd (f tt)
 cond-beyond false true f g h = h
 cond-beyond {up} false false {z = z} f g h = beyond-refl up z
 
-module _ {m : Machine} (wf : Accepted m) (A B : List ℤ) (o : Ordered (varsOf m) A) (s : Inside (varsOf m) A B) where
-  -- what a band's row is bounded over: not empty where the band meets the box, and wider in a wider box
-  part-ordered : (k : ℕ) → T (bandMet m k A) → Ordered (varsOf m) (part m k A)
-  part-ordered k t = o
-
-  part-inside : (k : ℕ) → T (bandMet m k A) → Inside (varsOf m) (part m k A) (part m k B)
-  part-inside k t = s
-
+module _ {m : Machine} (wf : Accepted m) {A B : List ℤ} (l : length A ≡ length B) (o : Ordered (varsOf m) A) (s : Inside (varsOf m) A B) where
   met-wider : (k : ℕ) → T (bandMet m k A) → T (bandMet m k B)
   met-wider k t = meets-show (meets-wider (s .at false (bandVarOf m) (wf .sheet .var) .order) (s .at true (bandVarOf m) (wf .sheet .var) .order) (meets-read t))
 
@@ -57,9 +53,11 @@ module _ {m : Machine} (wf : Accepted m) (A B : List ℤ) (o : Ordered (varsOf m
   unfolding bandRate
   share-mono up i k h g =
       cond-beyond (bandMet m k A) (bandMet m k B) (met-wider k)
-      (λ t. change-mono up (cap m i) (rowOf m k i) _ _ (divisor (wf .sheet) k i g h)
-      (bound-mono up (varsOf m) (rowOf m k i) (part m k A) (part m k B) (part-ordered k t) (part-inside k t) (over-ordered wf k g _ (part-ordered k t))
-      (over-wider m k _ _ (part-ordered k t) (part-inside k t) false .order) (over-wider m k _ _ (part-ordered k t) (part-inside k t) true .order)))
+      (λ t.
+      let u = part-ordered m (wf .sheet) k o t in
+      let w = part-inside m (wf .sheet) k l s in
+      change-mono up (cap m i) (rowOf m k i) _ _ (divisor (wf .sheet) k i g h)
+      (bound-mono up (varsOf m) (rowOf m k i) (part m k A) (part m k B) u w (over-ordered wf k g _ u) (over-wider m k _ _ u w false .order) (over-wider m k _ _ u w true .order)))
       (beyond-neutral (change-between up (cap m i) (rowOf m k i) _ (cap-low (wf .sheet) i h)) up)
 
   pub rate-mono : (up : Bool) (i : ℕ) → i < varsOf m → Beyond up (rate up m B i) (rate up m A i)

@@ -12,12 +12,13 @@ use Rattle.integers.proofs.Z.{ints, min-is, max-is, neg}
 use Rattle.sheet_spec.specs.Slots.{_!_, Row}
 use Rattle.sheet_spec.specs.Valid.{Between, Valid}
 use Rattle.machine_spec.specs.Box.{In}
-use Rattle.machine_spec.specs.Machine.{Machine, varsOf, bandsOf, bandVarOf, cap, rowOf, bandHolds, clamp, numerator, change, Tick}
+use Rattle.machine_spec.specs.Machine.{Machine, varsOf, bandsOf, bandVarOf, cap, rowOf, clamp, numerator, change, Tick}
 use Rattle.machine_spec.specs.Rate.{outer, outermost, weighted, bound, bandMet, part, offeredOver, neutral, bandRate, rate}
 use Rattle.machine_spec.proofs.Face.{Beyond, beyond-refl, beyond-trans, beyond-sum, sum-beyond, span, change-mono, cond-one, outer-one, outermost-one, outermost-at}
 use Rattle.machine_spec.proofs.Facts.{cap-low, divisor}
 use Rattle.machine_spec.proofs.Offers.{offered-between}
 use Rattle.machine_spec.proofs.Bands.{meets-read, meets-show, meets-wider}
+use Rattle.machine_spec.proofs.Part.{part-holds}
 
 -- ---- a row over a box that holds the state, and over commands that hold the one used
 
@@ -32,12 +33,8 @@ pub record InPart (m : Machine) (B : List ℤ) (k : ℕ) (x : List ℤ) (u : ℤ
   pub state : In (varsOf m) (part m k B) x
   pub command : Between (offeredOver false m k (part m k B)) (offeredOver true m k (part m k B)) u
 
--- the part of a box that a band's row is bounded over holds those of the box's states that are in the band
-pub part-holds : (m : Machine) (k : ℕ) (B x : List ℤ) → In (varsOf m) B x → T (bandHolds m k x) → In (varsOf m) (part m k B) x
-part-holds m k B x b t = b
-
 pub tick-in-part : {m : Machine} {x y : List ℤ} (B : List ℤ) → Valid (m .sheet) → In (varsOf m) B x → (t : Tick m x y) → InPart m B (t .band) x (t .used)
-tick-in-part {m} {x} B wf b t = let s = part-holds m (t .band) B x b (t .holds) in record {
+tick-in-part {m} {x} B wf b t = let s = part-holds m wf (t .band) B x b (t .holds) in record {
   meets = meets-show (meets-wider (b .low (bandVarOf m) (wf .var)) (b .high (bandVarOf m) (wf .var)) (meets-read (t .holds)));
   state = s;
   command = offered-between m (t .band) (part m (t .band) B) x s (t .offered);
@@ -45,9 +42,13 @@ tick-in-part {m} {x} B wf b t = let s = part-holds m (t .band) B x b (t .holds) 
 
 -- ---- the rates
 
-cond-yes : (t : Bool) (x y : ℤ) → T t → cond t x y ≡ x
+pub cond-yes : (t : Bool) (x y : ℤ) → T t → cond t x y ≡ x
 cond-yes true x y h = refl
 cond-yes false x y h = absurd h
+
+pub cond-no : (t : Bool) (x y : ℤ) → (T t → ⊥) → cond t x y ≡ y
+cond-no true x y h = absurd (h tt)
+cond-no false x y h = refl
 
 -- a band's share in a rate bounds the outermost change from every state, with every command, that it covers
 pub share-bounds : {m : Machine} {B : List ℤ} {k : ℕ} {x : List ℤ} {u : ℤ} (up : Bool) (i : ℕ) → InPart m B k x u → 0 < natAbs (rowOf m k i .q)

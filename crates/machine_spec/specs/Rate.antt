@@ -1,12 +1,13 @@
--- The rates of a box's faces (document 01, "One lifted step"). All of it computes.
+-- The rates of a box's faces (document 01, "One lifted step"; document 02, paper 3). All of it computes.
 -- A face is `false` for a lower and `true` for an upper one.
 use mathlib.Core.Bool.{Bool, true, false, cond}
 use mathlib.Core.List.{List}
 use Prim.Native.Nat.{ℕ, zero, suc, _+_}
+use lib.Dec.{leb}
 use lib.IntN.{ℤ, pos, negℤ, _+ℤ_, _-ℤ_, _*ℤ_}
 use lib.ListN.{set}
 use Rattle.integers.specs.Order.{minZ, maxZ}
-use Rattle.sheet_spec.specs.Slots.{N, Row}
+use Rattle.sheet_spec.specs.Slots.{N, Row, edge}
 use Rattle.sheet_spec.specs.Box.{lo, hi}
 use Rattle.machine_spec.specs.declared.Law.the-variants.{Baseline, Command}
 use Rattle.machine_spec.specs.Box.{sum, boxOf}
@@ -36,9 +37,15 @@ bound up n r B u v = weighted up n r B +ℤ outer up (r .b *ℤ u) (r .b *ℤ v)
 abbrev pub bandMet : Machine → ℕ → List ℤ → Bool
 bandMet m k B = bandMeets (m .sheet) (bandsOf m) k (lo B (bandVarOf m)) (hi B (bandVarOf m))
 
--- what band k's row is bounded over: the whole box
-abbrev pub part : Machine → ℕ → List ℤ → List ℤ
-part m k B = B
+-- a lower (`false`) or an upper side of the band variable, cut to band k: from its edge, to just below the next edge, the last without end
+unfoldable pub cutToBand : Bool → Machine → ℕ → ℤ → ℤ
+cutToBand false m k l = maxZ l (edge (m .sheet) k)
+cutToBand true m k h = cond (leb (bandsOf m) (k + 1)) h (minZ h (edge (m .sheet) (k + 1) -ℤ pos 1))
+
+-- the part of a box that lies in band k, which the band's row is bounded over (document 02, paper 3)
+unfoldable pub part : Machine → ℕ → List ℤ → List ℤ
+part m k B =
+    set (set B (bandVarOf m) (cutToBand false m k (lo B (bandVarOf m)))) (bandVarOf m + N) (cutToBand true m k (hi B (bandVarOf m)))
 
 -- bounds of the least and of the greatest command that the law offers in band k, over the states of a box
 unfoldable pub offeredOver : Bool → Machine → ℕ → List ℤ → ℤ

@@ -30,11 +30,11 @@ sheet2 = 83 ∷ 72 ∷ 2 ∷ 2 ∷ 1 ∷ 1 ∷ 0 ∷ 8 ∷ 0 ∷ 1 ∷ 0 ∷ 4 �
 unfoldable sheet3 : List ℕ
 sheet3 = 83 ∷ 72 ∷ 3 ∷ 1 ∷ 1 ∷ 2 ∷ 0 ∷ 2 ∷ 0 ∷ 6 ∷ 0 ∷ 6 ∷ 255 ∷ 255 ∷ 255 ∷ 251 ∷ 0 ∷ 0 ∷ 0 ∷ 5 ∷ 3 ∷ 132 ∷ 3 ∷ 132 ∷ 3 ∷ 132 ∷ 66 ∷ 68 ∷ 255 ∷ 225 ∷ 123 ∷ 128 ∷ 255 ∷ 255 ∷ 255 ∷ 255 ∷ 0 ∷ 0 ∷ 0 ∷ 1 ∷ 255 ∷ 251 ∷ 0 ∷ 1 ∷ 0 ∷ 0 ∷ 0 ∷ 3 ∷ 0 ∷ 0 ∷ 0 ∷ 0 ∷ 0 ∷ 0 ∷ 0 ∷ 0 ∷ 0 ∷ 32 ∷ 0 ∷ 0 ∷ 255 ∷ 251 ∷ 255 ∷ 255 ∷ 0 ∷ 2 ∷ 0 ∷ 0 ∷ 0 ∷ 0 ∷ 0 ∷ 0 ∷ 0 ∷ 4 ∷ 0 ∷ 32 ∷ 0 ∷ 1 ∷ 0 ∷ 0 ∷ 255 ∷ 251 ∷ 255 ∷ 255 ∷ 0 ∷ 0 ∷ 0 ∷ 5 ∷ 0 ∷ 0 ∷ 0 ∷ 0 ∷ 0 ∷ 32 ∷ 78 ∷ 71 ∷ 0 ∷ 0 ∷ 1 ∷ 244 ∷ 0 ∷ 0 ∷ 2 ∷ 88 ∷ 0 ∷ 0 ∷ 1 ∷ 244 ∷ 0 ∷ 0 ∷ 2 ∷ 88 ∷ 0 ∷ 0 ∷ 1 ∷ 244 ∷ 0 ∷ 0 ∷ 2 ∷ 88 ∷ 82 ∷ 67 ∷ 255 ∷ 255 ∷ 255 ∷ 166 ∷ 0 ∷ 0 ∷ 0 ∷ 90 ∷ 255 ∷ 255 ∷ 255 ∷ 166 ∷ 0 ∷ 0 ∷ 0 ∷ 90 ∷ 255 ∷ 255 ∷ 255 ∷ 166 ∷ 0 ∷ 0 ∷ 0 ∷ 90 ∷ []
 
-reach-under-command : reachFile sheet0 9 4 (Command (negsuc 6)) (pos 36 ∷ negsuc 2 ∷ pos 0 ∷ pos 0 ∷ pos 41 ∷ pos 5 ∷ pos 0 ∷ pos 0 ∷ []) ≡ answered (negsuc 27 ∷ negsuc 50 ∷ pos 0 ∷ pos 0 ∷ pos 109 ∷ pos 31 ∷ pos 0 ∷ pos 0 ∷ []) (negsuc 27 ∷ negsuc 50 ∷ pos 0 ∷ pos 0 ∷ pos 109 ∷ pos 37 ∷ pos 0 ∷ pos 0 ∷ []) 8
+reach-under-command : reachFile sheet0 9 4 (Command (negsuc 6)) (pos 36 ∷ negsuc 2 ∷ pos 0 ∷ pos 0 ∷ pos 41 ∷ pos 5 ∷ pos 0 ∷ pos 0 ∷ []) ≡ answered (negsuc 27 ∷ negsuc 45 ∷ pos 0 ∷ pos 0 ∷ pos 105 ∷ pos 27 ∷ pos 0 ∷ pos 0 ∷ []) (negsuc 27 ∷ negsuc 50 ∷ pos 0 ∷ pos 0 ∷ pos 105 ∷ pos 33 ∷ pos 0 ∷ pos 0 ∷ []) 9
 unfolding sheet0 everything
 reach-under-command = refl
 
-reach-under-baseline : reachFile sheet1 6 3 Baseline (negsuc 19 ∷ negsuc 8 ∷ pos 0 ∷ pos 2 ∷ pos 20 ∷ pos 7 ∷ pos 0 ∷ pos 5 ∷ []) ≡ answered (negsuc 25 ∷ negsuc 26 ∷ negsuc 23 ∷ negsuc 27 ∷ pos 26 ∷ pos 28 ∷ pos 24 ∷ pos 26 ∷ []) (negsuc 25 ∷ negsuc 26 ∷ negsuc 23 ∷ negsuc 27 ∷ pos 26 ∷ pos 28 ∷ pos 24 ∷ pos 26 ∷ []) 11
+reach-under-baseline : reachFile sheet1 6 3 Baseline (negsuc 19 ∷ negsuc 8 ∷ pos 0 ∷ pos 2 ∷ pos 20 ∷ pos 7 ∷ pos 0 ∷ pos 5 ∷ []) ≡ answered (negsuc 25 ∷ negsuc 26 ∷ negsuc 23 ∷ negsuc 27 ∷ pos 26 ∷ pos 28 ∷ pos 24 ∷ pos 23 ∷ []) (negsuc 25 ∷ negsuc 26 ∷ negsuc 23 ∷ negsuc 27 ∷ pos 26 ∷ pos 28 ∷ pos 24 ∷ pos 23 ∷ []) 11
 unfolding sheet1 everything
 reach-under-baseline = refl
 

@@ -1,5 +1,5 @@
-//! A plain guard, written from the paper "The leg press guard: sheets, boxes
-//! and the keep" alone. No concern for speed.
+//! A plain guard, written from document 01, "The leg press guard: sheets, boxes
+//! and the keep", and paper 3 of document 02 alone. No concern for speed.
 
 pub mod decision;
 pub mod listing;

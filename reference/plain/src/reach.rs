@@ -71,6 +71,18 @@ fn term(factor: i64, lower: i64, upper: i64) -> (i64, i64) {
     (p.min(q), p.max(q))
 }
 
+/// The part of a slab that lies in band k, which the slab meets: from the band's
+/// edge up to just below the next edge, the last band without end.
+fn part_in_band(sheet: &Sheet, k: usize, slab: &StateBox) -> StateBox {
+    let v = sheet.band_variable as usize;
+    let mut part = slab.clone();
+    part[v].0 = part[v].0.max(sheet.band[k].edge as i64);
+    if k + 1 < sheet.bands as usize {
+        part[v].1 = part[v].1.min(sheet.band[k + 1].edge as i64 - 1);
+    }
+    part
+}
+
 /// The least and the greatest allowed change of variable i over the slab, all
 /// its commands and every band that the slab meets. None is the plain law.
 pub fn rates(sheet: &Sheet, i: usize, slab: &StateBox, command: Option<i32>) -> (i64, i64) {
@@ -88,13 +100,15 @@ pub fn rates(sheet: &Sheet, i: usize, slab: &StateBox, command: Option<i32>) -> 
             Some(u) => (u as i64, u as i64),
             None => (band.safety_least as i64, band.safety_greatest as i64),
         };
-        // The row bounded over the whole slab, side by side.
+        // The row bounded over the part of the slab that lies in this band, side
+        // by side (document 02, paper 3).
+        let part = part_in_band(sheet, k, slab);
         let row = &band.rows[i];
         let (mut n_lower, mut n_upper) = term(row.b as i64, u_lower, u_upper);
         n_lower += row.c as i64;
         n_upper += row.c as i64;
         for j in 0..sheet.n as usize {
-            let (lower, upper) = term(row.a[j] as i64, slab[j].0, slab[j].1);
+            let (lower, upper) = term(row.a[j] as i64, part[j].0, part[j].1);
             n_lower += lower;
             n_upper += upper;
         }

@@ -426,37 +426,96 @@ fn slab_from_the_start_face() {
     assert_eq!((end, swept, rounds), (vec![(-2, 98)], vec![(-2, 100)], 2));
 }
 
-#[test]
-fn each_band_row_over_the_whole_slab() {
-    // Bands from -2,000,000 and 0; slab -10..10 meets both. Band one: N = x,
-    // bounded over -10..10. Band two: N = 3 and commands 2..4 with b = 1.
+/// Sheet A with these bands: edge, safety range, row.
+fn with_bands(cap: u16, bands: &[(i32, (i32, i32), Row)]) -> Sheet {
     let mut s = sheet_a();
-    s.caps[0] = 1_000;
-    s.bands = 2;
-    s.band[0].rows[0] = Row {
-        a: [1, 0, 0, 0],
-        b: 0,
-        c: 0,
-        d: 0,
-        q: 1,
-    };
-    s.band[1] = Band {
-        edge: 0,
-        safety_least: 2,
-        safety_greatest: 4,
-        rows: s.band[0].rows,
-    };
-    s.band[1].rows[0] = Row {
-        a: [0; 4],
-        b: 1,
-        c: 3,
-        d: 5,
-        q: 1,
-    };
-    assert_eq!(rates(&s, 0, &vec![(-10, 10)], None), (-10, 12));
-    assert_eq!(rates(&s, 0, &vec![(-10, 10)], Some(20)), (-10, 28));
-    assert_eq!(rates(&s, 0, &vec![(-10, -1)], None), (-10, -1));
-    assert_eq!(rates(&s, 0, &vec![(0, 10)], None), (0, 12));
+    s.caps[0] = cap;
+    s.bands = bands.len() as u8;
+    for (k, (edge, safety, row)) in bands.iter().enumerate() {
+        s.band[k] = Band {
+            edge: *edge,
+            safety_least: safety.0,
+            safety_greatest: safety.1,
+            ..Band::default()
+        };
+        s.band[k].rows[0] = *row;
+    }
+    s
+}
+
+fn row_of_one(a: i16, b: i16, c: i32, d: i32, q: u16) -> Row {
+    Row {
+        a: [a, 0, 0, 0],
+        b,
+        c,
+        d,
+        q,
+    }
+}
+
+#[test]
+fn each_band_row_over_its_part_of_the_slab() {
+    // Band one up to -1: N = x. Band two 0..6: N = 2x + u, spread 5, commands
+    // 2..4. Band three from 7: N = -3x.
+    let s = with_bands(
+        1_000,
+        &[
+            (-2_000_000, (0, 0), row_of_one(1, 0, 0, 0, 1)),
+            (0, (2, 4), row_of_one(2, 1, 0, 5, 1)),
+            (7, (0, 0), row_of_one(-3, 0, 0, 0, 1)),
+        ],
+    );
+    let over = |lower, upper| rates(&s, 0, &vec![(lower, upper)], None);
+    // -10..-1, 2 - 5 .. 12 + 4 + 5, -30..-21.
+    assert_eq!(over(-10, 10), (-30, 21));
+    // The same with u = 20 in band two: 15..37.
+    assert_eq!(rates(&s, 0, &vec![(-10, 10)], Some(20)), (-30, 37));
+    assert_eq!(over(-10, -1), (-10, -1));
+    // An edge on the slab's upper side: band two at 0 alone, -3..9.
+    assert_eq!(over(-10, 0), (-10, 9));
+    assert_eq!(over(0, 6), (-3, 21));
+    // Band two at 6 alone, 9..21, band three at 7 alone, -21.
+    assert_eq!(over(6, 7), (-21, 21));
+    // The last band has no end.
+    assert_eq!(over(7, 200), (-600, -21));
+}
+
+#[test]
+fn a_slab_cut_by_its_depth_and_by_an_edge() {
+    // Start 0..100, cap 4, k = 1: the lower slab is 0..8. Band one up to 5:
+    // N = -x, over 0..5, floor(-5 / 2) = -3; over 0..8 it would be -4. Band two
+    // from 6: N = 8 - x, over 6..8, 0; beyond 8 it would be less. The upper slab
+    // is 92..100, band two: -42, clamped to -4.
+    let s = with_bands(
+        4,
+        &[
+            (-2_000_000, (0, 0), row_of_one(-1, 0, 0, 0, 2)),
+            (6, (0, 0), row_of_one(-1, 0, 8, 0, 2)),
+        ],
+    );
+    let reached = reach(&s, 1, 1, None, &[(0, 100)]).unwrap();
+    assert_eq!(reached, (vec![(-3, 96)], vec![(-3, 100)], 1));
+}
+
+#[test]
+fn another_variable_is_cut_by_the_band_variable() {
+    // x's rows depend on z, the band variable, 0..20 with an edge at 10. x: band
+    // one N = z, 0..9; band two N = 25 - z, 5..15. Over the whole slab both
+    // would go to 20 and 25.
+    let mut s = with_bands(
+        1_000,
+        &[
+            (-2_000_000, (0, 0), row_of_one(0, 0, 0, 0, 1)),
+            (10, (0, 0), row_of_one(0, 0, 25, 0, 1)),
+        ],
+    );
+    s.n = 2;
+    s.band_variable = 1;
+    s.caps[1] = 1_000;
+    s.band[0].rows[0].a[1] = 1;
+    s.band[1].rows[0].a[1] = -1;
+    assert_eq!(rates(&s, 0, &vec![(3, 3), (0, 20)], None), (0, 15));
+    assert_eq!(rates(&s, 0, &vec![(3, 3), (0, 9)], None), (0, 9));
 }
 
 // ---- The boxes hold every run of the machine ----

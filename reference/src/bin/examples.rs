@@ -5,7 +5,8 @@ use second_guard::boxes::StateBox;
 use second_guard::decision::{
     check_recovery_watched, decide, decide_watched, read_question, Decision, Faults, RecoveryCheck,
 };
-use second_guard::reach::{reach, Budget, Face, Law, Step, Watch};
+use second_guard::neighborhoods::neighborhoods;
+use second_guard::reach::{reach, Budget, Law, Step, Watch};
 use second_guard::sheet::{self, Band, CommandRange, Row, Sheet};
 use std::fmt::Write;
 use std::ops::ControlFlow;
@@ -130,8 +131,10 @@ struct Counts {
 }
 
 impl Watch for Counts {
-    fn neighborhood(&mut self, _variable: usize, _face: Face, bands: usize) {
-        self.bands_met[bands] = true;
+    fn round(&mut self, sheet: &Sheet, start: &StateBox, enclosure: &StateBox, ticks: u32) {
+        for around in neighborhoods(sheet, start, enclosure, ticks) {
+            self.bands_met[around.bands.len()] = true;
+        }
     }
 
     fn bound(&mut self, before: i64, after: i64) {
@@ -402,7 +405,7 @@ fn examples() -> Vec<Example> {
         },
         Example {
             name: "finest_outside_recovery",
-            sheet: sledge(sides([(-100, 100), (-26, 30)])),
+            sheet: sledge(sides([(-100, 100), (-25, 30)])),
             call: push(100),
             covers: vec![Finest, WidthOne, Variables(2)],
         },
@@ -451,8 +454,8 @@ fn examples() -> Vec<Example> {
         },
         Example {
             name: "spent_width_1",
-            sheet: sledge(sides([(-100, 100), (-50, 30)])),
-            call: push(51),
+            sheet: sledge(sides([(-100, 100), (-30, 30)])),
+            call: push(50),
             covers: vec![Spent, WidthInTurn(4), WidthOne],
         },
         Example {

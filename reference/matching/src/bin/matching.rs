@@ -21,7 +21,8 @@ use second_guard::decision::{
     check_recovery_watched, decide_watched, read_question, trace, Decision, Faults, Question,
     RecoveryCheck,
 };
-use second_guard::reach::{Face, Step, Watch};
+use second_guard::neighborhoods::neighborhoods;
+use second_guard::reach::{Step, Watch};
 use second_guard::sheet::Sheet;
 use std::collections::HashMap;
 use std::ops::ControlFlow;
@@ -48,8 +49,10 @@ struct Sight {
 }
 
 impl Watch for Sight {
-    fn neighborhood(&mut self, _variable: usize, _face: Face, bands: usize) {
-        self.most_bands = self.most_bands.max(bands);
+    fn round(&mut self, sheet: &Sheet, start: &StateBox, enclosure: &StateBox, ticks: u32) {
+        for around in neighborhoods(sheet, start, enclosure, ticks) {
+            self.most_bands = self.most_bands.max(around.bands.len());
+        }
     }
 
     fn halved(&mut self, _ticks: u32) {

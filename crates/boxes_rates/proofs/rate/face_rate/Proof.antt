@@ -1,5 +1,5 @@
 -- `face_rate` gives the rate over a face's neighborhood, and puts the side that was cut back. Assumes nothing.
-use mathlib.Core.Path.{_≡_, refl, _∙_}
+use mathlib.Core.Path.{_≡_, refl, ap, _∙_}
 use mathlib.Core.List.{List}
 use Prim.Native.Nat.{_+_, _<_}
 use native.Mathlib.Omega.{arith}
@@ -13,8 +13,8 @@ use borrow.Author.Needs.{needs}
 use Rattle.integers.specs.Bound.{Bound}
 use Rattle.integers.proofs.Z.{told, up32, bound-lit, bound-less, bound-mul, fits64}
 use Rattle.sheet_spec.specs.Slots.{_!_, N, boxSize, vars, cap}
-use Rattle.sheet_spec.specs.Limits.{maxTicks}
-use Rattle.machine_spec.specs.Box.{Near}
+use Rattle.sheet_spec.specs.Limits.{maxTicks, maxEdge}
+use Rattle.machine_spec.specs.Box.{Near, Sized}
 use Rattle.machine_spec.specs.Rate.{neighborhood, faceRate}
 use Rattle.boxes_arithmetic.specs.Limits.{limit}
 use Rattle.boxes_rates.specs.Limits.{neighborhoodLimit, RatesAsked}
@@ -22,8 +22,9 @@ use Rattle.boxes_arithmetic.proofs.Bounds.{wide, times-low}
 use Rattle.boxes_rates.proofs.Cut.{cut-below, cut-back}
 use Rattle.machine_spec.proofs.Facts.{cap-low, cap-near}
 use Rattle.machine_spec.proofs.Facts as facts
-use Rattle.machine_spec.proofs.Inside.{within-inside}
-use Rattle.machine_spec.proofs.Ranges.{near-less, near-part, neighborhood-near}
+use Rattle.machine_spec.proofs.Inside.{within-inside, inside-ordered}
+use Rattle.machine_spec.proofs.Neighborhood.{neighborhood-part, neighborhood-ordered}
+use Rattle.machine_spec.proofs.Ranges.{near-less, near-part}
 use Rattle.boxes_rates.proofs.rate.face_rate.Statement.{statement}
 use Rattle.boxes_rates.proofs.rate.face_rate.Tie as tie
 
@@ -46,12 +47,9 @@ module _ (at-start : tie.Start) where
   room : at-start .args .i < N
   room = omega (arith, asked .plant .sheet .vars-high, var)
 
-  work-near : Near (vars v) limit E
-  work-near = near-less (omega arith) (asked .work)
-
   -- as the working box holds it
   start-near : Near (vars v) limit S
-  start-near = near-part (asked .start) (within-inside S E (asked .holds)) work-near
+  start-near = near-less (omega arith) (near-part (asked .start) (within-inside S E (asked .holds)) (asked .work))
 
   -- one cap more than ticks
   abbrev reach : ℤ
@@ -90,6 +88,13 @@ narrow-requires at-old κs =
     let at-start = at-reach .before in
     record { room = room at-start; near = simp (wide, at-reach .reach .given, reach-is at-start) (reach-bound at-start); start = λ up. start-near at-start .at up (at-start .args .i) (var at-start) }
 
+neighborhood-sized : (at-start : tie.Start) → Sized (vars (v at-start)) maxEdge (neighborhood (at-start .args .up) (S at-start) (reach at-start) (E at-start) (at-start .args .i))
+neighborhood-sized at-start =
+    let room = facts.room (asked at-start .plant .sheet) in
+    let holds = within-inside (S at-start) (E at-start) (asked at-start .holds) in
+    let o = neighborhood-ordered room (S at-start) (reach at-start) (at-start .args .i) (var at-start) (reach-low at-start) (at-start .args .up) holds (inside-ordered holds (asked at-start .start)) in
+    record { near = near-part o (neighborhood-part room (S at-start) (reach at-start) (at-start .args .i) (var at-start) (at-start .args .up) (E at-start)) (asked at-start .work); ordered = o }
+
 -- the narrowed box B, and that it is the working box again with the saved side
 module _ (at-narrow : tie.After-narrow) where
   abbrev at-old : tie.After-old
@@ -119,8 +124,8 @@ rate-requires after-narrow κs =
     let at-start = start at-narrow in
     record {
       plant = asked at-start .plant;
-      sides = rw (narrowed at-narrow) (neighborhood-near (facts.room (asked at-start .plant .sheet)) (reach-low at-start) (start-near at-start) (work-near at-start) (at-start .args .up) (at-start .args .i) (var at-start));
       var = var at-start;
+      sides = rw (narrowed at-narrow) (neighborhood-sized at-start);
     }
 
 returns : tie.Need-returns
@@ -128,7 +133,9 @@ unfolding faceRate
 returns at-rate =
     let at-narrow = at-rate .before .before in
     let rate-fits : SFits w64 (at-rate .rate .result) = search needs in
-    (toZ-ofZ rate-fits ∙ (at-rate .rate .ensures ∙ rw (narrowed at-narrow) refl), put-back at-narrow)
+    let side = at-side at-narrow .cut-at .result in
+    let old = toZ w64 (ofZ w64 (E (start at-narrow) ! side)) in
+    (toZ-ofZ rate-fits ∙ (at-rate .rate .ensures .0 ∙ rw (narrowed at-narrow) refl), ap (λ (F : List ℤ). set F side old) (at-rate .rate .ensures .1) ∙ put-back at-narrow)
 
 -- the side that is cut, once the rate is there
 after-rate : (at-rate : tie.After-rate) → at-side (at-rate .before .before) .cut-at .result < boxSize

@@ -1,64 +1,296 @@
--- `rate` gives the outermost over all bands. Invariant: after `band` turns, that of the first `band` bands. Measure: the bands left.
--- Assumes nothing.
-use mathlib.Core.Path.{_≡_, refl, _∙_}
-use Prim.Native.Nat.{_≤_, _-_}
+-- `rate` gives the outermost over all bands, each over the part of the box that lies in it, and puts the two sides that are cut back.
+-- Invariant: the band at the slot is met; the outermost is that of the bands before it; the box is cut to it but for its upper side.
+-- Measure: the slots left. Assumes nothing.
+use mathlib.Core.Path.{_≡_, sym, ap, _∙_}
+use mathlib.Core.Bool.{Bool, true, false}
+use mathlib.Core.List.{List}
+use Prim.Native.Nat.{ℕ, _+_, _*_, _-_, _≤_, _<_}
+use native.Mathlib.Nat.{zero-add}
 use native.Mathlib.Omega.{arith}
+use lib.IntN.{ℤ, pos, _+ℤ_, _-ℤ_}
+use lib.ListN.{set}
+use lib.Signed.{_≤ℤ_, _<ℤ_}
 use mir.Facts.{toZ-ofZ}
-use mir.Syntax.{w64}
-use mir.Val.{SFits, toZ}
+use mir.Syntax.{w32, w64}
+use mir.Val.{SFits, toZ, ofZ}
 use borrow.Author.Needs.{needs}
-use Rattle.integers.proofs.Z.{up32}
-use Rattle.sheet_spec.specs.Slots.{bands, cap}
-use Rattle.machine_spec.specs.Machine.{machine}
-use Rattle.machine_spec.specs.Rate.{outermost, neutral, bandRate, rate}
+use Rattle.integers.specs.Bound.{Bound}
+use Rattle.integers.proofs.Z.{ints, sum as plus, sub, told, up32, bound-of, bound-sub, bound-lit, fits64}
+use Rattle.sheet_spec.specs.Slots.{_!_, N, bandSize, bandSlot, slots, vars, bands, bandVar, cap, edge}
+use Rattle.sheet_spec.specs.Box.{lo, hi}
+use Rattle.machine_spec.specs.Machine.{Machine, machine, rowOf, change}
+use Rattle.machine_spec.specs.Rate.{outer, outermost, cutToBand, part, rowOver, neutral, bandRate, rate}
+use Rattle.boxes_arithmetic.specs.Limits.{word}
 use Rattle.boxes_arithmetic.proofs.Bounds.{wide}
-use Rattle.boxes_rates.proofs.Rates.{outermost-more}
+use Rattle.machine_spec.proofs.Bands.{Meets, meets-show}
 use Rattle.machine_spec.proofs.Facts.{cap-low, cap-near}
+use Rattle.machine_spec.proofs.Part.{part-within, part-ordered}
+use Rattle.machine_spec.proofs.Ranges.{near-less, near-as, near-part}
 use Rattle.machine_spec.proofs.Sound.{outermost-between}
+use Rattle.boxes_rates.specs.declared.Plant.{Plant}
+use Rattle.boxes_rates.specs.Limits.{BandAsked, RowRated, RateAsked}
+use Rattle.boxes_rates.specs.Plant.{FirstBand}
+use Rattle.boxes_rates.proofs.Parts.{starts-yes, starts-no, first-starts, first-met, next-met, unmet-before, unmet-behind, share-met, unmet-stays, Cutting, cutting-starts, cutting-part, cutting-on, cutting-ends, part-end, last-end}
+use Rattle.boxes_rates.proofs.Rates.{outermost-more}
 use Rattle.boxes_rates.proofs.rate.rate.Statement.{statement}
 use Rattle.boxes_rates.proofs.rate.rate.Tie as tie
 
--- z is the outermost so far
+-- at the slot of a band that B meets, where O is B cut to that band but for its upper side and z the outermost of the bands before it
+record Invariant (m : Machine) (B : List ℤ) (up : Bool) (i : ℕ) (O : List ℤ) (z : ℤ) (at : ℕ) : Type 0 where
+  band : ℕ
+  place : at ≡ bandSlot band
+  among : band < bands (m .sheet)
+  met : Meets (m .sheet) (bands (m .sheet)) band (lo B (bandVar (m .sheet))) (hi B (bandVar (m .sheet)))
+  cutting : Cutting m band B O
+  so-far : z ≡ outermost up (neutral up (cap (m .sheet) i)) band (bandRate up m B i)
+
 abbrev Inv-loop : tie.InvT-loop
-Inv-loop up plant sheet over i slot z₀ band₀ z band =
-    (band ≤ bands sheet) × (toZ w64 z ≡ outermost up (neutral up (cap sheet i)) band (bandRate up (machine sheet (plant .law)) over i))
+Inv-loop up plant sheet over₀ i lower upper low high slot end outermost₀ band₀ over outermost band =
+    Invariant (machine sheet (plant .law)) over₀ up i over (toZ w64 outermost) band
 
 abbrev μ-loop : tie.MeasureT-loop
-μ-loop up plant sheet over i slot z₀ band₀ z band = plant .bands - band
+μ-loop up plant sheet over₀ i lower upper low high slot end outermost₀ band₀ over outermost band = end - band
+
+-- what is asked, as it is used
+module _ (at-start : tie.Start Inv-loop μ-loop) where
+  abbrev v : List ℤ
+  v = at-start .args .sheet .now
+
+  abbrev M : Machine
+  M = machine v (at-start .args .plant .law)
+
+  abbrev B : List ℤ
+  B = at-start .args .over .now
+
+  asked : RateAsked (at-start .args .plant) v B (at-start .args .i)
+  asked = at-start .pre
+
+  -- the band variable
+  var-is : at-start .args .plant .var ≡ bandVar v
+  var-is = asked .plant .var
+
+  room : at-start .args .plant .var < N
+  room = omega (arith, var-is, asked .plant .sheet .var, asked .plant .sheet .vars-high)
+
+  ordered : lo B (bandVar v) ≤ℤ hi B (bandVar v)
+  ordered = asked .sides .ordered .at (bandVar v) (asked .plant .sheet .var)
+
+  low-enough : edge v 0 ≤ℤ lo B (bandVar v)
+  low-enough = omega (ints, asked .plant .sheet .first-edge, asked .sides .near .at false (bandVar v) (asked .plant .sheet .var) .at-most)
+
+  ends : bandSlot (at-start .args .plant .bands) ≡ bandSlot (bands v)
+  ends = ap bandSlot (asked .plant .bands)
 
 neutral-requires : tie.Need-neutral-requires Inv-loop μ-loop
 neutral-requires at-cap κs =
-    let asked = at-cap .before .pre in
-    simp (wide, at-cap .neutral-arg .given) (cap-near (asked .plant .sheet) (at-cap .before .args .i) (asked .var))
+    let at-start = at-cap .before .before .before .before in
+    simp (wide, at-cap .neutral-arg .given) (cap-near (asked at-start .plant .sheet) (at-start .args .i) (asked at-start .var))
+
+first-band-requires : tie.Need-first-band-requires Inv-loop μ-loop
+first-band-requires at-neutral κs =
+    let at-start = at-neutral .before .before .before .before .before in
+    (asked at-start .plant .sheet, ends at-start)
+
+-- the band variable's sides, as they are read
+module _ (at-high : tie.After-high Inv-loop μ-loop) where
+  abbrev at-low : tie.After-low Inv-loop μ-loop
+  at-low = at-high .before
+
+  abbrev start : tie.Start Inv-loop μ-loop
+  start = at-low .before
+
+  low-is : toZ w64 (ofZ w64 (B start ! start .args .plant .var)) ≡ lo (B start) (bandVar (v start))
+  low-is = told w64 _ (at-low .low .given) ∙ ap (λ (j : ℕ). lo (B start) j) (var-is start)
+
+  high-is : toZ w64 (ofZ w64 (B start ! (start .args .plant .var + N))) ≡ hi (B start) (bandVar (v start))
+  high-is = told w64 _ (at-high .high .given) ∙ ap (λ (j : ℕ). hi (B start) j) (var-is start)
 
 loop-holds : tie.Need-loop-holds Inv-loop μ-loop
 unfolding outermost
-loop-holds at-neutral =
+loop-holds at-first =
+    let at-neutral = at-first .before in
+    let at-high = at-neutral .before .before .before in
+    let at-start = start at-high in
+    let first : FirstBand (v at-start) (lo (B at-start) (bandVar (v at-start))) (at-first .first-band .result) = rw (low-is at-high) at (at-first .first-band .ensures) in
     let neutral-fits : SFits w64 (at-neutral .neutral .result) = search needs in
-    (omega arith, toZ-ofZ neutral-fits ∙ (at-neutral .neutral .ensures ∙ simp (wide, at-neutral .before .neutral-arg .given)))
+    record {
+      band = first .band;
+      place = first .place;
+      among = first .among;
+      met = first-met first (low-enough at-start) (ordered at-start);
+      cutting = cutting-starts (M at-start) (first .band) (B at-start) (first-starts first (low-enough at-start));
+      so-far =
+          toZ-ofZ neutral-fits
+          ∙ (at-neutral .neutral .ensures
+          ∙ simp (wide, at-neutral .before .neutral-arg .given)
+          (sym (rw (zero-add (first .band)) at (unmet-stays (M at-start) (B at-start) (at-start .args .up) (at-start .args .i) (cap-low (asked at-start .plant .sheet) (at-start .args .i) (asked at-start .var)) 0 (first .band)
+          (λ j h. rw (zero-add j) (unmet-before first j h))))));
+    }
 
-band-rate-requires : tie.Need-band-rate-requires Inv-loop μ-loop
-band-rate-requires in-turn κs =
-    let at-loop = in-turn .before .before in
-    let at-start = at-loop .before .before .before in
-    let asked = at-start .pre in
-    let a = at-start .args in
-    let between = outermost-between (a .up) (machine (a .sheet .now) (a .plant .law)) (a .over .now) (a .i) (at-loop .loop .band) (cap-low (asked .plant .sheet) (a .i) (asked .var)) in
-    record { rate = asked; among = omega (arith, asked .plant .bands); between = rw (at-loop .loop .inv .1) between }
+-- in the loop, at band k
+module _ (at-loop : tie.At-loop Inv-loop μ-loop) where
+  abbrev at-high : tie.After-high Inv-loop μ-loop
+  at-high = at-loop .before .before .before .before .before
+
+  abbrev entry : tie.Start Inv-loop μ-loop
+  entry = start at-high
+
+  abbrev inv : Invariant (M entry) (B entry) (entry .args .up) (entry .args .i) (at-loop .loop .over) (toZ w64 (at-loop .loop .outermost)) (at-loop .loop .band)
+  inv = at-loop .loop .inv
+
+  abbrev k : ℕ
+  k = at-loop .loop .inv .band
+
+  -- the outermost so far
+  abbrev z : ℤ
+  z = toZ w64 (at-loop .loop .outermost)
+
+  next-place : at-loop .loop .band + bandSize ≡ bandSlot (k + 1)
+  next-place = omega (arith, at-loop .loop .inv .place)
+
+  -- the band's last slot
+  near : at-loop .loop .band + bandSize ≤ slots
+  near = omega (arith, at-loop .loop .inv .place, at-loop .loop .inv .among, asked entry .plant .sheet .bands-high)
+
+  module _ {x : ℤ} (e : x ≡ cutToBand true (M entry) k (hi (B entry) (bandVar (v entry)))) where
+    -- with the upper side cut to the band the box is the part that lies in it
+    part-is : set (at-loop .loop .over) (entry .args .plant .var + N) x ≡ part (M entry) k (B entry)
+    part-is = cutting-part (M entry) k (B entry) (var-is entry) (at-loop .loop .inv .cutting) e
+
+    -- what `row_rate` asks, and what it comes to
+    row-asked : BandAsked (entry .args .plant) (v entry) (set (at-loop .loop .over) (entry .args .plant .var + N) x) (entry .args .i) (at-loop .loop .band) z
+    row-asked =
+        let wf = asked entry .plant .sheet in
+        let o = part-ordered (M entry) wf k (asked entry .sides .ordered) (meets-show (at-loop .loop .inv .met)) in
+        record {
+          plant = asked entry .plant;
+          var = asked entry .var;
+          sides = near-as part-is (near-less (omega arith) (near-part o (part-within (M entry) wf k (B entry)) (asked entry .sides .near)));
+          band = k;
+          place = at-loop .loop .inv .place;
+          among = at-loop .loop .inv .among;
+          between = rw (at-loop .loop .inv .so-far) (outermost-between (entry .args .up) (M entry) (B entry) (entry .args .i) k (cap-low wf (entry .args .i) (asked entry .var)));
+        }
+
+    rated : {r : ℤ} → RowRated (entry .args .up) (M entry) (set (at-loop .loop .over) (entry .args .plant .var + N) x) (entry .args .i) (at-loop .loop .band) z r
+        → r ≡ outermost (entry .args .up) (neutral (entry .args .up) (cap (v entry) (entry .args .i))) (k + 1) (bandRate (entry .args .up) (M entry) (B entry) (entry .args .i))
+    rated d =
+        let up = entry .args .up in
+        let i = entry .args .i in
+        d .same k (at-loop .loop .inv .place)
+        ∙ (ap (λ (P : List ℤ). outer up z (change up (cap (v entry) i) (rowOf (M entry) k i) (rowOver up (M entry) P i k))) part-is
+        ∙ (ap (outer up z) (sym (share-met (M entry) (B entry) up i k (at-loop .loop .inv .met)))
+        ∙ (ap (λ (y : ℤ). outer up y (bandRate up (M entry) (B entry) i k)) (at-loop .loop .inv .so-far) ∙ sym (outermost-more up _ k _))))
+
+-- the next band is met too
+module _ (in-turn : tie.Then1 Inv-loop μ-loop) where
+  abbrev at-test : tie.After-starts-by Inv-loop μ-loop
+  at-test = in-turn .before
+
+  abbrev turn : tie.At-loop Inv-loop μ-loop
+  turn = at-test .before
+
+  starts : (k turn + 1 < bands (v (entry turn))) × (edge (v (entry turn)) (k turn + 1) ≤ℤ hi (B (entry turn)) (bandVar (v (entry turn))))
+  starts = starts-yes (v (entry turn)) _ _ (next-place turn) (ends (entry turn)) (sym (rw (high-is (at-high turn)) at (at-test .starts-by .ensures)) ∙ in-turn .if1 .taken)
+
+-- its edge is read
+module _ (at-edge : tie.After-last Inv-loop μ-loop) where
+  abbrev in-turn : tie.Then1 Inv-loop μ-loop
+  in-turn = at-edge .before
+
+  abbrev here : tie.At-loop Inv-loop μ-loop
+  here = turn in-turn
+
+  abbrev e : ℤ
+  e = edge (v (entry here)) (k here + 1)
+
+  edge-is : toZ w64 (ofZ w64 (toZ w32 (ofZ w32 (v (entry here) ! (here .loop .band + bandSize))))) ≡ e
+  edge-is = wide _ (at-edge .last .given) ∙ ap (λ (j : ℕ). v (entry here) ! j) (next-place here)
+
+  edge-bound : Bound e word
+  edge-bound = bound-of {w = w32} (asked (entry here) .plant .sheet .fits (bandSlot (k here + 1)))
+
+  edge-fits : SFits w64 e
+  edge-fits = fits64 edge-bound tt
+
+  last-fits : SFits w64 (e -ℤ pos 1)
+  last-fits = fits64 (bound-sub edge-bound (bound-lit (pos 1))) tt
+
+  -- the last number of the band, as the code has it, and the first of the next
+  abbrev coded : ℤ
+  coded = toZ w64 (ofZ w64 (toZ w64 (ofZ w64 (toZ w32 (ofZ w32 (v (entry here) ! (here .loop .band + bandSize))))) -ℤ pos 1))
+
+  coded-is : coded ≡ e -ℤ pos 1
+  coded-is = rw edge-is (toZ-ofZ last-fits)
+
+  end-is : coded ≡ cutToBand true (M (entry here)) (k here) (hi (B (entry here)) (bandVar (v (entry here))))
+  end-is = coded-is ∙ part-end (M (entry here)) (k here) (B (entry here)) (starts in-turn .0) (starts in-turn .1)
+
+  one-more : coded +ℤ pos 1 ≡ e
+  one-more = ap (λ (x : ℤ). x +ℤ pos 1) coded-is ∙ omega (ints, sub e (pos 1), plus (e -ℤ pos 1) (pos 1))
+
+  next-is : toZ w64 (ofZ w64 (coded +ℤ pos 1)) ≡ e
+  next-is = rw one-more (toZ-ofZ edge-fits)
+
+row-rate-requires : tie.Need-row-rate-requires Inv-loop μ-loop
+row-rate-requires at-arg κs = row-asked (here (at-arg .before)) (end-is (at-arg .before))
+
+loop-less : tie.Need-loop-less Inv-loop μ-loop
+loop-less at-row =
+    let at-edge = at-row .before .before in
+    let l = here at-edge in
+    omega (arith, starts (in-turn at-edge) .0, l .loop .inv .place, asked (entry l) .plant .bands)
 
 loop-again : tie.Need-loop-again Inv-loop μ-loop
-loop-again at-band =
-    let at-loop = at-band .before .before .before in
-    let band-fits : SFits w64 (at-band .band-rate .result) = search needs in
-    (omega (arith, at-loop .before .before .before .pre .plant .bands), rw outermost-more (toZ-ofZ band-fits ∙ (at-band .band-rate .ensures ∙ rw (at-loop .loop .inv .1) refl)))
+loop-again at-row =
+    let at-edge = at-row .before .before in
+    let l = here at-edge in
+    let at-start = entry l in
+    let wf = asked at-start .plant .sheet in
+    let next = starts (in-turn at-edge) in
+    let row-fits : SFits w64 (at-row .row-rate .result) = search needs in
+    record {
+      band = k l + 1;
+      place = next-place l;
+      among = next .0;
+      met = next-met wf (l .loop .inv .met) (next .0) (next .1);
+      cutting = cutting-on (M at-start) (k l) (B at-start) (var-is at-start) (room at-start) (part-is l (end-is at-edge)) (next-is at-edge) (rw (next-is at-edge) (omega (ints, l .loop .inv .met .below (next .0))));
+      so-far = toZ-ofZ row-fits ∙ rated l (end-is at-edge) (at-row .row-rate .ensures);
+    }
+
+-- no further band is met
+module _ (at-last : tie.Else1 Inv-loop μ-loop) where
+  abbrev test : tie.After-starts-by Inv-loop μ-loop
+  test = at-last .before
+
+  abbrev last : tie.At-loop Inv-loop μ-loop
+  last = test .before
+
+  none-next : k last + 1 < bands (v (entry last)) → hi (B (entry last)) (bandVar (v (entry last))) <ℤ edge (v (entry last)) (k last + 1)
+  none-next = starts-no (v (entry last)) _ _ (next-place last) (ends (entry last)) (sym (rw (high-is (at-high last)) at (test .starts-by .ensures)) ∙ at-last .if1 .left)
+
+  -- the upper side that is put back is the part's
+  last-is : toZ w64 (ofZ w64 (B (entry last) ! (entry last .args .plant .var + N))) ≡ cutToBand true (M (entry last)) (k last) (hi (B (entry last)) (bandVar (v (entry last))))
+  last-is = high-is (at-high last) ∙ sym (last-end (M (entry last)) (k last) (B (entry last)) none-next)
+
+row-rate-requires-2 : tie.Need-row-rate-requires-2 Inv-loop μ-loop
+row-rate-requires-2 at-arg κs = row-asked (last (at-arg .before)) (last-is (at-arg .before))
 
 returns : tie.Need-returns Inv-loop μ-loop
 unfolding rate
-returns at-return =
-    let at-loop = at-return .before .before in
-    let at-start = at-loop .before .before .before in
-    let all : at-loop .loop .band ≡ bands (at-start .args .sheet .now) = omega (arith, at-start .pre .plant .bands) in
-    rw all at (at-loop .loop .inv .1)
+returns at-row =
+    let at-last = at-row .before .before in
+    let l = last at-last in
+    let at-start = entry l in
+    let wf = asked at-start .plant .sheet in
+    let row-fits : SFits w64 (at-row .row-rate2 .result) = search needs in
+    let all : k l + 1 + (bands (v at-start) - (k l + 1)) ≡ bands (v at-start) = omega (arith, l .loop .inv .among) in (
+      toZ-ofZ row-fits
+          ∙ (rated l (last-is at-last) (at-row .row-rate2 .ensures)
+          ∙ sym (rw all at (unmet-stays (M at-start) (B at-start) (at-start .args .up) (at-start .args .i) (cap-low wf (at-start .args .i) (asked at-start .var)) (k l + 1) (bands (v at-start) - (k l + 1))
+          (λ j h. unmet-behind wf (k l + 1) j (none-next at-last) (omega arith))))),
+      cutting-ends (M at-start) (k l) (B at-start) (var-is at-start) (room at-start) (part-is l (last-is at-last)) (last-end (M at-start) (k l) (B at-start) (none-next at-last)) (low-is (at-high l)),
+    )
 
 pub rate-spec : {M : Type 1} → statement M
 rate-spec =
@@ -66,14 +298,38 @@ rate-spec =
     (tie.spec
     Inv-loop
     μ-loop
-    (λ c. omega arith)
-    (λ c. omega arith)
-    (λ c. omega arith)
+    (λ at-start. omega (arith, room at-start))
+    (λ at-start. omega (arith, room at-start))
+    (λ at-start. omega (arith, room at-start))
+    (λ at-low. omega (arith, room (at-low .before)))
+    (λ at-low. omega (arith, room (at-low .before)))
+    (λ c. search needs)
+    (λ c. search needs)
+    (λ c. search needs)
+    (λ c. search needs)
+    (λ c. search needs)
     (λ c. search (needs, up32))
     neutral-requires
+    first-band-requires
     loop-holds
-    band-rate-requires
-    (λ c. omega arith)
-    (λ c. omega arith)
+    (λ at-loop. omega (arith, near at-loop))
+    (λ at-loop κs. omega (arith, ends (entry at-loop), asked (entry at-loop) .plant .sheet .bands-high))
+    (λ in-turn. omega (arith, near (turn in-turn)))
+    (λ in-turn. omega (arith, near (turn in-turn)))
+    (λ in-turn. omega (arith, near (turn in-turn)))
+    (λ at-edge. rw (told w32 _ (at-edge .last .given)) (up32 (asked (entry (here at-edge)) .plant .sheet .fits _)))
+    (λ at-edge. rw (edge-is at-edge) (last-fits at-edge))
+    (λ at-edge. omega (arith, room (entry (here at-edge))))
+    (λ at-edge. omega (arith, room (entry (here at-edge))))
+    row-rate-requires
+    (λ at-row. let at-edge = at-row .before .before in rw (one-more at-edge) (edge-fits at-edge))
+    (λ at-row. omega (arith, room (entry (here (at-row .before .before)))))
+    (λ at-row. omega (arith, room (entry (here (at-row .before .before)))))
+    loop-less
     loop-again
+    (λ at-last. omega (arith, room (entry (last at-last))))
+    (λ at-last. omega (arith, room (entry (last at-last))))
+    row-rate-requires-2
+    (λ at-row. omega (arith, room (entry (last (at-row .before .before)))))
+    (λ at-row. omega (arith, room (entry (last (at-row .before .before)))))
     returns)

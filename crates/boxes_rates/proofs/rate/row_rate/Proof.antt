@@ -1,19 +1,20 @@
--- `row_rate` gives the outer one of the outermost so far and of a band's share in a rate where the band is met: its row bounded,
--- then the allowed change. Assumes nothing.
-use mathlib.Core.Path.{sym, ap, _∙_}
+-- `row_rate` gives the outer one of the outermost so far and of the allowed change by a band's row over a box: the row bounded, then
+-- the change. Assumes nothing.
+use mathlib.Core.Path.{_≡_, sym, ap, _∙_, subst}
 use mathlib.Core.Bool.{true, false}
 use mathlib.Core.List.{List}
-use Prim.Native.Nat.{ℕ, _+_, _≤_}
+use Prim.Native.Nat.{ℕ, _+_, _*_, _≤_}
 use native.Mathlib.Omega.{arith}
-use lib.IntN.{ℤ}
+use lib.IntN.{ℤ, pos}
+use lib.Signed.{_≤ℤ_}
 use mir.Facts.{toZ-ofZ}
 use mir.Syntax.{w64}
 use mir.Val.{SFits}
 use borrow.Author.Needs.{needs}
 use Rattle.integers.proofs.Z.{up32, fits64}
-use Rattle.sheet_spec.specs.Slots.{rowSize, row, rowSlot, slots}
-use Rattle.machine_spec.specs.Machine.{Machine, machine}
-use Rattle.machine_spec.specs.Rate.{bound, offeredOver, bandRate}
+use Rattle.sheet_spec.specs.Slots.{firstRow, rowSize, bandSlot, slots, vars, cap, Row, rowAt}
+use Rattle.machine_spec.specs.Machine.{Machine, machine, rowOf, change}
+use Rattle.machine_spec.specs.Rate.{bound, offeredOver, outer}
 use Rattle.boxes_rates.specs.Limits.{BandAsked}
 use Rattle.boxes_arithmetic.proofs.Bounds.{wide}
 use Rattle.machine_spec.proofs.Facts.{cap-near}
@@ -29,64 +30,70 @@ module _ (at-start : tie.Start) where
   M = machine v (at-start .args .plant .law)
 
   asked : BandAsked (at-start .args .plant) v (at-start .args .over .now) (at-start .args .i) (at-start .args .band) (at-start .args .outermost)
-  asked = at-start .pre .0
+  asked = at-start .pre
 
-  place : rowSlot (at-start .args .band) (at-start .args .i) + rowSize ≤ slots
-  place = let sheet = asked .rate .plant .sheet in omega (arith, sheet .vars-high, sheet .bands-high, asked .rate .var, asked .among)
+  -- the slot of the row
+  place : at-start .args .band + firstRow + at-start .args .i * rowSize + rowSize ≤ slots
+  place = let sheet = asked .plant .sheet in omega (arith, sheet .vars-high, sheet .bands-high, asked .var, asked .among, asked .place)
+
+  -- the row of band k is there
+  row-is : (k : ℕ) → at-start .args .band ≡ bandSlot k → rowAt v (at-start .args .band + firstRow + at-start .args .i * rowSize) ≡ rowOf M k (at-start .args .i)
+  row-is k p = ap (λ (j : ℕ). rowAt v (j + firstRow + at-start .args .i * rowSize)) p
 
 command-term-requires : tie.Need-command-term-requires
-command-term-requires at-start κs = (place at-start, omega (arith, asked at-start .rate .plant .sheet .bands-high, asked at-start .among))
+command-term-requires at-start κs = (place at-start, omega (arith, asked at-start .plant .sheet .bands-high, asked at-start .among, asked at-start .place))
 
 bound-requires : tie.Need-bound-requires
 bound-requires at-term κs =
     let at-start = at-term .before in
-    let rate = asked at-start .rate in
+    let band = asked at-start in
     let near = at-term .command-term .ensures .near in
-    (record { vars = omega (arith, rate .plant .n, rate .plant .sheet .vars-high); place = place at-start; sides = near-by (sym (rate .plant .n)) (rate .sides) }, rw (toZ-ofZ (fits64 near tt)) near)
+    (record { vars = omega (arith, band .plant .n, band .plant .sheet .vars-high); place = place at-start; sides = near-by (sym (band .plant .n)) (band .sides) }, rw (toZ-ofZ (fits64 near tt)) near)
 
 further-requires : tie.Need-further-requires
 further-requires at-cap κs =
     let at-bound = at-cap .before in
     let at-start = at-bound .before .before in
-    let rate = asked at-start .rate in
+    let band = asked at-start in
     let near = at-bound .bound .ensures .near in
     record {
       place = place at-start;
-      divisor = rate .plant .sheet .rows (at-start .args .band) (at-start .args .i) (asked at-start .among) (rate .var) .q .low;
+      divisor = subst (λ (r : Row). pos 1 ≤ℤ r .q) (sym (row-is at-start (band .band) (band .place))) (band .plant .sheet .rows (band .band) (at-start .args .i) (band .among) (band .var) .q .low);
       number = rw (toZ-ofZ (fits64 near tt)) near;
-      capped = simp (wide, at-cap .further-arg .given, toZ-ofZ, at-start .fits .outermost) (record { small = cap-near (rate .plant .sheet) (at-start .args .i) (rate .var); between = asked at-start .between });
+      capped = simp (wide, at-cap .further-arg .given, toZ-ofZ, at-start .fits .outermost) (record { small = cap-near (band .plant .sheet) (at-start .args .i) (band .var); between = band .between });
     }
 
 returns : tie.Need-returns
-unfolding bandRate
 returns at-return =
     let at-cap = at-return .before in
     let at-bound = at-cap .before in
     let at-term = at-bound .before in
     let at-start = at-term .before in
-    let band = at-start .args .band in
+    let a = at-start .args in
     let term = at-term .command-term .ensures in
     let bounded = at-bound .bound .ensures in
     let further-fits : SFits w64 (at-return .further .result) = search needs in
-    let B = at-start .args .over .now in
-    let least = offeredOver false (M at-start) band B in
-    let greatest = offeredOver true (M at-start) band B in
-    let number-is =
-    bounded .same least greatest (toZ-ofZ (fits64 (term .near) tt) ∙ term .same B)
-    ∙ ap (λ (n : ℕ). bound (at-start .args .up) n (row (v at-start) band (at-start .args .i)) B least greatest) (asked at-start .rate .plant .n) in
-    toZ-ofZ further-fits
-    ∙ (at-return .further .ensures
-    ∙ rw (at-start .pre .1, toZ-ofZ (fits64 (bounded .near) tt), number-is) (simp (wide, at-cap .further-arg .given, toZ-ofZ, at-start .fits .outermost)))
+    let B = a .over .now in
+    record {
+      same = λ k p.
+          let least = offeredOver false (M at-start) k B in
+          let greatest = offeredOver true (M at-start) k B in
+          let number-is =
+          bounded .same least greatest (toZ-ofZ (fits64 (term .near) tt) ∙ term .same k p B)
+          ∙ ap (λ (n : ℕ). bound (a .up) n (rowAt (v at-start) (a .band + firstRow + a .i * rowSize)) B least greatest) (asked at-start .plant .n) in
+          toZ-ofZ further-fits
+          ∙ (at-return .further .ensures
+          ∙ rw (toZ-ofZ (fits64 (bounded .near) tt), number-is) (simp (wide, at-cap .further-arg .given, toZ-ofZ, at-start .fits .outermost)
+          (ap (λ (r : Row). outer (a .up) (a .outermost) (change (a .up) (cap (v at-start) (a .i)) r (bound (a .up) (vars (v at-start)) r B least greatest))) (row-is at-start k p))));
+    }
 
 pub row-rate-spec : {M : Type 1} → statement M
 row-rate-spec =
     tie.close
     (tie.spec
-    (λ c. search needs)
-    (λ c. search needs)
-    (λ c. search needs)
-    (λ c. search needs)
-    (λ c. search needs)
+    (λ at-start. omega (arith, place at-start))
+    (λ at-start. omega (arith, place at-start))
+    (λ at-start. omega (arith, place at-start))
     command-term-requires
     bound-requires
     (λ c. search needs)

@@ -1,0 +1,150 @@
+-- A rate, band by band: from the first band that a box meets to the last, each over the part of the box that lies in it. The parts are
+-- made in the box itself by two sides, which are put back. Assumes nothing.
+use mathlib.Core.Path.{_≡_, refl, sym, ap, _∙_}
+use mathlib.Core.Bool.{Bool, true, false, not, _&&_}
+use mathlib.Core.List.{List}
+use Prim.Native.Nat.{ℕ, zero, suc, _+_, _≤_, _<_}
+use native.Mathlib.Nat.{add-zero, add-suc}
+use native.Mathlib.Numerals.{unary-clauses}
+use native.Mathlib.Omega.{arith}
+use lib.Dec.{leb, nleb→lt}
+use lib.IntN.{ℤ, pos, _-ℤ_}
+use lib.ListN.{set}
+use lib.Seq.{set-set, set-comm}
+use lib.Signed.{leZ, _≤ℤ_, _<ℤ_}
+use borrow.Author.Tests.{lt-leb}
+use Rattle.integers.specs.Order.{maxZ}
+use Rattle.integers.proofs.Z.{ints, sub, min-is, max-is, le-true, le-false}
+use Rattle.sheet_spec.specs.Slots.{_!_, N, bandSlot, bands, edge}
+use Rattle.sheet_spec.specs.Box.{lo, hi}
+use Rattle.sheet_spec.specs.Valid.{Valid}
+use Rattle.machine_spec.specs.Machine.{Machine, bandsOf, bandVarOf, cap, rowOf, change}
+use Rattle.machine_spec.specs.Rate.{outermost, bandMet, cutToBand, part, rowOver, neutral, bandRate}
+use Rattle.sheet_spec.proofs.Box.{differ}
+use Rattle.machine_spec.proofs.Bands.{Meets, meets-read, meets-show, edge-below, edges-ascend}
+use Rattle.machine_spec.proofs.Part.{cut-next, cut-cases}
+use Rattle.machine_spec.proofs.Sound.{cond-yes, cond-no, outer-neutral, outermost-between}
+use Rattle.boxes_rates.specs.Plant.{startsBy, FirstBand}
+use Rattle.boxes_rates.proofs.Cut.{put-back}
+
+-- ---- whether a band starts at or below a number
+
+-- the slot is that of band k, and the bands end at `end`
+module _ (v : List ℤ) (k : ℕ) {end at : ℕ} (x : ℤ) (p : at ≡ bandSlot k) (q : end ≡ bandSlot (bands v)) where
+  pub starts-yes : startsBy v end at x ≡ true → (k < bands v) × (edge v k ≤ℤ x)
+  unfolding startsBy
+  starts-yes e = by (leb end at) refl e
+    where
+      by : (t : Bool) → leb end at ≡ t → (not t && leZ (v ! at) x) ≡ true → (k < bands v) × (edge v k ≤ℤ x)
+      by true u e = absurd (differ e refl)
+      by false u e = (let less : at < end = nleb→lt end at (rw u tt) in omega arith, rw p at (le-true (v ! at) x e))
+
+  pub starts-no : startsBy v end at x ≡ false → k < bands v → x <ℤ edge v k
+  unfolding startsBy
+  starts-no e h = rw p at (le-false (v ! at) x (rw (lt-leb end at (omega arith)) at e))
+
+-- ---- the bands that are met
+
+-- the first band with a number from l on starts at or below l, and is met by what reaches from l to h
+module _ {v : List ℤ} {l : ℤ} {at : ℕ} (f : FirstBand v l at) (low : edge v 0 ≤ℤ l) where
+  pub first-starts : edge v (f .band) ≤ℤ l
+  first-starts = by (f .band) (f .before)
+    where
+      by : (k : ℕ) → ((j : ℕ) → j < k → edge v (j + 1) ≤ℤ l) → edge v k ≤ℤ l
+      by zero g = low
+      by (suc j) g = simp unary-clauses at (g j (omega arith))
+
+  pub first-met : {h : ℤ} → l ≤ℤ h → Meets v (bands v) (f .band) l h
+  first-met o = record { above = omega (ints, first-starts, o); below = f .next }
+
+-- the next one is met too if it starts at or below h; if it does not, none behind it is
+module _ {v : List ℤ} (wf : Valid v) {k : ℕ} {l h : ℤ} (s : Meets v (bands v) k l h) where
+  pub next-met : k + 1 < bands v → edge v (k + 1) ≤ℤ h → Meets v (bands v) (k + 1) l h
+  next-met g e = record { above = e; below = λ u. omega (ints, s .below g, edge-below wf (k + 1) u) }
+
+pub unmet-before : {v : List ℤ} {l h : ℤ} {at : ℕ} (f : FirstBand v l at) (j : ℕ) → j < f .band → Meets v (bands v) j l h → ⊥
+unmet-before f j g s = omega (ints, f .before j g, s .below (omega (arith, f .among)))
+
+pub unmet-behind : {v : List ℤ} {l h : ℤ} → Valid v → (k d : ℕ) → (k < bands v → h <ℤ edge v k) → k + d < bands v → Meets v (bands v) (k + d) l h → ⊥
+unmet-behind wf k d e g s = omega (ints, e (omega arith), edges-ascend wf k d g, s .above)
+
+-- ---- their shares in a rate
+
+module _ (m : Machine) (B : List ℤ) (up : Bool) (i : ℕ) where
+  -- the band variable's sides meet band k
+  abbrev Met : ℕ → Type 0
+  Met k = Meets (m .sheet) (bandsOf m) k (lo B (bandVarOf m)) (hi B (bandVarOf m))
+
+  pub share-met : (k : ℕ) → Met k → bandRate up m B i k ≡ change up (cap m i) (rowOf m k i) (rowOver up m (part m k B) i k)
+  unfolding bandRate
+  share-met k s = cond-yes (bandMet m k B) _ _ (meets-show s)
+
+  share-unmet : (k : ℕ) → (Met k → ⊥) → bandRate up m B i k ≡ neutral up (cap m i)
+  unfolding bandRate
+  share-unmet k n = cond-no (bandMet m k B) _ _ (λ t. n (meets-read t))
+
+  -- bands that are not met leave the outermost as it is
+  pub unmet-stays : pos 0 ≤ℤ cap m i → (k d : ℕ) → ((j : ℕ) → j < d → Met (k + j) → ⊥)
+      → outermost up (neutral up (cap m i)) (k + d) (bandRate up m B i) ≡ outermost up (neutral up (cap m i)) k (bandRate up m B i)
+  unfolding outermost
+  unmet-stays c k zero n = rw (add-zero k) refl
+  unmet-stays c k (suc d) n =
+      rw (add-suc k d, share-unmet (k + d) (n d (omega arith)))
+      (outer-neutral (outermost-between up m B i (k + d) c) up ∙ unmet-stays c k d (λ j h. n j (omega arith)))
+
+-- ---- the parts, made in the box
+
+set-own : (l : List ℤ) (j : ℕ) → set l j (l ! j) ≡ l
+set-own l j = sym (set-set l j (l ! j) (l ! j)) ∙ put-back l j (l ! j)
+
+-- but for the band variable's upper side O is the part of B that lies in band k
+pub record Cutting (m : Machine) (k : ℕ) (B O : List ℤ) : Type 0 where
+  pub cut : (x : ℤ) → set O (bandVarOf m + N) x ≡ set (set B (bandVarOf m) (cutToBand false m k (lo B (bandVarOf m)))) (bandVarOf m + N) x
+
+module _ (m : Machine) (k : ℕ) (B : List ℤ) where
+  abbrev i : ℕ
+  i = bandVarOf m
+
+  -- a band that starts at or below the box
+  pub cutting-starts : edge (m .sheet) k ≤ℤ lo B i → Cutting m k B B
+  unfolding cutToBand
+  cutting-starts e =
+      let same : maxZ (lo B i) (edge (m .sheet) k) ≡ lo B i = omega (ints, max-is (lo B i) (edge (m .sheet) k)) in
+      record { cut = λ x. ap (λ (l : List ℤ). set l (i + N) x) (sym (ap (set B i) same ∙ set-own B i)) }
+
+  -- the upper side of a part, where the next band is met and where it is not
+  pub part-end : k + 1 < bandsOf m → edge (m .sheet) (k + 1) ≤ℤ hi B i → edge (m .sheet) (k + 1) -ℤ pos 1 ≡ cutToBand true m k (hi B i)
+  part-end g e = sym (cut-next m k (hi B i) g ∙ omega (ints, min-is (hi B i) (edge (m .sheet) (k + 1) -ℤ pos 1), sub (edge (m .sheet) (k + 1)) (pos 1)))
+
+  pub last-end : (k + 1 < bandsOf m → hi B i <ℤ edge (m .sheet) (k + 1)) → cutToBand true m k (hi B i) ≡ hi B i
+  last-end n = cut-cases m k (λ z. z ≡ hi B i) (hi B i) (λ g. refl) (λ g. omega (ints, n g, min-is (hi B i) (edge (m .sheet) (k + 1) -ℤ pos 1), sub (edge (m .sheet) (k + 1)) (pos 1)))
+
+  -- j is the band variable, as the code has it
+  module _ {j : ℕ} (v : j ≡ bandVarOf m) where
+    -- with the upper side cut to the band
+    pub cutting-part : {O : List ℤ} → Cutting m k B O → {x : ℤ} → x ≡ cutToBand true m k (hi B i) → set O (j + N) x ≡ part m k B
+    unfolding part
+    cutting-part c e = rw v (c .cut _ ∙ ap (set (set B i (cutToBand false m k (lo B i))) (i + N)) e)
+
+    -- the next band
+    pub cutting-on : j < N → {P : List ℤ} → P ≡ part m k B → {e : ℤ} → e ≡ edge (m .sheet) (k + 1) → lo B i ≤ℤ e → Cutting m (k + 1) B (set P j e)
+    unfolding cutToBand part
+    cutting-on r {P} p {e} q h =
+        let A = set B i (cutToBand false m k (lo B i)) in
+        let y = cutToBand true m k (hi B i) in
+        let same : e ≡ maxZ (lo B i) (edge (m .sheet) (k + 1)) = omega (ints, max-is (lo B i) (edge (m .sheet) (k + 1))) in
+        record {
+          cut = λ x.
+              rw v (ap (λ (l : List ℤ). set (set l i e) (i + N) x) p
+              ∙ (ap (λ (l : List ℤ). set l (i + N) x) (set-comm A (i + N) i y e (λ z. omega arith) ∙ ap (λ (l : List ℤ). set l (i + N) y) (set-set B i _ e))
+              ∙ (set-set (set B i e) (i + N) y x ∙ ap (λ (z : ℤ). set (set B i z) (i + N) x) same)));
+        }
+
+    -- the last one: both sides are as they were once the lower is put back
+    pub cutting-ends : j < N → {P : List ℤ} → P ≡ part m k B → cutToBand true m k (hi B i) ≡ hi B i → {x : ℤ} → x ≡ lo B i → set P j x ≡ B
+    unfolding part
+    cutting-ends r p e q =
+        let c = cutToBand false m k (lo B i) in
+        rw (v, q) (ap (λ (l : List ℤ). set l i (lo B i)) (p ∙ ap (set (set B i c) (i + N)) e)
+        ∙ (set-comm (set B i c) (i + N) i (hi B i) (lo B i) (λ z. omega arith)
+        ∙ (ap (λ (l : List ℤ). set l (i + N) (hi B i)) (put-back B i c) ∙ set-own B (i + N))))

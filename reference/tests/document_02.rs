@@ -1,0 +1,144 @@
+//! Cases of document 02 worked by hand.
+//! Paper 3: each band's row is bounded over the part of the neighborhood that lies in that band.
+
+use second_guard::boxes::StateBox;
+use second_guard::decision::{decide, Decision};
+use second_guard::reach::{reach, Law, Reach};
+use second_guard::sheet::{self, Band, CommandRange, Row, Sheet, FIRST_EDGE};
+
+/// The box of two variables.
+fn sides(x: (i64, i64), z: (i64, i64)) -> StateBox {
+    StateBox {
+        lower: [x.0, z.0, 0, 0],
+        upper: [x.1, z.1, 0, 0],
+    }
+}
+
+/// A row of two variables without command and spread.
+fn row(a: [i32; 2], c: i32, q: i32) -> Row {
+    Row {
+        a: [a[0], a[1], 0, 0],
+        b: 0,
+        c,
+        d: 0,
+        q,
+    }
+}
+
+/// x and z with caps 5 and 5; z is the band variable. Each band has its edge and x's row and z's.
+fn machine(bands: &[(i32, Row, Row)]) -> Sheet {
+    let mut sheet = Sheet {
+        variables: 2,
+        band_count: bands.len() as i32,
+        unsafe_count: 1,
+        band_variable: 1,
+        delta: 1,
+        alpha: 1,
+        rho: 1,
+        caps: [5, 5, 0, 0],
+        recovery: sides((-10, 100), (-10, 100)),
+        ..Sheet::default()
+    };
+    for (k, &(edge, x, z)) in bands.iter().enumerate() {
+        sheet.bands[k] = Band {
+            edge,
+            safety: CommandRange::default(),
+            rows: [x, z, Row::default(), Row::default()],
+        };
+    }
+    sheet.unsafe_boxes[0] = sides((1_000, 1_000), (1_000, 1_000));
+    sheet
+}
+
+/// One tick, which one round settles: the start box moved by the rates.
+fn moved(sheet: &Sheet, start: StateBox) -> StateBox {
+    let Reach { end, rounds, .. } = reach(sheet, 1, 1, Law::Baseline, &start).unwrap();
+    assert_eq!(rounds, 1);
+    end
+}
+
+const STILL: Row = Row {
+    a: [0; 4],
+    b: 0,
+    c: 0,
+    d: 0,
+    q: 1,
+};
+
+#[test]
+fn a_row_is_bounded_over_its_band_alone() {
+    // x changes by z / 4 below 8 and by (16 - z) / 4 from 8 on: at most 2 at the edge.
+    // Over z from 0 to 16 either row alone would give up to 4.
+    let sheet = machine(&[
+        (FIRST_EDGE, row([0, 1], 0, 4), STILL),
+        (8, row([0, -1], 16, 4), STILL),
+    ]);
+    let end = moved(&sheet, sides((50, 50), (0, 16)));
+    assert_eq!(end, sides((50, 52), (0, 16)));
+}
+
+#[test]
+fn three_bands() {
+    // Between 4 and 7 x changes by (z - 5) / 1: -1 to 2. Outside of it x is still.
+    let sheet = machine(&[
+        (FIRST_EDGE, STILL, STILL),
+        (4, row([0, 1], -5, 1), STILL),
+        (8, STILL, STILL),
+    ]);
+    let end = moved(&sheet, sides((50, 50), (0, 16)));
+    assert_eq!(end, sides((49, 52), (0, 16)));
+    // The last band has no end: with (z - 8) / 4 from 8 on, 2 at 16.
+    let sheet = machine(&[(FIRST_EDGE, STILL, STILL), (8, row([0, 1], -8, 4), STILL)]);
+    let end = moved(&sheet, sides((50, 50), (0, 16)));
+    assert_eq!(end, sides((50, 52), (0, 16)));
+}
+
+#[test]
+fn an_edge_on_a_side() {
+    // From z = 12 on x changes by z - 10. Up to 11 that band is not met, up to 12 only at 12.
+    let sheet = machine(&[(FIRST_EDGE, STILL, STILL), (12, row([0, 1], -10, 1), STILL)]);
+    let with = |upper| moved(&sheet, sides((50, 50), (0, upper)));
+    assert_eq!(with(11), sides((50, 50), (0, 11)));
+    assert_eq!(with(12), sides((50, 52), (0, 12)));
+    assert_eq!(with(13), sides((50, 53), (0, 13)));
+    // From 12 on the first band is not met.
+    let end = moved(&sheet, sides((50, 50), (12, 13)));
+    assert_eq!(end, sides((52, 53), (12, 13)));
+}
+
+#[test]
+fn the_band_variables_own_faces_are_cut_twice() {
+    // z from 0 to 40, one tick: the lower neighborhood is 0..10, the upper one 30..40. The edges
+    // at 7 and at 34 cut them. z's rows: below 7 -z / 2, so floor(-6 / 2) = -3 and not -5 at 10;
+    // from 7 to 33 (20 - z) / 4, which at 10 is 2 and at 30 is -2, its ceiling; from 34 on
+    // (z - 38) / 2, at 40 it is 1.
+    let sheet = machine(&[
+        (FIRST_EDGE, STILL, row([0, -1], 0, 2)),
+        (7, STILL, row([0, -1], 20, 4)),
+        (34, STILL, row([0, 1], -38, 2)),
+    ]);
+    let end = moved(&sheet, sides((50, 50), (0, 40)));
+    assert_eq!(end, sides((50, 50), (-3, 41)));
+}
+
+#[test]
+fn a_decision_by_the_parts() {
+    // Two ticks, x may rise by 2 each as in the first case: 54 is the most.
+    let mut sheet = machine(&[
+        (FIRST_EDGE, row([0, 1], 0, 4), STILL),
+        (8, row([0, -1], 16, 4), STILL),
+    ]);
+    let mut question = b"QS".to_vec();
+    for number in [100, 0, 50, 50, 0, 16] {
+        question.extend(i32::to_be_bytes(number));
+    }
+    let mut answer = |most: i64| {
+        sheet.recovery.upper[0] = most;
+        let mut bytes = vec![0; sheet.length()];
+        sheet::write(&sheet, &mut bytes, 0).unwrap();
+        decide(&bytes, &question)
+    };
+    let (width, rounds) = (1, 2);
+    assert_eq!(answer(54), Decision::Keep { width, rounds });
+    assert_eq!(answer(53), Decision::Finest { width, rounds });
+}
