@@ -2,7 +2,7 @@
 //! The engine is generic over a `Watch`, which sees each step and may stop the reach.
 
 use crate::boxes::{State, StateBox};
-use crate::machine::{bands_met, greatest_change, least_change};
+use crate::machine::{greatest_change, least_change};
 use crate::sheet::{Band, Refusal, Row, Sheet, START_LIMIT, TICKS_LIMIT};
 use std::ops::ControlFlow;
 
@@ -144,6 +144,66 @@ fn commands(law: Law, band: &Band) -> (i64, i64) {
     }
 }
 
+/// Where the neighborhoods end: the lower faces' upwards, the upper faces' downwards.
+#[inline]
+fn depths<const N: usize>(sheet: &Sheet, start: &StateBox, ticks: u32) -> StateBox {
+    let mut depths = StateBox::default();
+    for i in 0..N {
+        let depth = i64::from(ticks + 1) * i64::from(sheet.caps[i]);
+        depths.upper[i] = start.lower[i] + depth;
+        depths.lower[i] = start.upper[i] - depth;
+    }
+    depths
+}
+
+/// The rates before any band is met; every bound is at most, or at least, that.
+#[inline]
+fn no_rates<const N: usize>(sheet: &Sheet) -> Rates {
+    let mut rates = Rates::default();
+    for i in 0..N {
+        let cap = i64::from(sheet.caps[i]);
+        rates.lower[i] = cap;
+        rates.upper[i] = -cap;
+    }
+    rates
+}
+
+/// Puts one band's bounds to the rates. `part` is the enclosure's part in the band: a face's
+/// neighborhood meets the band where it meets this part, and there only the face's own side differs.
+#[inline]
+fn bound_band<const N: usize, W: Watch>(
+    sheet: &Sheet,
+    law: Law,
+    band: &Band,
+    depths: &StateBox,
+    part: &mut StateBox,
+    rates: &mut Rates,
+    watch: &mut W,
+) {
+    let commands = commands(law, band);
+    for i in 0..N {
+        let cap = i64::from(sheet.caps[i]);
+        let row = &band.rows[i];
+        let (lower, upper) = (part.lower[i], part.upper[i]);
+        if lower <= depths.upper[i] {
+            part.upper[i] = upper.min(depths.upper[i]);
+            let change = least_change(row, least_numerator::<N>(row, part, commands));
+            let clamped = change.clamp(-cap, cap);
+            watch.bound(change, clamped);
+            rates.lower[i] = rates.lower[i].min(clamped);
+            part.upper[i] = upper;
+        }
+        if depths.lower[i] <= upper {
+            part.lower[i] = lower.max(depths.lower[i]);
+            let change = greatest_change(row, greatest_numerator::<N>(row, part, commands));
+            let clamped = change.clamp(-cap, cap);
+            watch.bound(change, clamped);
+            rates.upper[i] = rates.upper[i].max(clamped);
+            part.lower[i] = lower;
+        }
+    }
+}
+
 /// One round: the rate of every face over its neighborhood within the enclosure,
 /// each band's row over the part of the neighborhood that lies in that band.
 #[inline]
@@ -156,65 +216,23 @@ fn round<const N: usize, W: Watch>(
     watch: &mut W,
 ) -> Rates {
     watch.round(sheet, start, enclosure, ticks);
-    // It is below N; the compiler is told.
+    // The band variable is below N; so the compiler knows.
     let v = (sheet.band_variable as usize).min(N - 1);
-    let bands = sheet.bands();
-    let met_by_all = bands_met(sheet, enclosure.lower[v], enclosure.upper[v]);
-    let mut rates = Rates::default();
-    // The part that is looked at; only the face's own side and the band variable's differ from
-    // the enclosure. From the last band down, what is left of the latter ends below the edge.
+    let depths = depths::<N>(sheet, start, ticks);
+    let mut rates = no_rates::<N>(sheet);
+    // From the last band down, so that what is left of the enclosure ends below the edge.
     let mut part = *enclosure;
-    for i in 0..N {
-        let cap = i64::from(sheet.caps[i]);
-        let depth = i64::from(ticks + 1) * cap;
-
-        part.upper[i] = enclosure.upper[i].min(start.lower[i] + depth);
-        let met = if i == v {
-            bands_met(sheet, part.lower[i], part.upper[i])
-        } else {
-            met_by_all.clone()
-        };
-        let mut rate = cap;
-        for band in bands[met].iter().rev() {
-            let edge = i64::from(band.edge);
-            part.lower[v] = enclosure.lower[v].max(edge);
-            let row = &band.rows[i];
-            let numerator = least_numerator::<N>(row, &part, commands(law, band));
-            let change = least_change(row, numerator);
-            let clamped = change.clamp(-cap, cap);
-            watch.bound(change, clamped);
-            rate = rate.min(clamped);
-            part.upper[v] = edge - 1;
+    for band in sheet.bands().iter().rev() {
+        let edge = i64::from(band.edge);
+        if edge > enclosure.upper[v] {
+            continue;
         }
-        rates.lower[i] = rate;
-        part.lower[v] = enclosure.lower[v];
-        part.upper[v] = enclosure.upper[v];
-        part.upper[i] = enclosure.upper[i];
-
-        let inner = enclosure.lower[i].max(start.upper[i] - depth);
-        part.lower[i] = inner;
-        let met = if i == v {
-            bands_met(sheet, part.lower[i], part.upper[i])
-        } else {
-            met_by_all.clone()
-        };
-        let lower = part.lower[v];
-        let mut rate = -cap;
-        for band in bands[met].iter().rev() {
-            let edge = i64::from(band.edge);
-            part.lower[v] = lower.max(edge);
-            let row = &band.rows[i];
-            let numerator = greatest_numerator::<N>(row, &part, commands(law, band));
-            let change = greatest_change(row, numerator);
-            let clamped = change.clamp(-cap, cap);
-            watch.bound(change, clamped);
-            rate = rate.max(clamped);
-            part.upper[v] = edge - 1;
+        part.lower[v] = enclosure.lower[v].max(edge);
+        bound_band::<N, W>(sheet, law, band, &depths, &mut part, &mut rates, watch);
+        if edge <= enclosure.lower[v] {
+            break;
         }
-        rates.upper[i] = rate;
-        part.lower[v] = enclosure.lower[v];
-        part.upper[v] = enclosure.upper[v];
-        part.lower[i] = enclosure.lower[i];
+        part.upper[v] = edge - 1;
     }
     rates
 }
