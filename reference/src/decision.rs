@@ -119,6 +119,8 @@ struct Safety<'a, W> {
 }
 
 impl<W: Watch> Watch for Safety<'_, W> {
+    const WHOLE: bool = W::WHOLE;
+
     #[inline]
     fn round(&mut self, sheet: &Sheet, start: &StateBox, enclosure: &StateBox, ticks: u32) {
         self.watch.round(sheet, start, enclosure, ticks);

@@ -8,3 +8,4 @@ pub mod machine;
 pub mod neighborhoods;
 pub mod reach;
 pub mod sheet;
+pub mod whole;

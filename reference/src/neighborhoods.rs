@@ -16,11 +16,11 @@ pub enum Face {
 /// The part of the enclosure that a face looks at.
 #[derive(Clone, Debug)]
 pub struct Neighborhood {
-    /// It is a face of the band variable.
-    pub of_band_variable: bool,
+    pub variable: usize,
+    pub face: Face,
+    pub sides: StateBox,
     /// It ends before the enclosure does, ticks + 1 caps from the start box's side.
     pub cut: bool,
-    pub around: StateBox,
     /// The bands that it meets.
     pub bands: Range<usize>,
 }
@@ -31,65 +31,57 @@ fn neighborhood(
     start: &StateBox,
     enclosure: &StateBox,
     ticks: u32,
-    i: usize,
+    variable: usize,
     face: Face,
 ) -> Neighborhood {
-    let v = sheet.band_variable as usize;
+    let (i, v) = (variable, sheet.band_variable as usize);
     let depth = i64::from(ticks + 1) * i64::from(sheet.caps[i]);
-    let mut around = *enclosure;
+    let mut sides = *enclosure;
     match face {
-        Face::Lower => around.upper[i] = around.upper[i].min(start.lower[i] + depth),
-        Face::Upper => around.lower[i] = around.lower[i].max(start.upper[i] - depth),
+        Face::Lower => sides.upper[i] = sides.upper[i].min(start.lower[i] + depth),
+        Face::Upper => sides.lower[i] = sides.lower[i].max(start.upper[i] - depth),
     }
     Neighborhood {
-        of_band_variable: i == v,
-        cut: around != *enclosure,
-        around,
-        bands: bands_met(sheet, around.lower[v], around.upper[v]),
+        variable,
+        face,
+        sides,
+        cut: sides != *enclosure,
+        bands: bands_met(sheet, sides.lower[v], sides.upper[v]),
     }
 }
 
 /// The neighborhoods of all faces: a round's, in a step of so many ticks.
-pub fn neighborhoods(
-    sheet: &Sheet,
-    start: &StateBox,
-    enclosure: &StateBox,
+pub fn neighborhoods<'a>(
+    sheet: &'a Sheet,
+    start: &'a StateBox,
+    enclosure: &'a StateBox,
     ticks: u32,
-) -> Vec<Neighborhood> {
+) -> impl Iterator<Item = Neighborhood> + 'a {
     (0..sheet.n())
         .flat_map(|i| [(i, Face::Lower), (i, Face::Upper)])
-        .map(|(i, face)| neighborhood(sheet, start, enclosure, ticks, i, face))
-        .collect()
+        .map(move |(i, face)| neighborhood(sheet, start, enclosure, ticks, i, face))
 }
 
 impl Neighborhood {
-    /// A face of the band variable, cut by its depth and by an edge.
-    pub fn cut_twice(&self) -> bool {
-        self.of_band_variable && self.cut && self.bands.len() > 1
+    /// One of the band variable, cut by its depth and by an edge.
+    pub fn cut_twice(&self, sheet: &Sheet) -> bool {
+        self.variable == sheet.band_variable as usize && self.cut && self.bands.len() > 1
     }
 
-    /// Its upper side is the edge of a band.
+    /// Its upper side is a later band's edge: that band's part is one value wide.
     pub fn ends_at_edge(&self, sheet: &Sheet) -> bool {
-        self.edge_at(sheet, self.bands.end - 1, 0)
+        self.bands.len() > 1 && self.edge_above_end(sheet, self.bands.end - 1) == Some(0)
     }
 
-    /// Its upper side lies just below the edge of a band.
+    /// Its upper side is just below the next band's edge, which it so misses.
     pub fn ends_below_edge(&self, sheet: &Sheet) -> bool {
-        self.edge_at(sheet, self.bands.end, 1)
+        self.edge_above_end(sheet, self.bands.end) == Some(1)
     }
 
-    /// Its lower side is the edge of a band.
-    pub fn begins_at_edge(&self, sheet: &Sheet) -> bool {
-        let lower = self.around.lower[sheet.band_variable as usize];
-        lower == i64::from(sheet.bands[self.bands.start].edge)
-    }
-
-    /// Band k has its edge so far above the upper side.
-    fn edge_at(&self, sheet: &Sheet, k: usize, above: i64) -> bool {
-        let upper = self.around.upper[sheet.band_variable as usize];
-        sheet
-            .bands()
-            .get(k)
-            .is_some_and(|band| i64::from(band.edge) == upper + above)
+    /// How far above the upper side band k begins.
+    fn edge_above_end(&self, sheet: &Sheet, k: usize) -> Option<i64> {
+        let upper = self.sides.upper[sheet.band_variable as usize];
+        let band = sheet.bands().get(k)?;
+        Some(i64::from(band.edge) - upper)
     }
 }

@@ -4,6 +4,7 @@
 use crate::boxes::{State, StateBox};
 use crate::machine::{greatest_change, least_change};
 use crate::sheet::{Band, Refusal, Row, Sheet, START_LIMIT, TICKS_LIMIT};
+use crate::whole;
 use std::ops::ControlFlow;
 
 /// A step that has not settled after this many rounds begins again with half its ticks.
@@ -37,8 +38,11 @@ pub struct Reach {
     pub rounds: u64,
 }
 
-/// Sees what the engine does. Methods left as they are cost nothing.
+/// Sees what the engine does. What is left as it is costs nothing.
 pub trait Watch {
+    /// Rows are bounded over whole neighborhoods, as before paper 3 of document 02.
+    const WHOLE: bool = false;
+
     /// A round begins over this enclosure, in a step of so many ticks from the start box.
     #[inline]
     fn round(&mut self, _sheet: &Sheet, _start: &StateBox, _enclosure: &StateBox, _ticks: u32) {}
@@ -94,9 +98,9 @@ pub enum Stop {
 
 /// How far each face moves in a tick.
 #[derive(Clone, Copy, Default)]
-struct Rates {
-    lower: State,
-    upper: State,
+pub(crate) struct Rates {
+    pub(crate) lower: State,
+    pub(crate) upper: State,
 }
 
 /// The least value of coefficient · x for x from `lower` to `upper`.
@@ -114,7 +118,11 @@ fn greatest_product(coefficient: i32, lower: i64, upper: i64) -> i64 {
 /// The least value of a row's numerator over a box, side by side:
 /// each variable, and the command, at the end that makes its own term least.
 #[inline]
-fn least_numerator<const N: usize>(row: &Row, over: &StateBox, commands: (i64, i64)) -> i64 {
+pub(crate) fn least_numerator<const N: usize>(
+    row: &Row,
+    over: &StateBox,
+    commands: (i64, i64),
+) -> i64 {
     let mut sum = least_product(row.b, commands.0, commands.1) + i64::from(row.c);
     for j in 0..N {
         sum += least_product(row.a[j], over.lower[j], over.upper[j]);
@@ -124,7 +132,11 @@ fn least_numerator<const N: usize>(row: &Row, over: &StateBox, commands: (i64, i
 
 /// The greatest value likewise.
 #[inline]
-fn greatest_numerator<const N: usize>(row: &Row, over: &StateBox, commands: (i64, i64)) -> i64 {
+pub(crate) fn greatest_numerator<const N: usize>(
+    row: &Row,
+    over: &StateBox,
+    commands: (i64, i64),
+) -> i64 {
     let mut sum = greatest_product(row.b, commands.0, commands.1) + i64::from(row.c);
     for j in 0..N {
         sum += greatest_product(row.a[j], over.lower[j], over.upper[j]);
@@ -134,7 +146,7 @@ fn greatest_numerator<const N: usize>(row: &Row, over: &StateBox, commands: (i64
 
 /// The least and the greatest command that the law has in a band.
 #[inline]
-fn commands(law: Law, band: &Band) -> (i64, i64) {
+pub(crate) fn commands(law: Law, band: &Band) -> (i64, i64) {
     match law {
         Law::Baseline => (
             i64::from(band.safety.least),
@@ -268,7 +280,11 @@ fn step<const N: usize, W: Watch>(
                 return None;
             }
             budget.rounds += 1;
-            let rates = round::<N, W>(sheet, law, start, &enclosure, ticks, watch);
+            let rates = if W::WHOLE {
+                whole::round(sheet, law, start, &enclosure, ticks)
+            } else {
+                round::<N, W>(sheet, law, start, &enclosure, ticks, watch)
+            };
             let on_the_way = start.hull_in::<N>(&moved::<N>(start, &rates, ticks - 1));
             if on_the_way.inside_in::<N>(&enclosure) {
                 let end = moved::<N>(start, &rates, ticks);

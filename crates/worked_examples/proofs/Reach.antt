@@ -5,6 +5,7 @@ use mathlib.Core.List.{List, [], _∷_}
 use Prim.Native.Nat.{ℕ}
 use lib.IntN.{ℤ, pos, negsuc}
 use lib.ListN.{take}
+use lib.Seq.{sets}
 use Rattle.sheet_spec.specs.SheetA.{fileA}
 use Rattle.machine_spec.specs.declared.Law.the-variants.{Baseline, Command}
 use Rattle.boxes_spec.specs.Reach.{Answer, refused, reachFile}
@@ -18,6 +19,9 @@ same-A : fileA ≡ 83 ∷ 72 ∷ 1 ∷ 1 ∷ 1 ∷ 0 ∷ 0 ∷ 4 ∷ 0 ∷ 4 ∷
 unfolding fileA
 same-A = refl
 
+unfoldable two-bands : List ℕ
+two-bands = 83 ∷ 72 ∷ 1 ∷ 2 ∷ 1 ∷ 0 ∷ 0 ∷ 4 ∷ 0 ∷ 4 ∷ 0 ∷ 4 ∷ 255 ∷ 255 ∷ 255 ∷ 231 ∷ 0 ∷ 0 ∷ 0 ∷ 25 ∷ 0 ∷ 5 ∷ 66 ∷ 68 ∷ 255 ∷ 225 ∷ 123 ∷ 128 ∷ 0 ∷ 0 ∷ 0 ∷ 0 ∷ 0 ∷ 0 ∷ 0 ∷ 0 ∷ 255 ∷ 255 ∷ 0 ∷ 4 ∷ 0 ∷ 0 ∷ 0 ∷ 0 ∷ 0 ∷ 0 ∷ 0 ∷ 0 ∷ 0 ∷ 20 ∷ 66 ∷ 68 ∷ 0 ∷ 0 ∷ 0 ∷ 0 ∷ 0 ∷ 0 ∷ 0 ∷ 0 ∷ 0 ∷ 0 ∷ 0 ∷ 0 ∷ 255 ∷ 255 ∷ 0 ∷ 4 ∷ 0 ∷ 0 ∷ 0 ∷ 0 ∷ 0 ∷ 0 ∷ 0 ∷ 0 ∷ 0 ∷ 20 ∷ 78 ∷ 71 ∷ 0 ∷ 0 ∷ 0 ∷ 130 ∷ 0 ∷ 30 ∷ 132 ∷ 128 ∷ 82 ∷ 67 ∷ 255 ∷ 255 ∷ 255 ∷ 156 ∷ 0 ∷ 0 ∷ 0 ∷ 100 ∷ []
+
 unfoldable sheet0 : List ℕ
 sheet0 = 83 ∷ 72 ∷ 2 ∷ 3 ∷ 1 ∷ 0 ∷ 0 ∷ 4 ∷ 0 ∷ 8 ∷ 0 ∷ 8 ∷ 255 ∷ 255 ∷ 255 ∷ 236 ∷ 0 ∷ 0 ∷ 0 ∷ 20 ∷ 0 ∷ 8 ∷ 0 ∷ 6 ∷ 66 ∷ 68 ∷ 255 ∷ 225 ∷ 123 ∷ 128 ∷ 0 ∷ 0 ∷ 0 ∷ 0 ∷ 0 ∷ 0 ∷ 0 ∷ 5 ∷ 0 ∷ 0 ∷ 0 ∷ 1 ∷ 0 ∷ 0 ∷ 0 ∷ 0 ∷ 0 ∷ 0 ∷ 0 ∷ 0 ∷ 0 ∷ 1 ∷ 0 ∷ 4 ∷ 255 ∷ 255 ∷ 255 ∷ 250 ∷ 0 ∷ 4 ∷ 0 ∷ 0 ∷ 0 ∷ 0 ∷ 0 ∷ 0 ∷ 0 ∷ 3 ∷ 0 ∷ 16 ∷ 66 ∷ 68 ∷ 0 ∷ 0 ∷ 0 ∷ 0 ∷ 255 ∷ 255 ∷ 255 ∷ 254 ∷ 0 ∷ 0 ∷ 0 ∷ 2 ∷ 0 ∷ 0 ∷ 0 ∷ 1 ∷ 0 ∷ 0 ∷ 0 ∷ 0 ∷ 0 ∷ 0 ∷ 0 ∷ 0 ∷ 0 ∷ 1 ∷ 0 ∷ 4 ∷ 255 ∷ 254 ∷ 255 ∷ 250 ∷ 0 ∷ 4 ∷ 0 ∷ 0 ∷ 0 ∷ 0 ∷ 0 ∷ 0 ∷ 0 ∷ 3 ∷ 0 ∷ 16 ∷ 66 ∷ 68 ∷ 0 ∷ 0 ∷ 0 ∷ 40 ∷ 255 ∷ 255 ∷ 255 ∷ 246 ∷ 255 ∷ 255 ∷ 255 ∷ 251 ∷ 0 ∷ 0 ∷ 0 ∷ 1 ∷ 0 ∷ 0 ∷ 0 ∷ 0 ∷ 0 ∷ 0 ∷ 0 ∷ 0 ∷ 0 ∷ 2 ∷ 0 ∷ 4 ∷ 255 ∷ 254 ∷ 255 ∷ 248 ∷ 0 ∷ 4 ∷ 0 ∷ 0 ∷ 0 ∷ 10 ∷ 0 ∷ 0 ∷ 0 ∷ 5 ∷ 0 ∷ 16 ∷ 78 ∷ 71 ∷ 0 ∷ 0 ∷ 3 ∷ 232 ∷ 0 ∷ 30 ∷ 132 ∷ 128 ∷ 255 ∷ 225 ∷ 123 ∷ 128 ∷ 0 ∷ 30 ∷ 132 ∷ 128 ∷ 82 ∷ 67 ∷ 255 ∷ 255 ∷ 255 ∷ 156 ∷ 0 ∷ 0 ∷ 0 ∷ 100 ∷ 255 ∷ 255 ∷ 255 ∷ 186 ∷ 0 ∷ 0 ∷ 0 ∷ 75 ∷ []
 
@@ -29,6 +33,9 @@ sheet2 = 83 ∷ 72 ∷ 2 ∷ 2 ∷ 1 ∷ 1 ∷ 0 ∷ 8 ∷ 0 ∷ 1 ∷ 0 ∷ 4 �
 
 unfoldable sheet3 : List ℕ
 sheet3 = 83 ∷ 72 ∷ 3 ∷ 1 ∷ 1 ∷ 2 ∷ 0 ∷ 2 ∷ 0 ∷ 6 ∷ 0 ∷ 6 ∷ 255 ∷ 255 ∷ 255 ∷ 251 ∷ 0 ∷ 0 ∷ 0 ∷ 5 ∷ 3 ∷ 132 ∷ 3 ∷ 132 ∷ 3 ∷ 132 ∷ 66 ∷ 68 ∷ 255 ∷ 225 ∷ 123 ∷ 128 ∷ 255 ∷ 255 ∷ 255 ∷ 255 ∷ 0 ∷ 0 ∷ 0 ∷ 1 ∷ 255 ∷ 251 ∷ 0 ∷ 1 ∷ 0 ∷ 0 ∷ 0 ∷ 3 ∷ 0 ∷ 0 ∷ 0 ∷ 0 ∷ 0 ∷ 0 ∷ 0 ∷ 0 ∷ 0 ∷ 32 ∷ 0 ∷ 0 ∷ 255 ∷ 251 ∷ 255 ∷ 255 ∷ 0 ∷ 2 ∷ 0 ∷ 0 ∷ 0 ∷ 0 ∷ 0 ∷ 0 ∷ 0 ∷ 4 ∷ 0 ∷ 32 ∷ 0 ∷ 1 ∷ 0 ∷ 0 ∷ 255 ∷ 251 ∷ 255 ∷ 255 ∷ 0 ∷ 0 ∷ 0 ∷ 5 ∷ 0 ∷ 0 ∷ 0 ∷ 0 ∷ 0 ∷ 32 ∷ 78 ∷ 71 ∷ 0 ∷ 0 ∷ 1 ∷ 244 ∷ 0 ∷ 0 ∷ 2 ∷ 88 ∷ 0 ∷ 0 ∷ 1 ∷ 244 ∷ 0 ∷ 0 ∷ 2 ∷ 88 ∷ 0 ∷ 0 ∷ 1 ∷ 244 ∷ 0 ∷ 0 ∷ 2 ∷ 88 ∷ 82 ∷ 67 ∷ 255 ∷ 255 ∷ 255 ∷ 166 ∷ 0 ∷ 0 ∷ 0 ∷ 90 ∷ 255 ∷ 255 ∷ 255 ∷ 166 ∷ 0 ∷ 0 ∷ 0 ∷ 90 ∷ 255 ∷ 255 ∷ 255 ∷ 166 ∷ 0 ∷ 0 ∷ 0 ∷ 90 ∷ []
+
+unfoldable sheet4 : List ℕ
+sheet4 = 83 ∷ 72 ∷ 2 ∷ 3 ∷ 1 ∷ 1 ∷ 0 ∷ 2 ∷ 0 ∷ 2 ∷ 0 ∷ 2 ∷ 255 ∷ 255 ∷ 255 ∷ 253 ∷ 0 ∷ 0 ∷ 0 ∷ 3 ∷ 0 ∷ 12 ∷ 0 ∷ 5 ∷ 66 ∷ 68 ∷ 255 ∷ 225 ∷ 123 ∷ 128 ∷ 0 ∷ 0 ∷ 0 ∷ 0 ∷ 0 ∷ 0 ∷ 0 ∷ 0 ∷ 0 ∷ 0 ∷ 0 ∷ 3 ∷ 0 ∷ 0 ∷ 0 ∷ 0 ∷ 0 ∷ 0 ∷ 0 ∷ 0 ∷ 0 ∷ 0 ∷ 0 ∷ 2 ∷ 0 ∷ 0 ∷ 255 ∷ 255 ∷ 0 ∷ 1 ∷ 0 ∷ 0 ∷ 0 ∷ 0 ∷ 0 ∷ 0 ∷ 0 ∷ 0 ∷ 0 ∷ 2 ∷ 66 ∷ 68 ∷ 0 ∷ 0 ∷ 0 ∷ 7 ∷ 255 ∷ 255 ∷ 255 ∷ 255 ∷ 0 ∷ 0 ∷ 0 ∷ 1 ∷ 0 ∷ 0 ∷ 0 ∷ 1 ∷ 0 ∷ 0 ∷ 255 ∷ 255 ∷ 255 ∷ 229 ∷ 0 ∷ 0 ∷ 0 ∷ 0 ∷ 0 ∷ 4 ∷ 0 ∷ 0 ∷ 255 ∷ 255 ∷ 0 ∷ 1 ∷ 0 ∷ 0 ∷ 0 ∷ 20 ∷ 0 ∷ 0 ∷ 0 ∷ 0 ∷ 0 ∷ 4 ∷ 66 ∷ 68 ∷ 0 ∷ 0 ∷ 0 ∷ 34 ∷ 0 ∷ 0 ∷ 0 ∷ 0 ∷ 0 ∷ 0 ∷ 0 ∷ 0 ∷ 0 ∷ 0 ∷ 255 ∷ 254 ∷ 0 ∷ 0 ∷ 0 ∷ 0 ∷ 0 ∷ 82 ∷ 0 ∷ 0 ∷ 0 ∷ 0 ∷ 0 ∷ 2 ∷ 0 ∷ 0 ∷ 0 ∷ 1 ∷ 0 ∷ 1 ∷ 255 ∷ 255 ∷ 255 ∷ 218 ∷ 0 ∷ 0 ∷ 0 ∷ 0 ∷ 0 ∷ 2 ∷ 78 ∷ 71 ∷ 0 ∷ 0 ∷ 1 ∷ 244 ∷ 0 ∷ 0 ∷ 2 ∷ 88 ∷ 0 ∷ 0 ∷ 1 ∷ 244 ∷ 0 ∷ 0 ∷ 2 ∷ 88 ∷ 82 ∷ 67 ∷ 255 ∷ 255 ∷ 255 ∷ 156 ∷ 0 ∷ 0 ∷ 0 ∷ 100 ∷ 255 ∷ 255 ∷ 255 ∷ 156 ∷ 0 ∷ 0 ∷ 0 ∷ 100 ∷ []
 
 reach-under-command : reachFile sheet0 9 4 (Command (negsuc 6)) (pos 36 ∷ negsuc 2 ∷ pos 0 ∷ pos 0 ∷ pos 41 ∷ pos 5 ∷ pos 0 ∷ pos 0 ∷ []) ≡ answered (negsuc 27 ∷ negsuc 45 ∷ pos 0 ∷ pos 0 ∷ pos 105 ∷ pos 27 ∷ pos 0 ∷ pos 0 ∷ []) (negsuc 27 ∷ negsuc 50 ∷ pos 0 ∷ pos 0 ∷ pos 105 ∷ pos 33 ∷ pos 0 ∷ pos 0 ∷ []) 9
 unfolding sheet0 everything
@@ -45,6 +52,22 @@ reach-with-two-halvings = refl
 reach-of-no-ticks : reachFile sheet3 0 1000 (Command (pos 5)) (negsuc 0 ∷ negsuc 2 ∷ negsuc 4 ∷ pos 0 ∷ pos 2 ∷ pos 4 ∷ pos 6 ∷ pos 0 ∷ []) ≡ answered (negsuc 0 ∷ negsuc 2 ∷ negsuc 4 ∷ pos 0 ∷ pos 2 ∷ pos 4 ∷ pos 6 ∷ pos 0 ∷ []) (negsuc 0 ∷ negsuc 2 ∷ negsuc 4 ∷ pos 0 ∷ pos 2 ∷ pos 4 ∷ pos 6 ∷ pos 0 ∷ []) 0
 unfolding sheet3 everything
 reach-of-no-ticks = refl
+
+reach-over-three-parts : reachFile sheet4 1 1 Baseline (pos 50 ∷ pos 0 ∷ pos 0 ∷ pos 0 ∷ pos 50 ∷ pos 40 ∷ pos 0 ∷ pos 0 ∷ []) ≡ answered (pos 45 ∷ negsuc 2 ∷ pos 0 ∷ pos 0 ∷ pos 59 ∷ pos 41 ∷ pos 0 ∷ pos 0 ∷ []) (pos 45 ∷ negsuc 2 ∷ pos 0 ∷ pos 0 ∷ pos 59 ∷ pos 41 ∷ pos 0 ∷ pos 0 ∷ []) 1
+unfolding sheet4 everything
+reach-over-three-parts = refl
+
+reach-over-parts-in-longer-steps : reachFile sheet4 5 2 (Command (negsuc 2)) (pos 50 ∷ pos 4 ∷ pos 0 ∷ pos 0 ∷ pos 50 ∷ pos 40 ∷ pos 0 ∷ pos 0 ∷ []) ≡ answered (pos 4 ∷ negsuc 14 ∷ pos 0 ∷ pos 0 ∷ pos 95 ∷ pos 40 ∷ pos 0 ∷ pos 0 ∷ []) (pos 4 ∷ negsuc 15 ∷ pos 0 ∷ pos 0 ∷ pos 95 ∷ pos 40 ∷ pos 0 ∷ pos 0 ∷ []) 6
+unfolding sheet4 everything
+reach-over-parts-in-longer-steps = refl
+
+reach-up-to-an-edge : reachFile sheet4 1 1 Baseline (pos 50 ∷ pos 20 ∷ pos 0 ∷ pos 0 ∷ pos 50 ∷ pos 34 ∷ pos 0 ∷ pos 0 ∷ []) ≡ answered (pos 48 ∷ pos 17 ∷ pos 0 ∷ pos 0 ∷ pos 57 ∷ pos 34 ∷ pos 0 ∷ pos 0 ∷ []) (pos 48 ∷ pos 17 ∷ pos 0 ∷ pos 0 ∷ pos 57 ∷ pos 34 ∷ pos 0 ∷ pos 0 ∷ []) 1
+unfolding sheet4 everything
+reach-up-to-an-edge = refl
+
+reach-up-to-just-below-an-edge : reachFile sheet4 1 1 Baseline (pos 50 ∷ pos 20 ∷ pos 0 ∷ pos 0 ∷ pos 50 ∷ pos 33 ∷ pos 0 ∷ pos 0 ∷ []) ≡ answered (pos 48 ∷ pos 17 ∷ pos 0 ∷ pos 0 ∷ pos 52 ∷ pos 33 ∷ pos 0 ∷ pos 0 ∷ []) (pos 48 ∷ pos 17 ∷ pos 0 ∷ pos 0 ∷ pos 52 ∷ pos 33 ∷ pos 0 ∷ pos 0 ∷ []) 1
+unfolding sheet4 everything
+reach-up-to-just-below-an-edge = refl
 
 refused-reach : reachFile sheet3 1001 1 (Command (pos 6)) (pos 0 ∷ pos 0 ∷ pos 0 ∷ pos 0 ∷ pos 0 ∷ pos 0 ∷ pos 0 ∷ pos 0 ∷ []) ≡ refused 16
 unfolding sheet3 everything
@@ -137,3 +160,19 @@ width-before-command = refl
 command-before-start : reachFile fileA 1 1 (Command (pos 26)) (pos 5 ∷ pos 0 ∷ pos 0 ∷ pos 0 ∷ pos 4 ∷ pos 0 ∷ pos 0 ∷ pos 0 ∷ []) ≡ refused 14
 unfolding everything
 command-before-start = refl
+
+start-below-the-edge : reachFile (sets (sets two-bands 64 (0 ∷ 20 ∷ [])) 68 (0 ∷ 0 ∷ 0 ∷ 40 ∷ [])) 1 1 Baseline (negsuc 4 ∷ pos 0 ∷ pos 0 ∷ pos 0 ∷ negsuc 0 ∷ pos 0 ∷ pos 0 ∷ pos 0 ∷ []) ≡ answered (negsuc 4 ∷ pos 0 ∷ pos 0 ∷ pos 0 ∷ pos 0 ∷ pos 0 ∷ pos 0 ∷ pos 0 ∷ []) (negsuc 4 ∷ pos 0 ∷ pos 0 ∷ pos 0 ∷ pos 0 ∷ pos 0 ∷ pos 0 ∷ pos 0 ∷ []) 1
+unfolding two-bands everything
+start-below-the-edge = refl
+
+start-up-to-the-edge : reachFile (sets (sets two-bands 64 (0 ∷ 20 ∷ [])) 68 (0 ∷ 0 ∷ 0 ∷ 40 ∷ [])) 1 1 Baseline (negsuc 4 ∷ pos 0 ∷ pos 0 ∷ pos 0 ∷ pos 0 ∷ pos 0 ∷ pos 0 ∷ pos 0 ∷ []) ≡ answered (negsuc 4 ∷ pos 0 ∷ pos 0 ∷ pos 0 ∷ pos 2 ∷ pos 0 ∷ pos 0 ∷ pos 0 ∷ []) (negsuc 4 ∷ pos 0 ∷ pos 0 ∷ pos 0 ∷ pos 2 ∷ pos 0 ∷ pos 0 ∷ pos 0 ∷ []) 1
+unfolding two-bands everything
+start-up-to-the-edge = refl
+
+start-beyond-the-edge : reachFile (sets (sets two-bands 64 (0 ∷ 20 ∷ [])) 68 (0 ∷ 0 ∷ 0 ∷ 40 ∷ [])) 1 1 Baseline (negsuc 4 ∷ pos 0 ∷ pos 0 ∷ pos 0 ∷ pos 1 ∷ pos 0 ∷ pos 0 ∷ pos 0 ∷ []) ≡ answered (negsuc 4 ∷ pos 0 ∷ pos 0 ∷ pos 0 ∷ pos 4 ∷ pos 0 ∷ pos 0 ∷ pos 0 ∷ []) (negsuc 4 ∷ pos 0 ∷ pos 0 ∷ pos 0 ∷ pos 4 ∷ pos 0 ∷ pos 0 ∷ pos 0 ∷ []) 1
+unfolding two-bands everything
+start-beyond-the-edge = refl
+
+start-from-the-edge : reachFile (sets (sets two-bands 64 (0 ∷ 20 ∷ [])) 68 (0 ∷ 0 ∷ 0 ∷ 40 ∷ [])) 1 1 Baseline (pos 0 ∷ pos 0 ∷ pos 0 ∷ pos 0 ∷ pos 1 ∷ pos 0 ∷ pos 0 ∷ pos 0 ∷ []) ≡ answered (pos 2 ∷ pos 0 ∷ pos 0 ∷ pos 0 ∷ pos 4 ∷ pos 0 ∷ pos 0 ∷ pos 0 ∷ []) (pos 0 ∷ pos 0 ∷ pos 0 ∷ pos 0 ∷ pos 4 ∷ pos 0 ∷ pos 0 ∷ pos 0 ∷ []) 1
+unfolding two-bands everything
+start-from-the-edge = refl

@@ -3,11 +3,13 @@
 
 use second_guard::boxes::StateBox;
 use second_guard::decision::{
-    check_recovery_watched, decide, decide_watched, read_question, Decision, Faults, RecoveryCheck,
+    check_recovery_watched, decide, decide_watched, read_question, Decision, Faults, Question,
+    RecoveryCheck,
 };
 use second_guard::neighborhoods::neighborhoods;
-use second_guard::reach::{reach, Budget, Law, Step, Watch};
+use second_guard::reach::{advance, reach, Budget, Law, Step, Watch};
 use second_guard::sheet::{self, Band, CommandRange, Row, Sheet};
+use second_guard::whole::WholeNeighborhoods;
 use std::fmt::Write;
 use std::ops::ControlFlow;
 
@@ -17,6 +19,19 @@ enum Covers {
     Variables(i32),
     /// A neighborhood over this number of bands.
     BandsMet(usize),
+    /// A neighborhood of the band variable that its depth cuts and an edge.
+    CutTwice,
+    /// A neighborhood whose upper side is an edge.
+    EndsAtEdge,
+    /// A neighborhood whose upper side is just below an edge.
+    EndsBelowEdge,
+    /// Before paper 3 of document 02, with rates over whole neighborhoods, a reach had other boxes,
+    /// a decision and a recovery check another answer.
+    OtherBoxesBefore,
+    HandedOverBefore,
+    KeptBefore,
+    FailedBefore,
+    PassedBefore,
     /// A row with a spread that a round used.
     Spread,
     NegativeCoefficient,
@@ -56,6 +71,16 @@ impl Covers {
         match self {
             Covers::Variables(n) => format!("n = {n}"),
             Covers::BandsMet(bands) => format!("a neighborhood over {bands} bands"),
+            Covers::CutTwice => {
+                "a neighborhood of the band variable cut by its depth and by an edge".into()
+            }
+            Covers::EndsAtEdge => "a neighborhood up to an edge".into(),
+            Covers::EndsBelowEdge => "a neighborhood up to just below an edge".into(),
+            Covers::OtherBoxesBefore => "other boxes before paper 3".into(),
+            Covers::HandedOverBefore => "handed over before paper 3".into(),
+            Covers::KeptBefore => "kept before paper 3".into(),
+            Covers::FailedBefore => "failed before paper 3".into(),
+            Covers::PassedBefore => "passed before paper 3".into(),
             Covers::Spread => "a spread".into(),
             Covers::NegativeCoefficient => "negative coefficients".into(),
             Covers::Clamped => "clamped changes".into(),
@@ -92,6 +117,14 @@ const REQUIRED: &[Covers] = &[
     Covers::Variables(4),
     Covers::BandsMet(2),
     Covers::BandsMet(3),
+    Covers::CutTwice,
+    Covers::EndsAtEdge,
+    Covers::EndsBelowEdge,
+    Covers::OtherBoxesBefore,
+    Covers::HandedOverBefore,
+    Covers::KeptBefore,
+    Covers::FailedBefore,
+    Covers::PassedBefore,
     Covers::Spread,
     Covers::NegativeCoefficient,
     Covers::Clamped,
@@ -123,6 +156,9 @@ const ROUNDS: u64 = 60;
 #[derive(Default)]
 struct Counts {
     bands_met: [bool; sheet::BANDS + 1],
+    cut_twice: bool,
+    ends_at_edge: bool,
+    ends_below_edge: bool,
     clamped: u64,
     unclamped: u64,
     halvings: u32,
@@ -134,6 +170,9 @@ impl Watch for Counts {
     fn round(&mut self, sheet: &Sheet, start: &StateBox, enclosure: &StateBox, ticks: u32) {
         for around in neighborhoods(sheet, start, enclosure, ticks) {
             self.bands_met[around.bands.len()] = true;
+            self.cut_twice |= around.cut_twice(sheet);
+            self.ends_at_edge |= around.ends_at_edge(sheet);
+            self.ends_below_edge |= around.ends_below_edge(sheet);
         }
     }
 
@@ -337,6 +376,48 @@ fn stiff() -> Sheet {
         [sides([(90, 200)]), sides([(-200, -90)])],
         sides([(-25, 25)]),
     )
+}
+
+/// x is driven by z, whose bands begin at 7 and at 34. Each of x's rows is greatest or least at an
+/// end of its band.
+fn ramps() -> Sheet {
+    with(
+        head(1, (2, 2, 2), (-3, 3), [12, 5]),
+        [
+            band(
+                FIRST,
+                (0, 0),
+                [row([0, 3], 0, 0, 0, 2), row([0, -1], 1, 0, 0, 2)],
+            ),
+            band(
+                7,
+                (-1, 1),
+                [row([0, 1], 0, -27, 0, 4), row([0, -1], 1, 20, 0, 4)],
+            ),
+            band(
+                34,
+                (0, 0),
+                [row([0, -2], 0, 82, 0, 2), row([0, 1], 1, -38, 0, 2)],
+            ),
+        ],
+        [sides([(500, 600), (500, 600)])],
+        sides([(-100, 100), (-100, 100)]),
+    )
+}
+
+/// One variable and two bands, whose rows have neither command nor spread nor divisor.
+fn tiny(rho: i32, cap: i32, lower: Row, edge: i32, upper: Row, recovery: (i64, i64)) -> Sheet {
+    with(
+        head(0, (1, 1, rho), (0, 0), [cap]),
+        [band(FIRST, (0, 0), [lower]), band(edge, (0, 0), [upper])],
+        [sides([(100, 200)])],
+        sides([recovery]),
+    )
+}
+
+/// a·x + c in a tick.
+fn by(a: i32, c: i32) -> Row {
+    row([a], 0, c, 0, 1)
 }
 
 fn examples() -> Vec<Example> {
@@ -559,6 +640,77 @@ fn examples() -> Vec<Example> {
             },
             covers: vec![UnderCommand, NoTicks, Variables(3)],
         },
+        Example {
+            name: "reach_over_three_parts",
+            sheet: ramps(),
+            call: Call::Reach {
+                ticks: 1,
+                width: 1,
+                law: Law::Baseline,
+                start: sides([(50, 50), (0, 40)]),
+            },
+            covers: vec![UnderBaseline, BandsMet(3), CutTwice, OtherBoxesBefore],
+        },
+        Example {
+            name: "reach_over_parts_in_longer_steps",
+            sheet: ramps(),
+            call: Call::Reach {
+                ticks: 5,
+                width: 2,
+                law: Law::Command(-3),
+                start: sides([(50, 50), (4, 40)]),
+            },
+            covers: vec![UnderCommand, BandsMet(3), CutTwice, OtherBoxesBefore],
+        },
+        Example {
+            name: "reach_up_to_an_edge",
+            sheet: ramps(),
+            call: Call::Reach {
+                ticks: 1,
+                width: 1,
+                law: Law::Baseline,
+                start: sides([(50, 50), (20, 34)]),
+            },
+            covers: vec![UnderBaseline, BandsMet(2), EndsAtEdge, OtherBoxesBefore],
+        },
+        Example {
+            name: "reach_up_to_just_below_an_edge",
+            sheet: ramps(),
+            call: Call::Reach {
+                ticks: 1,
+                width: 1,
+                law: Law::Baseline,
+                start: sides([(50, 50), (20, 33)]),
+            },
+            covers: vec![UnderBaseline, EndsBelowEdge],
+        },
+        // Below 1 the change is 1 - x, from 1 on x; so it is at least 1.
+        Example {
+            name: "kept_by_parts",
+            sheet: tiny(1, 3, by(-1, 1), 1, by(1, 0), (2, 4)),
+            call: ask(10, 0, sides([(0, 1)])),
+            covers: vec![Keep, HandedOverBefore, BandsMet(2), Variables(1)],
+        },
+        // After the first tick the box ends at 4, before paper 3 at 5. The upper face's second
+        // neighborhood so begins at 0, in the first band, and not at 1.
+        Example {
+            name: "handed_over_by_parts",
+            sheet: tiny(1, 2, by(2, 1), 1, by(-1, 0), (-4, 4)),
+            call: ask(10, 0, sides([(0, 3)])),
+            covers: vec![Finest, KeptBefore, BandsMet(2), Variables(1)],
+        },
+        Example {
+            name: "check_passes_by_parts",
+            sheet: tiny(1, 2, by(-2, 0), 1, by(0, 0), (0, 1)),
+            call: Call::Check,
+            covers: vec![CheckPasses, FailedBefore, BandsMet(2), Variables(1)],
+        },
+        Example {
+            name: "check_fails_by_parts",
+            sheet: tiny(2, 2, by(0, 1), 5, by(-2, 10), (0, 8)),
+            call: Call::Check,
+            covers: vec![CheckFails, PassedBefore, BandsMet(2), CutTwice],
+        },
         refused(
             "refused_row",
             {
@@ -678,6 +830,57 @@ fn question_bytes(allowance: u32, command: i32, measured: &StateBox, n: usize) -
     bytes
 }
 
+/// Code, width and rounds of a decision on a question that was read.
+fn decided(decision: Decision) -> (u8, u32, u64) {
+    match decision {
+        Decision::Keep { width, rounds } => (0, width, rounds),
+        Decision::Finest { width, rounds } => (1, width, rounds),
+        Decision::Spent { width, rounds } => (2, width, rounds),
+        Decision::Refused(_) => unreachable!("sheet and question were read"),
+    }
+}
+
+/// The same of the recovery check of a sheet that was read.
+fn checked(check: RecoveryCheck) -> (u8, u32, u64) {
+    match check {
+        RecoveryCheck::Pass { width, rounds } => (0, width, rounds),
+        RecoveryCheck::Fail { width, rounds } => (1, width, rounds),
+        RecoveryCheck::Refused(_) => unreachable!("the sheet was read"),
+    }
+}
+
+/// The code before paper 3: of a reach 0 where it had the same end box.
+fn code_before(example: &Example, answer: &Answer) -> u8 {
+    let sheet = &example.sheet;
+    let watch = &mut WholeNeighborhoods;
+    match example.call {
+        Call::Decide {
+            allowance,
+            command,
+            measured,
+        } => {
+            let question = Question {
+                allowance,
+                command,
+                measured,
+            };
+            decided(decide_watched(sheet, &question, Faults::default(), watch)).0
+        }
+        Call::Check => checked(check_recovery_watched(sheet, watch)).0,
+        Call::Reach {
+            ticks,
+            width,
+            law,
+            start,
+        } => {
+            let mut budget = Budget::unlimited();
+            let end = advance(sheet, law, &start, ticks, width, &mut budget, watch);
+            let same = answer.reach.is_some_and(|reach| end == Ok(reach.0));
+            u8::from(!same)
+        }
+    }
+}
+
 fn answer(bytes: &[u8], call: &Call, n: usize) -> Answer {
     let mut counts = Counts::default();
     let sheet = match sheet::read(bytes) {
@@ -697,12 +900,7 @@ fn answer(bytes: &[u8], call: &Call, n: usize) -> Answer {
             };
             let decision = decide_watched(&sheet, &question, Faults::default(), &mut counts);
             assert_eq!(decision, decide(bytes, &question_bytes));
-            let (code, width, rounds) = match decision {
-                Decision::Keep { width, rounds } => (0, width, rounds),
-                Decision::Finest { width, rounds } => (1, width, rounds),
-                Decision::Spent { width, rounds } => (2, width, rounds),
-                Decision::Refused(_) => unreachable!("sheet and question were read"),
-            };
+            let (code, width, rounds) = decided(decision);
             Answer {
                 code,
                 width,
@@ -713,11 +911,7 @@ fn answer(bytes: &[u8], call: &Call, n: usize) -> Answer {
             }
         }
         Call::Check => {
-            let (code, width, rounds) = match check_recovery_watched(&sheet, &mut counts) {
-                RecoveryCheck::Pass { width, rounds } => (0, width, rounds),
-                RecoveryCheck::Fail { width, rounds } => (1, width, rounds),
-                RecoveryCheck::Refused(_) => unreachable!("the sheet was read"),
-            };
+            let (code, width, rounds) = checked(check_recovery_watched(&sheet, &mut counts));
             Answer {
                 code,
                 width,
@@ -738,7 +932,7 @@ fn answer(bytes: &[u8], call: &Call, n: usize) -> Answer {
                 Err(refusal) => return refused(refusal),
             };
             let mut budget = Budget::unlimited();
-            let end = second_guard::reach::advance(
+            let end = advance(
                 &sheet,
                 *law,
                 start,
@@ -772,7 +966,10 @@ fn shows(covers: Covers, example: &Example, answer: &Answer) -> bool {
             .any(|band| band.rows[..n].iter().any(test))
     };
     let decides = matches!(example.call, Call::Decide { .. });
+    let checks = matches!(example.call, Call::Check);
     let decided = |code| decides && answer.code == code;
+    let checked = |code| checks && answer.code == code;
+    let before = || code_before(example, answer);
     let allowance = match example.call {
         Call::Decide { allowance, .. } => u64::from(allowance),
         _ => u64::MAX,
@@ -780,6 +977,14 @@ fn shows(covers: Covers, example: &Example, answer: &Answer) -> bool {
     match covers {
         Covers::Variables(n) => sheet.variables == n,
         Covers::BandsMet(bands) => counts.bands_met[bands],
+        Covers::CutTwice => counts.cut_twice,
+        Covers::EndsAtEdge => counts.ends_at_edge,
+        Covers::EndsBelowEdge => counts.ends_below_edge,
+        Covers::OtherBoxesBefore => answer.reach.is_some() && before() != 0,
+        Covers::HandedOverBefore => decides && before() != 0,
+        Covers::KeptBefore => decides && before() == 0,
+        Covers::FailedBefore => checks && before() != 0,
+        Covers::PassedBefore => checks && before() == 0,
         Covers::Spread => answer.rounds > 0 && any_row(|row| row.d > 0),
         Covers::NegativeCoefficient => {
             answer.rounds > 0 && any_row(|row| row.a.iter().any(|&a| a < 0))
@@ -806,8 +1011,8 @@ fn shows(covers: Covers, example: &Example, answer: &Answer) -> bool {
             .iter()
             .any(|step| sheet.unsafe_boxes().iter().any(|u| u.meets(&step.swept))),
         Covers::DeltaNotAlpha => decides && sheet.delta != sheet.alpha,
-        Covers::CheckPasses => matches!(example.call, Call::Check) && answer.code == 0,
-        Covers::CheckFails => matches!(example.call, Call::Check) && answer.code == 1,
+        Covers::CheckPasses => checked(0),
+        Covers::CheckFails => checked(1),
         Covers::UnderCommand => matches!(
             example.call,
             Call::Reach {

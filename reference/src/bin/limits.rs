@@ -334,6 +334,11 @@ fn reaches() -> Vec<Reach> {
     let under =
         |name, command, refusal| reach(name, 1, 1, Law::Command(command), (95, 100), refusal);
     let from = |name, start, refusal| reach(name, 1, 1, Law::Baseline, start, refusal);
+    // from the edge at 0 on, x changes by x + 2
+    let over_edge = |name, start| Reach {
+        sheet: two_bands().number(64, 2, 20).number(68, 4, 40),
+        ..from(name, start, 0)
+    };
     vec![
         plain("ticks_0", 0, 1, 0),
         plain("ticks_1", 1, 1, 0),
@@ -367,6 +372,10 @@ fn reaches() -> Vec<Reach> {
         ),
         reach("width_before_command", 1, 0, Law::Command(26), (0, 0), 16),
         reach("command_before_start", 1, 1, Law::Command(26), (5, 4), 14),
+        over_edge("start_below_the_edge", (-5, -1)),
+        over_edge("start_up_to_the_edge", (-5, 0)),
+        over_edge("start_beyond_the_edge", (-5, 1)),
+        over_edge("start_from_the_edge", (0, 1)),
     ]
 }
 

@@ -272,6 +272,7 @@ use mathlib.Core.List.{List, [], _∷_}
 use Prim.Native.Nat.{ℕ}
 use lib.IntN.{ℤ, pos, negsuc}
 use lib.ListN.{take}
+use lib.Seq.{sets}
 use Rattle.sheet_spec.specs.SheetA.{fileA}
 use Rattle.machine_spec.specs.declared.Law.the-variants.{Baseline, Command}
 use Rattle.boxes_spec.specs.Reach.{Answer, refused, reachFile}
