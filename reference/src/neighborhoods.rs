@@ -68,20 +68,15 @@ impl Neighborhood {
         self.variable == sheet.band_variable as usize && self.cut && self.bands.len() > 1
     }
 
-    /// Its upper side is a later band's edge: that band's part is one value wide.
-    pub fn ends_at_edge(&self, sheet: &Sheet) -> bool {
-        self.bands.len() > 1 && self.edge_above_end(sheet, self.bands.end - 1) == Some(0)
-    }
-
-    /// Its upper side is just below the next band's edge, which it so misses.
-    pub fn ends_below_edge(&self, sheet: &Sheet) -> bool {
-        self.edge_above_end(sheet, self.bands.end) == Some(1)
-    }
-
-    /// How far above the upper side band k begins.
-    fn edge_above_end(&self, sheet: &Sheet, k: usize) -> Option<i64> {
-        let upper = self.sides.upper[sheet.band_variable as usize];
-        let band = sheet.bands().get(k)?;
-        Some(i64::from(band.edge) - upper)
+    /// A later band's edge lies so far above this side in the band variable.
+    pub fn edge_at(&self, sheet: &Sheet, side: Face, above: i64) -> bool {
+        let v = sheet.band_variable as usize;
+        let at = above
+            + match side {
+                Face::Lower => self.sides.lower[v],
+                Face::Upper => self.sides.upper[v],
+            };
+        let later = &sheet.bands()[1..];
+        later.iter().any(|band| i64::from(band.edge) == at)
     }
 }

@@ -3,9 +3,12 @@
 
 use crate::archive::{Answer, ReachCall};
 use second_guard::boxes::StateBox;
-use second_guard::decision::{self, pack_refusal};
+use second_guard::decision::{
+    self, check_recovery_watched, decide_watched, pack_refusal, read_question, Faults,
+};
 use second_guard::reach::{self, Law};
 use second_guard::sheet::{self, Refusal, Sheet, NUMBERS};
+use second_guard::whole::WholeNeighborhoods;
 
 /// The answer of a call that gives one number, or is refused.
 fn answer(given: Result<u64, Refusal>) -> Answer {
@@ -33,6 +36,23 @@ pub fn recovery(sheet: &[u8]) -> Answer {
 
 pub fn decide(sheet: &[u8], question: &[u8]) -> Answer {
     Answer(decision::decide(sheet, question).pack())
+}
+
+/// What the decision was before paper 3 of document 02.
+pub fn decide_before(sheet: &[u8], question: &[u8]) -> Answer {
+    answer(sheet::read(sheet).and_then(|sheet| {
+        let question = read_question(&sheet, question)?;
+        let faults = Faults::default();
+        Ok(decide_watched(&sheet, &question, faults, &mut WholeNeighborhoods).pack())
+    }))
+}
+
+/// The same of the recovery check.
+pub fn recovery_before(sheet: &[u8]) -> Answer {
+    answer(
+        sheet::read(sheet)
+            .map(|sheet| check_recovery_watched(&sheet, &mut WholeNeighborhoods).pack()),
+    )
 }
 
 pub fn sheet_read(sheet: &[u8], numbers: &mut [i32; NUMBERS]) -> Answer {

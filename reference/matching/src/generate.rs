@@ -436,6 +436,36 @@ pub fn shape(random: &mut Random, case: &mut Case, halvings: usize) -> Shape {
     shape
 }
 
+/// A case of everyday times, and how it was shaped: for so many halvings of the width.
+pub struct Everyday {
+    pub case: Case,
+    pub shape: Shape,
+    pub halvings: usize,
+}
+
+pub fn everyday(random: &mut Random) -> Everyday {
+    let most = random.pick(&[4, 12, 12, 40, 40, 120]);
+    let times = times(random, most);
+    let mut case = model(random, times, 4);
+    let halvings = random.below(widths(&case.sheet).len());
+    let shape = shape(random, &mut case, halvings);
+    Everyday {
+        case,
+        shape,
+        halvings,
+    }
+}
+
+/// A question with any command about a box near a case's.
+pub fn question_near(random: &mut Random, case: &Case) -> Question {
+    let measured = near(random, case);
+    Question {
+        allowance: random.spread(1, 1_000_000) as u32,
+        command: pick_command(random, &case.sheet),
+        measured,
+    }
+}
+
 /// A machine that grows slowly, so that long steps do not settle and halve.
 pub fn slow_growth(random: &mut Random) -> Case {
     let times = Times {

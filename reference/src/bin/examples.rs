@@ -6,7 +6,7 @@ use second_guard::decision::{
     check_recovery_watched, decide, decide_watched, read_question, Decision, Faults, Question,
     RecoveryCheck,
 };
-use second_guard::neighborhoods::neighborhoods;
+use second_guard::neighborhoods::{neighborhoods, Face};
 use second_guard::reach::{advance, reach, Budget, Law, Step, Watch};
 use second_guard::sheet::{self, Band, CommandRange, Row, Sheet};
 use second_guard::whole::WholeNeighborhoods;
@@ -171,8 +171,8 @@ impl Watch for Counts {
         for around in neighborhoods(sheet, start, enclosure, ticks) {
             self.bands_met[around.bands.len()] = true;
             self.cut_twice |= around.cut_twice(sheet);
-            self.ends_at_edge |= around.ends_at_edge(sheet);
-            self.ends_below_edge |= around.ends_below_edge(sheet);
+            self.ends_at_edge |= around.edge_at(sheet, Face::Upper, 0);
+            self.ends_below_edge |= around.edge_at(sheet, Face::Upper, 1);
         }
     }
 

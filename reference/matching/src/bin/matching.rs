@@ -10,8 +10,8 @@ use matching::archive::sheet_archive::{self, SheetArchive};
 use matching::archive::{self, Answer, ReachCall};
 use matching::expected;
 use matching::generate::{
-    long_times, model, near, pick_command, question_bytes, shape, sheet_bytes, slow_growth, times,
-    widths, worst_case, Case, Shape, BOUNDS,
+    everyday, long_times, model, near, pick_command, question_bytes, question_near, shape,
+    sheet_bytes, slow_growth, times, widths, worst_case, Case, Everyday, Shape, BOUNDS,
 };
 use matching::random::Random;
 use matching::spoil::{damage, damage_number, number_fault, question_fault, sheet_fault, Fault};
@@ -21,7 +21,7 @@ use second_guard::decision::{
     check_recovery_watched, decide_watched, read_question, trace, Decision, Faults, Question,
     RecoveryCheck,
 };
-use second_guard::neighborhoods::neighborhoods;
+use second_guard::neighborhoods::{neighborhoods, Face};
 use second_guard::reach::{Step, Watch};
 use second_guard::sheet::Sheet;
 use std::collections::HashMap;
@@ -40,10 +40,22 @@ const DAMAGED: usize = 6_000;
 /// Bytes behind a lent buffer, which have to stay as they are.
 const BEHIND: usize = 64;
 
+/// Where an edge may lie: at a neighborhood's side, or so far above it.
+const EDGES: usize = 4;
+const EDGE_AT: [(Face, i64, &str); EDGES] = [
+    (Face::Lower, 0, "neighborhood from an edge on"),
+    (Face::Lower, 1, "neighborhood from just below an edge on"),
+    (Face::Upper, 0, "neighborhood up to an edge"),
+    (Face::Upper, 1, "neighborhood up to just below an edge"),
+];
+
 /// What a decision did on the way.
 #[derive(Default)]
 struct Sight {
     most_bands: usize,
+    cut_twice: bool,
+    /// A neighborhood has an edge on its lower or upper side, or just above it.
+    edge_at: [bool; EDGES],
     halvings: u32,
     most_halvings: u32,
 }
@@ -52,6 +64,10 @@ impl Watch for Sight {
     fn round(&mut self, sheet: &Sheet, start: &StateBox, enclosure: &StateBox, ticks: u32) {
         for around in neighborhoods(sheet, start, enclosure, ticks) {
             self.most_bands = self.most_bands.max(around.bands.len());
+            self.cut_twice |= around.cut_twice(sheet);
+            for (seen, (side, above, _)) in self.edge_at.iter_mut().zip(EDGE_AT) {
+                *seen |= around.edge_at(sheet, side, above);
+            }
         }
     }
 
@@ -77,6 +93,9 @@ struct Kinds {
     keep_after: Vec<KindId>,
     two_bands: KindId,
     three_bands: KindId,
+    cut_twice: KindId,
+    edge_at: [KindId; EDGES],
+    other_before: KindId,
     halved_twice: KindId,
     many_rounds: KindId,
     allowance_zero: KindId,
@@ -119,6 +138,9 @@ impl Kinds {
                 .collect(),
             two_bands: tally.kind("neighborhood over two bands", 200),
             three_bands: tally.kind("neighborhood over three bands or more", 200),
+            cut_twice: tally.kind("band variable's neighborhood cut by depth and edge", 2_000),
+            edge_at: EDGE_AT.map(|(_, _, name)| tally.kind(name, 2_000)),
+            other_before: tally.kind("another answer before paper 3 of document 02", 2_000),
             halved_twice: tally.kind("a step halves twice or more", 200),
             many_rounds: tally.kind("decisions of over 100,000 rounds", 3),
             allowance_zero: tally.kind("allowance 0", 200),
@@ -367,6 +389,17 @@ impl Matching {
         } else if sight.most_bands > 2 {
             kinds.push(self.kinds.three_bands);
         }
+        if sight.cut_twice {
+            kinds.push(self.kinds.cut_twice);
+        }
+        for (&seen, &kind) in sight.edge_at.iter().zip(&self.kinds.edge_at) {
+            if seen {
+                kinds.push(kind);
+            }
+        }
+        if expected::decide_before(bytes, &question_bytes) != Answer(decision.pack()) {
+            kinds.push(self.kinds.other_before);
+        }
         if sight.most_halvings >= 2 {
             kinds.push(self.kinds.halved_twice);
         }
@@ -491,12 +524,11 @@ impl Matching {
 
     fn everyday(&mut self) {
         for turn in 0..SHEETS {
-            let most = self.random.pick(&[4, 12, 12, 40, 40, 120]);
-            let times = times(&mut self.random, most);
-            let mut case = model(&mut self.random, times, 4);
-            let turns = widths(&case.sheet).len();
-            let halvings = self.random.below(turns);
-            let shaped = shape(&mut self.random, &mut case, halvings);
+            let Everyday {
+                case,
+                shape: shaped,
+                halvings,
+            } = everyday(&mut self.random);
             let bytes = sheet_bytes(&case.sheet);
             self.sheet_calls(&case, &bytes);
             let decision = self.decisions_around(&case, &bytes, 4);
@@ -516,12 +548,7 @@ impl Matching {
                 Shape::ByRecovery | Shape::None => {}
             }
             for _ in 0..7 {
-                let measured = near(&mut self.random, &case);
-                let question = Question {
-                    allowance: self.random.spread(1, 1_000_000) as u32,
-                    command: pick_command(&mut self.random, &case.sheet),
-                    measured,
-                };
+                let question = question_near(&mut self.random, &case);
                 self.decision(&case.sheet, &bytes, &question);
             }
             if turn % 4 == 0 {
