@@ -146,7 +146,8 @@ fn rounds(sheet: &[u8], question: &[u8]) -> u64 {
     expected::decide(sheet, question).rounds().into()
 }
 
-/// A machine whose neighborhoods meet all of its bands, with a recovery box out of reach.
+/// A machine whose neighborhoods meet all of its bands, but for those of the band variable that their
+/// depth cuts, with a recovery box out of reach. The bands' rows are the same: the parts make no difference.
 fn model(n: usize, bands: usize, unsafe_boxes: usize) -> (Sheet, StateBox) {
     let mut sheet = Sheet {
         variables: n as i32,

@@ -1,9 +1,9 @@
-//! The archive against the plain guard, which was written from document 01 alone: a check of the
-//! readings, on sheets and questions from fixed seeds.
+//! The archive against the plain guard, which was written from document 01 and paper 3 of document
+//! 02 alone: a check of the readings, on sheets and questions from fixed seeds.
 
 use matching::archive::format::reach_length;
 use matching::archive::{self, Answer, ReachCall};
-use matching::expected::pairs;
+use matching::expected::{decide_before, pairs};
 use matching::generate::{
     model, near, pick_command, question_bytes, shape, sheet_bytes, times, Case,
 };
@@ -23,6 +23,7 @@ struct Kinds {
     keep: KindId,
     finest: KindId,
     spent: KindId,
+    other_before: KindId,
     refused: Vec<KindId>,
     write: KindId,
     reach: KindId,
@@ -42,6 +43,7 @@ impl Kinds {
             keep: tally.kind("keep", 1_000),
             finest: tally.kind("finest", 1_000),
             spent: tally.kind("spent", 1_000),
+            other_before: tally.kind("another answer before paper 3 of document 02", 1_000),
             refused,
             write: tally.kind("sheets written", 1_000),
             reach: tally.kind("reaches", SHEETS as u64),
@@ -68,6 +70,9 @@ fn decide(tally: &mut Tally, kinds: &Kinds, sheet: &[u8], question: &[u8]) {
         Answer(plain_guard::decide(sheet, question)),
     );
     tally.saw(kinds.of(plain));
+    if decide_before(sheet, question) != plain {
+        tally.saw(kinds.other_before);
+    }
     tally.check(kinds.decide, guard == plain, || {
         format!(
             "{guard:x?} not {plain:x?}: {} {}",
