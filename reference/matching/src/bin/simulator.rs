@@ -3,6 +3,7 @@
 //! faulty guard stands in the archive's place and has to be found out; `--self-test` tries all.
 
 use matching::archive::{self, Answer};
+use matching::expected::decide_before;
 use matching::generate::{everywhere, question_bytes, sheet_bytes};
 use matching::random::Random;
 use matching::tally::{hex, KindId, Tally};
@@ -64,6 +65,7 @@ struct Kinds {
     keeps: KindId,
     keeps_refined: KindId,
     keeps_outside: KindId,
+    keeps_won: KindId,
     finest: KindId,
     spent: KindId,
     refused: KindId,
@@ -84,6 +86,7 @@ impl Kinds {
             keeps: tally.kind("periods kept", 50_000),
             keeps_refined: tally.kind("periods kept below the first width", 5_000),
             keeps_outside: tally.kind("periods kept from outside the recovery box", 5_000),
+            keeps_won: tally.kind("every eighth one kept: handed over before paper 3", 200),
             finest: tally.kind("periods handed over: finest", 20_000),
             spent: tally.kind("periods handed over: spent", 1_000),
             refused: tally.kind("periods handed over: refused", 1_000),
@@ -486,6 +489,10 @@ impl Run<'_> {
             }
             if !sheet.recovery.holds(&self.state) {
                 self.tally.saw(self.kinds.keeps_outside);
+            }
+            let asked_before = self.tally.seen(self.kinds.keeps).is_multiple_of(8);
+            if asked_before && decide_before(&scene.bytes, &question).code() != 0 {
+                self.tally.saw(self.kinds.keeps_won);
             }
             return Some(command);
         }
