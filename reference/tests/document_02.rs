@@ -3,8 +3,9 @@
 
 use second_guard::boxes::StateBox;
 use second_guard::decision::{decide, Decision};
-use second_guard::reach::{reach, Law, Reach};
+use second_guard::reach::{advance, reach, Budget, Law, Reach};
 use second_guard::sheet::{self, Band, CommandRange, Row, Sheet, FIRST_EDGE};
+use second_guard::whole::WholeNeighborhoods;
 
 /// The box of two variables.
 fn sides(x: (i64, i64), z: (i64, i64)) -> StateBox {
@@ -65,16 +66,24 @@ const STILL: Row = Row {
     q: 1,
 };
 
+/// The same before the paper.
+fn moved_before(sheet: &Sheet, start: StateBox) -> StateBox {
+    let (law, mut budget) = (Law::Baseline, Budget::unlimited());
+    let watch = &mut WholeNeighborhoods;
+    advance(sheet, law, &start, 1, 1, &mut budget, watch).unwrap()
+}
+
 #[test]
 fn a_row_is_bounded_over_its_band_alone() {
     // x changes by z / 4 below 8 and by (16 - z) / 4 from 8 on: at most 2 at the edge.
-    // Over z from 0 to 16 either row alone would give up to 4.
+    // Over z from 0 to 16 either row alone gives up to 4.
     let sheet = machine(&[
         (FIRST_EDGE, row([0, 1], 0, 4), STILL),
         (8, row([0, -1], 16, 4), STILL),
     ]);
-    let end = moved(&sheet, sides((50, 50), (0, 16)));
-    assert_eq!(end, sides((50, 52), (0, 16)));
+    let start = sides((50, 50), (0, 16));
+    assert_eq!(moved(&sheet, start), sides((50, 52), (0, 16)));
+    assert_eq!(moved_before(&sheet, start), sides((50, 54), (0, 16)));
 }
 
 #[test]
@@ -117,8 +126,9 @@ fn the_band_variables_own_faces_are_cut_twice() {
         (7, STILL, row([0, -1], 20, 4)),
         (34, STILL, row([0, 1], -38, 2)),
     ]);
-    let end = moved(&sheet, sides((50, 50), (0, 40)));
-    assert_eq!(end, sides((50, 50), (-3, 41)));
+    let start = sides((50, 50), (0, 40));
+    assert_eq!(moved(&sheet, start), sides((50, 50), (-3, 41)));
+    assert_eq!(moved_before(&sheet, start), sides((50, 50), (-5, 41)));
 }
 
 #[test]
