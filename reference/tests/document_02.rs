@@ -132,6 +132,23 @@ fn the_band_variables_own_faces_are_cut_twice() {
 }
 
 #[test]
+fn an_edge_where_the_depth_ends() {
+    // z from 0 to 40, one tick: the neighborhoods are 0..10 and 30..40. Between the edges z changes
+    // by (z - 20) / 5, elsewhere not. From 10 to 30 each neighborhood has one value of that band,
+    // -2 and 2; from 11 to 29 none.
+    let with = |edge, next| {
+        let sheet = machine(&[
+            (FIRST_EDGE, STILL, STILL),
+            (edge, STILL, row([0, 1], -20, 5)),
+            (next, STILL, STILL),
+        ]);
+        moved(&sheet, sides((50, 50), (0, 40)))
+    };
+    assert_eq!(with(10, 31), sides((50, 50), (-2, 42)));
+    assert_eq!(with(11, 30), sides((50, 50), (0, 40)));
+}
+
+#[test]
 fn a_decision_by_the_parts() {
     // Two ticks, x may rise by 2 each as in the first case: 54 is the most.
     let mut sheet = machine(&[

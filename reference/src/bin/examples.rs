@@ -405,6 +405,21 @@ fn ramps() -> Sheet {
     )
 }
 
+/// One variable that changes by (x - 20) / 5 between two edges, and not elsewhere.
+fn between(edge: i32, next: i32) -> Sheet {
+    let still = row([0], 0, 0, 0, 1);
+    with(
+        head(0, (1, 1, 1), (0, 0), [5]),
+        [
+            band(FIRST, (0, 0), [still]),
+            band(edge, (0, 0), [row([1], 0, -20, 0, 5)]),
+            band(next, (0, 0), [still]),
+        ],
+        [sides([(100, 200)])],
+        sides([(0, 40)]),
+    )
+}
+
 /// One variable and two bands, whose rows have neither command nor spread nor divisor.
 fn tiny(rho: i32, cap: i32, lower: Row, edge: i32, upper: Row, recovery: (i64, i64)) -> Sheet {
     with(
@@ -433,6 +448,12 @@ fn examples() -> Vec<Example> {
         allowance,
         command,
         measured,
+    };
+    let a_tick = |start| Call::Reach {
+        ticks: 1,
+        width: 1,
+        law: Law::Baseline,
+        start,
     };
     let refused = |name, sheet, call, number| Example {
         name,
@@ -643,12 +664,7 @@ fn examples() -> Vec<Example> {
         Example {
             name: "reach_over_three_parts",
             sheet: ramps(),
-            call: Call::Reach {
-                ticks: 1,
-                width: 1,
-                law: Law::Baseline,
-                start: sides([(50, 50), (0, 40)]),
-            },
+            call: a_tick(sides([(50, 50), (0, 40)])),
             covers: vec![UnderBaseline, BandsMet(3), CutTwice, OtherBoxesBefore],
         },
         Example {
@@ -665,24 +681,27 @@ fn examples() -> Vec<Example> {
         Example {
             name: "reach_up_to_an_edge",
             sheet: ramps(),
-            call: Call::Reach {
-                ticks: 1,
-                width: 1,
-                law: Law::Baseline,
-                start: sides([(50, 50), (20, 34)]),
-            },
+            call: a_tick(sides([(50, 50), (20, 34)])),
             covers: vec![UnderBaseline, BandsMet(2), EndsAtEdge, OtherBoxesBefore],
         },
         Example {
             name: "reach_up_to_just_below_an_edge",
             sheet: ramps(),
-            call: Call::Reach {
-                ticks: 1,
-                width: 1,
-                law: Law::Baseline,
-                start: sides([(50, 50), (20, 33)]),
-            },
+            call: a_tick(sides([(50, 50), (20, 33)])),
             covers: vec![UnderBaseline, EndsBelowEdge],
+        },
+        // The neighborhoods go from 0 to 10 and from 30 to 40.
+        Example {
+            name: "reach_with_edges_at_its_depths",
+            sheet: between(10, 31),
+            call: a_tick(sides([(0, 40)])),
+            covers: vec![UnderBaseline, CutTwice, EndsAtEdge, Variables(1)],
+        },
+        Example {
+            name: "reach_with_edges_beyond_its_depths",
+            sheet: between(11, 30),
+            call: a_tick(sides([(0, 40)])),
+            covers: vec![UnderBaseline, EndsBelowEdge, Variables(1)],
         },
         // Below 1 the change is 1 - x, from 1 on x; so it is at least 1.
         Example {
