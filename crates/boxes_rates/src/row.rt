@@ -37,7 +37,8 @@ fn weighted(up: bool, n: usize, sheet: &[i32; SLOTS], row: usize, over: &[i64; B
 {
     let mut sum: i64 = 0;
     let mut j: usize = 0;
-    while j < n {
+    // n is at most N, which the compiler knows: it writes the turns out.
+    while j < n && j < N {
         let slot = row + j;
         let upper = j + N;
         sum = sum + term(up, sheet[slot], over[j], over[upper]);

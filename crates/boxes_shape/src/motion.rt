@@ -1,6 +1,6 @@
 // Boxes that grow and move by their rates (document 01, "One lifted step"). They are lent, and changed in place: a
-// box that is returned is copied, and the next turn would wait for the copy. The definitions are in machine_spec/specs/Box; `compare`
-// says what a box is.
+// box that is returned is copied, and the next turn would wait for the copy. Loops are tested against N too, which n is at most: the
+// compiler knows it and writes the turns out. The definitions are in machine_spec/specs/Box; `compare` says what a box is.
 ghost use mathlib.Core.Path.{_≡_};
 ghost use Prim.Native.Nat.{_≤_, _<_};
 ghost use lib.IntN.{pos, _+ℤ_, _*ℤ_};
@@ -60,7 +60,7 @@ pub fn grow(
 {
     let mut inside = true;
     let mut i: usize = 0;
-    while i < n {
+    while i < n && i < N {
         let upper = i + N;
         let low = swept_side(false, start[i], ticks, rates[i]);
         let high = swept_side(true, start[upper], ticks, rates[upper]);
@@ -103,7 +103,7 @@ pub fn arrive(
     ensures { λ _. ⌜ ArriveDone n (now (at .entry)) ticks (now (rates .entry)) (now (at .exit)) (now (work .exit)) (now (path .exit)) ⌝ }
 {
     let mut i: usize = 0;
-    while i < n {
+    while i < n && i < N {
         arrive_side(false, i, ticks, rates, work, at, path);
         arrive_side(true, i + N, ticks, rates, work, at, path);
         i += 1;
@@ -116,7 +116,7 @@ pub fn join(n: usize, other: &[i64; BOX_SIZE], out: &mut [i64; BOX_SIZE])
     ensures { λ _. ⌜ now (out .exit) ≡ hull n (now (out .entry)) (now (other .entry)) ⌝ }
 {
     let mut i: usize = 0;
-    while i < n {
+    while i < n && i < N {
         take_in(i, other[i], other[i + N], out);
         i += 1;
     }

@@ -1,7 +1,11 @@
--- What an accepted sheet says of its machine, in the form in which the laws use it. Assumes nothing.
+-- What an accepted sheet says of its machine, in the form in which the laws use it; and a loop over its variables. Assumes nothing.
+use mathlib.Core.Path.{_≡_}
+use mathlib.Core.Bool.{false}
 use mathlib.Core.List.{List}
-use Prim.Native.Nat.{ℕ, _≤_, _<_}
+use Prim.Native.Nat.{ℕ, suc, _≤_, _<_}
 use native.Mathlib.Omega.{arith}
+use borrow.Author.Tests.{le-leb}
+use lib.Dec.{leb}
 use lib.IntN.{ℤ, pos, negsuc, natAbs}
 use lib.Signed.{_≤ℤ_}
 use Rattle.integers.specs.Bound.{Bound}
@@ -9,6 +13,7 @@ use Rattle.integers.proofs.Z.{ints, bound-in}
 use Rattle.sheet_spec.specs.Limits.{maxCap}
 use Rattle.sheet_spec.specs.Slots.{N, vars, bands, cap, row}
 use Rattle.sheet_spec.specs.Valid.{Valid}
+use Rattle.sheet_spec.proofs.Box.{differ}
 
 module _ {v : List ℤ} (wf : Valid v) where
   -- there is room for the variables
@@ -27,3 +32,7 @@ module _ {v : List ℤ} (wf : Valid v) where
       positive : (q : ℤ) → pos 1 ≤ℤ q → 0 < natAbs q
       positive (pos n) h = omega ints
       positive (negsuc n) h = absurd (h .le)
+
+-- a variable that is left, where a loop has taken as many turns as there is room for: there is none
+pub none-past-room : {n i : ℕ} → n ≤ N → i < n → leb (suc i) N ≡ false → ⊥
+none-past-room {i} room more past = differ (le-leb (suc i) N (omega (arith, room, more))) past

@@ -12,13 +12,14 @@ use mir.Val.{SFits, toZ}
 use borrow.Author.Needs.{sfits-of}
 use Rattle.integers.specs.Bound.{Bound}
 use Rattle.integers.proofs.Z.{told, bound-of, bound-read, bound-sum, bound-mul, bound-less, bound-lit, fits64, fits-by}
-use Rattle.sheet_spec.specs.Slots.{_!_, Row, rowAt}
+use Rattle.sheet_spec.specs.Slots.{_!_, N, Row, rowAt}
 use Rattle.sheet_spec.specs.Box.{lo, hi}
 use Rattle.machine_spec.specs.Box.{sum}
 use Rattle.machine_spec.specs.Rate.{outer, weighted}
 use Rattle.boxes_arithmetic.specs.Limits.{limit, word}
 use Rattle.machine_spec.proofs.Box.{sum-more}
 use Rattle.machine_spec.proofs.Face.{outer-one}
+use Rattle.machine_spec.proofs.Facts.{none-past-room}
 use Rattle.boxes_rates.proofs.row.weighted.Statement.{statement}
 use Rattle.boxes_rates.proofs.row.weighted.Tie as tie
 
@@ -41,8 +42,9 @@ loop-holds at-start = record { turns = omega arith; same = refl; near = bound-li
 term-requires : tie.Need-term-requires Inv-loop μ-loop
 term-requires at-upper κs =
     let at-lower = at-upper .before in
-    let sides = at-lower .before .before .before .before .pre .sides in
-    let more = at-lower .before .before .loop-test .taken in
+    let in-loop = at-lower .before .before .before in
+    let sides = in-loop .before .before .pre .sides in
+    let more = in-loop .loop-test .taken in
     (bound-less (bound-read (sfits-of (at-lower .term-arg2 .given)) (sides .at false _ more)) (omega arith), bound-less (bound-read (sfits-of (at-upper .term-arg3 .given)) (sides .at true _ more)) (omega arith))
 
 -- the term, and the sum with it
@@ -58,7 +60,7 @@ module _ (at-term : tie.After-term Inv-loop μ-loop) where
   at-coefficient = at-lower .before
 
   abbrev at-loop : tie.At-loop Inv-loop μ-loop
-  at-loop = at-coefficient .before .before
+  at-loop = at-coefficient .before .before .before
 
   abbrev at-start : tie.Start Inv-loop μ-loop
   at-start = at-loop .before
@@ -89,7 +91,7 @@ module _ (at-term : tie.After-term Inv-loop μ-loop) where
   term-bound =
       let coefficient = bound-of {w = w32} {z = a} (sfits-of (at-coefficient .term-arg .given)) in
       let sides = at-start .pre .sides in
-      let more = at-coefficient .before .loop-test .taken in
+      let more = at-coefficient .before .before .loop-test .taken in
       outer-one (λ z. Bound z (word * limit)) up (bound-mul coefficient (sides .at false j more)) (bound-mul coefficient (sides .at true j more))
 
   term-fits : SFits w64 t
@@ -112,12 +114,20 @@ loop-again at-term = record {
   near = rw sum-more (sum-bound at-term);
 }
 
-returns : tie.Need-returns Inv-loop μ-loop
-returns at-return =
-    let at-loop = at-return .before in
+-- the sum of all terms, after as many turns as there are variables
+all-turns : (at-loop : tie.At-loop Inv-loop μ-loop) → at-loop .before .args .n ≤ at-loop .loop .j
+    → let a = at-loop .before .args in (toZ w64 (at-loop .loop .sum) ≡ weighted (a .up) (a .n) (rowAt (a .sheet .now) (a .row)) (a .over .now)) × Bound (toZ w64 (at-loop .loop .sum)) (N * (word * limit))
+all-turns at-loop h =
     let inv = at-loop .loop .inv in
     let all : at-loop .loop .j ≡ at-loop .before .args .n = omega (arith, inv .turns) in
     (rw all at (inv .same), bound-less {B = at-loop .loop .j * (word * limit)} (rw (inv .same) (inv .near)) (omega (arith, at-loop .before .pre .vars, inv .turns)))
+
+-- a variable is left after N turns; it does not happen
+returns : tie.Need-returns Inv-loop μ-loop
+returns at-return = let in-loop = at-return .before in absurd (none-past-room (in-loop .before .before .pre .vars) (in-loop .loop-test .taken) (at-return .if1 .left))
+
+returns-2 : tie.Need-returns-2 Inv-loop μ-loop
+returns-2 at-return = all-turns (at-return .before) (at-return .loop-test .left)
 
 pub weighted-spec : {M : Type 1} → statement M
 weighted-spec =
@@ -139,4 +149,5 @@ weighted-spec =
     (λ c. omega arith)
     (λ c. omega arith)
     loop-again
-    returns)
+    returns
+    returns-2)

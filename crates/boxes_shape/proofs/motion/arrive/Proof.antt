@@ -12,6 +12,7 @@ use Rattle.sheet_spec.specs.Slots.{N}
 use Rattle.sheet_spec.specs.Box.{lo, hi}
 use Rattle.machine_spec.specs.Box.{trim, hull, moved}
 use Rattle.machine_spec.proofs.Box.{sides-lo, sides-hi, sides-same}
+use Rattle.machine_spec.proofs.Facts.{none-past-room}
 use Rattle.machine_spec.proofs.InPlace.{withSides, with-none, with-more, turn-lo, turn-hi-set, with-all}
 use Rattle.machine_spec.specs.Rate.{outer}
 use Rattle.boxes_shape.specs.Limits.{ArriveSideDone, movedSide}
@@ -87,7 +88,7 @@ module _ (at-loop : tie.At-loop Inv-loop μ-loop) (more : at-loop .loop .i < at-
 
 lower-requires : tie.Need-arrive-side-requires Inv-loop μ-loop
 lower-requires at-call κs =
-    let in-loop = at-call .before .before .before in
+    let in-loop = at-call .before .before .before .before in
     let at-loop = in-loop .before in
     let more = in-loop .loop-test .taken in
     (omega (arith, room at-loop more), side-movable (at-loop .before .pre .0) false (at-loop .loop .i) more (low-was (at-loop .loop .inv) more (room at-loop more)) refl)
@@ -95,7 +96,7 @@ lower-requires at-call κs =
 upper-requires : tie.Need-arrive-side-requires-2 Inv-loop μ-loop
 upper-requires at-call κs =
     let lower = at-call .before .before .before in
-    let in-loop = lower .before .before .before .before in
+    let in-loop = lower .before .before .before .before .before in
     let at-loop = in-loop .before in
     let more = in-loop .loop-test .taken in
     (omega (arith, room at-loop more), side-movable (at-loop .before .pre .0) true (at-loop .loop .i) more (high-was (at-loop .loop .inv) more (room at-loop more) (lower .arrive-side .ensures)) refl)
@@ -103,14 +104,18 @@ upper-requires at-call κs =
 loop-again : tie.Need-loop-again Inv-loop μ-loop
 loop-again at-upper =
     let lower = at-upper .before .before .before .before in
-    let in-loop = lower .before .before .before .before in
+    let in-loop = lower .before .before .before .before .before in
     let at-loop = in-loop .before in
     let more = in-loop .loop-test .taken in
     turn (at-loop .loop .inv) more (room at-loop more) (lower .arrive-side .ensures) (at-upper .arrive-side2 .ensures)
 
+-- a variable is left after N turns; it does not happen
 returns : tie.Need-returns Inv-loop μ-loop
+returns at-return = let in-loop = at-return .before in absurd (none-past-room (in-loop .before .before .pre .0 .room) (in-loop .loop-test .taken) (at-return .if1 .left))
+
+returns-2 : tie.Need-returns-2 Inv-loop μ-loop
 unfolding moved
-returns at-return =
+returns-2 at-return =
     let at-loop = at-return .before in
     let inv = at-loop .loop .inv in
     let asked = at-loop .before .pre in
@@ -131,4 +136,4 @@ returns at-return =
 pub arrive-spec : {M : Type 1} → statement M
 arrive-spec =
     tie.close
-    (tie.spec Inv-loop μ-loop loop-holds lower-requires (λ c. omega arith) upper-requires (λ c. omega arith) (λ c. omega arith) loop-again returns)
+    (tie.spec Inv-loop μ-loop loop-holds lower-requires (λ c. omega arith) upper-requires (λ c. omega arith) (λ c. omega arith) loop-again returns returns-2)

@@ -18,6 +18,7 @@ use Rattle.sheet_spec.specs.Box.{lo, hi, all}
 use Rattle.machine_spec.specs.Box.{hull, moved, within}
 use Rattle.sheet_spec.proofs.Box.{all-last, all-false}
 use Rattle.machine_spec.proofs.Box.{swept-lo, swept-hi}
+use Rattle.machine_spec.proofs.Facts.{none-past-room}
 use Rattle.machine_spec.proofs.InPlace.{with-none, turn-lo, turn-hi, with-all}
 use Rattle.machine_spec.specs.Rate.{outer}
 use Rattle.boxes_shape.specs.Limits.{TookIn}
@@ -75,14 +76,16 @@ module _ (at-loop : tie.At-loop Inv-loop μ-loop) where
 lower-requires : tie.Need-swept-side-requires Inv-loop μ-loop
 lower-requires at-rate κs =
     let at-side = at-rate .before in
-    let at-loop = at-side .before .before in
-    side-movable (at-loop .before .pre .0) false (at-loop .loop .i) (omega arith) (told w64 _ (at-side .swept-side-arg .given)) (told w64 _ (at-rate .swept-side-arg2 .given))
+    let in-loop = at-side .before .before in
+    let at-loop = in-loop .before in
+    side-movable (at-loop .before .pre .0) false (at-loop .loop .i) (in-loop .loop-test .taken) (told w64 _ (at-side .swept-side-arg .given)) (told w64 _ (at-rate .swept-side-arg2 .given))
 
 upper-requires : tie.Need-swept-side-requires-2 Inv-loop μ-loop
 upper-requires at-rate κs =
     let at-side = at-rate .before in
-    let at-loop = at-side .before .before .before .before .before in
-    side-movable (at-loop .before .pre .0) true (at-loop .loop .i) (omega arith) (told w64 _ (at-side .swept-side-arg3 .given)) (told w64 _ (at-rate .swept-side-arg4 .given))
+    let in-loop = at-side .before .before .before .before .before in
+    let at-loop = in-loop .before in
+    side-movable (at-loop .before .pre .0) true (at-loop .loop .i) (in-loop .loop-test .taken) (told w64 _ (at-side .swept-side-arg3 .given)) (told w64 _ (at-rate .swept-side-arg4 .given))
 
 module _ (at-upper : tie.After-swept-side2 Inv-loop μ-loop) where
   abbrev upper-rate : tie.After-swept-side-arg4 Inv-loop μ-loop
@@ -101,7 +104,7 @@ module _ (at-upper : tie.After-swept-side2 Inv-loop μ-loop) where
   lower-side = lower-rate .before
 
   abbrev in-loop : tie.In-loop Inv-loop μ-loop
-  in-loop = lower-side .before
+  in-loop = lower-side .before .before
 
   abbrev loop : tie.At-loop Inv-loop μ-loop
   loop = in-loop .before
@@ -147,11 +150,15 @@ loop-again at-joined =
     (⊎-elim
     (λ w. w .1 ∙ sym (passed inv (more at-upper) (room at-upper) low high took (w .0 .taken)))
     (λ w. w .1 ∙ (w .0 .left ∙ sym (failed inv (more at-upper) (room at-upper) low high took (w .0 .left))))
-    (at-joined .if1 .came))
+    (at-joined .if2 .came))
 
+-- a variable is left after N turns; it does not happen
 returns : tie.Need-returns Inv-loop μ-loop
+returns at-return = let in-loop = at-return .before in absurd (none-past-room (in-loop .before .before .pre .0 .room) (in-loop .loop-test .taken) (at-return .if1 .left))
+
+returns-2 : tie.Need-returns-2 Inv-loop μ-loop
 unfolding hull
-returns at-return =
+returns-2 at-return =
     let at-loop = at-return .before in
     let inv = at-loop .loop .inv in
     let asked = at-loop .before .pre in
@@ -181,4 +188,5 @@ grow-spec =
     (λ c. omega arith)
     (λ c. omega arith)
     loop-again
-    returns)
+    returns
+    returns-2)
