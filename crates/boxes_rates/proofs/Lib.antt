@@ -2,3 +2,4 @@ pub mod Cut
 pub mod Parts
 pub mod Rates
 mod RowNumbers
+pub mod Terms

@@ -1,13 +1,14 @@
 -- How far the numbers go that the code is given, what it asks of its caller, and what it promises.
 use mathlib.Core.Path.{_≡_}
-use mathlib.Core.Bool.{Bool, true, false}
+use mathlib.Core.Bool.{Bool, true, false, cond}
 use mathlib.Core.List.{List}
 use Prim.Native.Nat.{ℕ, _+_, _*_, _≤_, _<_}
 use lib.IntN.{ℤ, pos, negℤ, _*ℤ_}
-use lib.Signed.{_≤ℤ_}
+use lib.Signed.{ltZ, _≤ℤ_}
 use Rattle.integers.specs.Bound.{Bound}
 use Rattle.sheet_spec.specs.Limits.{maxTicks, maxCap, maxEdge}
 use Rattle.sheet_spec.specs.Slots.{N, rowSize, bandSlot, slots, vars, bands, cap, Row, rowAt}
+use Rattle.sheet_spec.specs.Box.{lo, hi}
 use Rattle.sheet_spec.specs.Valid.{Between}
 use Rattle.machine_spec.specs.Box.{side, Near, Ordered, Sized, within}
 use Rattle.machine_spec.specs.Machine.{Machine, rowOf, change}
@@ -30,11 +31,22 @@ neighborhoodLimit = (maxTicks + 1) * maxCap
 
 -- ---- a row of the sheet
 
--- the row at a slot can be bounded over the box B of n variables
+-- the place of the side of variable j at which the product with a is the outer one, in a box that is not empty
+unfoldable pub outerPlace : Bool → ℤ → ℕ → ℕ
+outerPlace false a j = cond (ltZ a (pos 0)) (j + N) j
+outerPlace true a j = cond (ltZ a (pos 0)) j (j + N)
+
+-- a coefficient's products with the sides of variable j of the box B can be bounded
+pub record TermAsked (B : List ℤ) (j : ℕ) : Type 0 where
+  pub room : j < N
+  pub near : (up : Bool) → Bound (side up B j) word
+  pub ordered : lo B j ≤ℤ hi B j
+
+-- the row at a slot can be bounded over the box B of n variables, which is not empty
 pub record RowAsked (n row : ℕ) (B : List ℤ) : Type 0 where
   pub vars : n ≤ N
   pub place : row + rowSize ≤ slots
-  pub sides : Near n limit B
+  pub sides : Sized n limit B
 
 -- t is the outer one of b·u over the commands u that the law offers in the band k at a slot, over any box
 pub record CommandTerm (up : Bool) (m : Machine) (r : Row) (at : ℕ) (t : ℤ) : Type 0 where
@@ -57,7 +69,7 @@ pub record ChangeAsked (cap : ℤ) (v : List ℤ) (row : ℕ) (x z : ℤ) : Type
 pub record BandAsked (p : Plant) (v B : List ℤ) (i at : ℕ) (z : ℤ) : Type 0 where
   pub plant : Describes p v
   pub var : i < vars v
-  pub sides : Near (vars v) limit B
+  pub sides : Sized (vars v) limit B
   pub band : ℕ
   pub place : at ≡ bandSlot band
   pub among : band < bands v

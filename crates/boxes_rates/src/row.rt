@@ -2,17 +2,17 @@
 // allowed change that comes of it. A face is `false` for a lower and `true` for an upper one. The definitions are in
 // machine_spec/specs/Machine and machine_spec/specs/Rate.
 ghost use mathlib.Core.Path.{_≡_};
-ghost use Prim.Native.Nat.{_*_};
+ghost use Prim.Native.Nat.{_*_, _<_};
 ghost use lib.IntN.{_*ℤ_};
 ghost use Rattle.integers.specs.Bound.{Bound};
 ghost use Rattle.sheet_spec.specs.Slots as slots;
+ghost use Rattle.sheet_spec.specs.Box.{lo, hi};
 ghost use Rattle.machine_spec.specs.Machine.{change};
 ghost use Rattle.machine_spec.specs.Rate.{outer, weighted};
 ghost use Rattle.boxes_arithmetic.specs.Limits.{limit, word};
-ghost use Rattle.boxes_rates.specs.Limits.{ChangeAsked, RowAsked, RowBounded, termLimit};
+ghost use Rattle.boxes_rates.specs.Limits.{ChangeAsked, RowAsked, RowBounded, TermAsked, outerPlace, termLimit};
 use boxes_arithmetic::highest;
 use boxes_arithmetic::lowest;
-use boxes_arithmetic::outer;
 use sheet_spec::slots::BOX_SIZE;
 use sheet_spec::slots::N;
 use sheet_spec::slots::ROW_C;
@@ -20,13 +20,25 @@ use sheet_spec::slots::ROW_D;
 use sheet_spec::slots::ROW_Q;
 use sheet_spec::slots::SLOTS;
 
-// The outer one of a coefficient's products with lo and hi.
-fn term(up: bool, coefficient: i32, lo: i64, hi: i64) -> i64
-    requires { ⌜ Bound lo word × Bound hi word ⌝ }
-    ensures { λ r. ⌜ r ≡ outer up (coefficient *ℤ lo) (coefficient *ℤ hi) ⌝ }
+// The place of the side of variable j at which a coefficient's product is the outer one, in a box that is not empty.
+fn outer_place(up: bool, coefficient: i32, j: usize) -> usize
+    requires { ⌜ j < slots.N ⌝ }
+    ensures { λ r. ⌜ r ≡ outerPlace up coefficient j ⌝ }
 {
-    let factor = coefficient as i64;
-    outer(up, factor * lo, factor * hi)
+    if up {
+        if coefficient < 0 { j } else { j + N }
+    } else {
+        if coefficient < 0 { j + N } else { j }
+    }
+}
+
+// The outer one of a coefficient's products with the sides of variable j.
+fn term(up: bool, coefficient: i32, over: &[i64; BOX_SIZE], j: usize) -> i64
+    requires { ⌜ TermAsked (now over) j ⌝ }
+    ensures { λ r. ⌜ r ≡ outer up (coefficient *ℤ lo (now (over .entry)) j) (coefficient *ℤ hi (now (over .entry)) j) ⌝ }
+{
+    let place = outer_place(up, coefficient, j);
+    (coefficient as i64) * over[place]
 }
 
 // Σ aj·xj over the box, by the coefficients of the row at a slot.
@@ -40,8 +52,7 @@ fn weighted(up: bool, n: usize, sheet: &[i32; SLOTS], row: usize, over: &[i64; B
     // n is at most N, which the compiler knows: it writes the turns out.
     while j < n && j < N {
         let slot = row + j;
-        let upper = j + N;
-        sum = sum + term(up, sheet[slot], over[j], over[upper]);
+        sum = sum + term(up, sheet[slot], over, j);
         j += 1;
     }
     sum

@@ -18,14 +18,15 @@ use Rattle.integers.specs.Bound.{Bound}
 use Rattle.integers.proofs.Z.{ints, sum as plus, sub, told, up32, bound-of, bound-sub, bound-lit, fits64}
 use Rattle.sheet_spec.specs.Slots.{_!_, N, bandSize, bandSlot, slots, vars, bands, bandVar, cap, edge}
 use Rattle.sheet_spec.specs.Box.{lo, hi}
+use Rattle.machine_spec.specs.Box.{Sized}
 use Rattle.machine_spec.specs.Machine.{Machine, machine, rowOf, change}
 use Rattle.machine_spec.specs.Rate.{outer, outermost, cutToBand, part, rowOver, neutral, bandRate, rate}
-use Rattle.boxes_arithmetic.specs.Limits.{word}
+use Rattle.boxes_arithmetic.specs.Limits.{limit, word}
 use Rattle.boxes_arithmetic.proofs.Bounds.{wide}
 use Rattle.machine_spec.proofs.Bands.{Meets, meets-show}
 use Rattle.machine_spec.proofs.Facts.{cap-low, cap-near}
 use Rattle.machine_spec.proofs.Part.{part-within, part-ordered}
-use Rattle.machine_spec.proofs.Ranges.{near-less, near-as, near-part}
+use Rattle.machine_spec.proofs.Ranges.{near-less, near-part}
 use Rattle.machine_spec.proofs.Sound.{outermost-between}
 use Rattle.boxes_rates.specs.declared.Plant.{Plant}
 use Rattle.boxes_rates.specs.Limits.{BandAsked, RowRated, RateAsked}
@@ -162,10 +163,12 @@ module _ (at-loop : tie.At-loop Inv-loop μ-loop) where
     row-asked =
         let wf = asked entry .plant .sheet in
         let o = part-ordered (M entry) wf k (asked entry .sides .ordered) (meets-show (at-loop .loop .inv .met)) in
+        let sized : Sized (vars (v entry)) limit (part (M entry) k (B entry)) =
+        record { near = near-less (omega arith) (near-part o (part-within (M entry) wf k (B entry)) (asked entry .sides .near)); ordered = o } in
         record {
           plant = asked entry .plant;
           var = asked entry .var;
-          sides = near-as part-is (near-less (omega arith) (near-part o (part-within (M entry) wf k (B entry)) (asked entry .sides .near)));
+          sides = rw part-is sized;
           band = k;
           place = at-loop .loop .inv .place;
           among = at-loop .loop .inv .among;

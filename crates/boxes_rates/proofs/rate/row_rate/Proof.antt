@@ -13,12 +13,13 @@ use mir.Val.{SFits}
 use borrow.Author.Needs.{needs}
 use Rattle.integers.proofs.Z.{up32, fits64}
 use Rattle.sheet_spec.specs.Slots.{firstRow, rowSize, bandSlot, slots, vars, cap, Row, rowAt}
+use Rattle.machine_spec.specs.Box.{Sized}
 use Rattle.machine_spec.specs.Machine.{Machine, machine, rowOf, change}
 use Rattle.machine_spec.specs.Rate.{bound, offeredOver, outer}
+use Rattle.boxes_arithmetic.specs.Limits.{limit}
 use Rattle.boxes_rates.specs.Limits.{BandAsked}
 use Rattle.boxes_arithmetic.proofs.Bounds.{wide}
 use Rattle.machine_spec.proofs.Facts.{cap-near}
-use Rattle.machine_spec.proofs.Ranges.{near-by}
 use Rattle.boxes_rates.proofs.rate.row_rate.Statement.{statement}
 use Rattle.boxes_rates.proofs.rate.row_rate.Tie as tie
 
@@ -48,7 +49,7 @@ bound-requires at-term κs =
     let at-start = at-term .before in
     let band = asked at-start in
     let near = at-term .command-term .ensures .near in
-    (record { vars = omega (arith, band .plant .n, band .plant .sheet .vars-high); place = place at-start; sides = near-by (sym (band .plant .n)) (band .sides) }, rw (toZ-ofZ (fits64 near tt)) near)
+    (record { vars = omega (arith, band .plant .n, band .plant .sheet .vars-high); place = place at-start; sides = subst (λ (n : ℕ). Sized n limit (at-start .args .over .now)) (sym (band .plant .n)) (band .sides) }, rw (toZ-ofZ (fits64 near tt)) near)
 
 further-requires : tie.Need-further-requires
 further-requires at-cap κs =

@@ -11,7 +11,7 @@ use mir.Syntax.{w32, w64}
 use mir.Val.{SFits, toZ}
 use borrow.Author.Needs.{sfits-of}
 use Rattle.integers.specs.Bound.{Bound}
-use Rattle.integers.proofs.Z.{told, bound-of, bound-read, bound-sum, bound-mul, bound-less, bound-lit, fits64, fits-by}
+use Rattle.integers.proofs.Z.{told, bound-of, bound-sum, bound-mul, bound-less, bound-lit, fits64, fits-by}
 use Rattle.sheet_spec.specs.Slots.{_!_, N, Row, rowAt}
 use Rattle.sheet_spec.specs.Box.{lo, hi}
 use Rattle.machine_spec.specs.Box.{sum}
@@ -40,24 +40,17 @@ unfolding weighted sum
 loop-holds at-start = record { turns = omega arith; same = refl; near = bound-lit (pos 0) }
 
 term-requires : tie.Need-term-requires Inv-loop μ-loop
-term-requires at-upper κs =
-    let at-lower = at-upper .before in
-    let in-loop = at-lower .before .before .before in
-    let sides = in-loop .before .before .pre .sides in
+term-requires at-coefficient κs =
+    let in-loop = at-coefficient .before .before in
+    let asked = in-loop .before .before .pre in
     let more = in-loop .loop-test .taken in
-    (bound-less (bound-read (sfits-of (at-lower .term-arg2 .given)) (sides .at false _ more)) (omega arith), bound-less (bound-read (sfits-of (at-upper .term-arg3 .given)) (sides .at true _ more)) (omega arith))
+    record { room = omega (arith, more, asked .vars); near = λ up. bound-less (asked .sides .near .at up _ more) (omega arith); ordered = asked .sides .ordered .at _ more }
 
 -- the term, and the sum with it
 module _ (at-term : tie.After-term Inv-loop μ-loop) where
-  -- the upper side, the lower side and the coefficient are read
-  abbrev at-upper : tie.After-term-arg3 Inv-loop μ-loop
-  at-upper = at-term .before
-
-  abbrev at-lower : tie.After-term-arg2 Inv-loop μ-loop
-  at-lower = at-upper .before
-
+  -- the coefficient is read
   abbrev at-coefficient : tie.After-term-arg Inv-loop μ-loop
-  at-coefficient = at-lower .before
+  at-coefficient = at-term .before
 
   abbrev at-loop : tie.At-loop Inv-loop μ-loop
   at-loop = at-coefficient .before .before .before
@@ -85,12 +78,12 @@ module _ (at-term : tie.After-term Inv-loop μ-loop) where
   t = outer up (a *ℤ lo B j) (a *ℤ hi B j)
 
   term-is : at-term .term .result ≡ t
-  term-is = at-term .term .ensures ∙ simp (told, at-upper .term-arg3 .given, at-lower .term-arg2 .given, at-coefficient .term-arg .given)
+  term-is = at-term .term .ensures ∙ simp (told, at-coefficient .term-arg .given)
 
   term-bound : Bound t (word * limit)
   term-bound =
       let coefficient = bound-of {w = w32} {z = a} (sfits-of (at-coefficient .term-arg .given)) in
-      let sides = at-start .pre .sides in
+      let sides = at-start .pre .sides .near in
       let more = at-coefficient .before .before .loop-test .taken in
       outer-one (λ z. Bound z (word * limit)) up (bound-mul coefficient (sides .at false j more)) (bound-mul coefficient (sides .at true j more))
 
@@ -136,11 +129,6 @@ weighted-spec =
     Inv-loop
     μ-loop
     loop-holds
-    (λ c. omega arith)
-    (λ c. omega arith)
-    (λ c. omega arith)
-    (λ c. omega arith)
-    (λ c. omega arith)
     (λ c. omega arith)
     (λ c. omega arith)
     (λ c. omega arith)
