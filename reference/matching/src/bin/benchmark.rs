@@ -2,8 +2,9 @@
 //! processor times are compared, and a table in markdown is printed. A second table has the
 //! instructions of a round and of reading a sheet, which callgrind counts over this program itself.
 //! Times are told and not judged, since they vary with the machine. What is judged is that the two
-//! answer alike and that the guard takes at most 1.25 times the instructions. The last line is
-//! `N passed, M failed`.
+//! answer alike and how many instructions the guard takes: for a round with several bands at most 1.1
+//! times the second guard's, with one band no more than before a neighborhood was cut into parts, for
+//! reading a sheet at most 1.25 times the second guard's. The last line is `N passed, M failed`.
 
 use matching::archive::{self, sheet_archive::SheetArchive};
 use matching::expected;
@@ -234,8 +235,28 @@ fn many_rounds(n: usize, bands: usize) -> (Vec<u8>, Vec<u8>) {
     (bytes, question)
 }
 
-/// What the guard may take at most, in the second guard's instructions.
-const MOST: f64 = 1.25;
+/// How many instructions the guard may take.
+#[derive(Clone, Copy)]
+enum Most {
+    /// So many times those of the second guard.
+    Times(f64),
+    /// So many.
+    Instructions(f64),
+}
+
+/// Of a round: with one band as many as before a neighborhood was cut into parts, with several bands
+/// little more than the second guard.
+fn most_of_round(n: usize, bands: usize) -> Most {
+    match (n, bands) {
+        (1, 1) => Most::Instructions(299.0),
+        (2, 1) => Most::Instructions(532.0),
+        (4, 1) => Most::Instructions(1143.0),
+        _ => Most::Times(1.1),
+    }
+}
+
+/// Of reading a sheet.
+const MOST_OF_READING: Most = Most::Times(1.25);
 
 /// What callgrind runs: one of the two, so many times.
 const COUNTED: &str = "counted";
@@ -317,17 +338,20 @@ fn instructions_once(who: &str, work: Work) -> f64 {
     (instructions(who, work, some) - instructions(who, work, few)) / f64::from(some - few)
 }
 
-/// A line for some work, of which the instructions are told `per` times less. Whether the ratio is
-/// small enough.
-fn count_line(name: &str, work: Work, per: f64) -> bool {
+/// A line for some work, of which the instructions are told `per` times less. Whether the guard takes
+/// few enough.
+fn count_line(name: &str, work: Work, per: f64, most: Most) -> bool {
     let guard = instructions_once("guard", work) / per;
     let second = instructions_once("second", work) / per;
     let ratio = guard / second;
     println!("| {name} | {guard:.0} | {second:.0} | {ratio:.2} |");
-    ratio <= MOST
+    match most {
+        Most::Times(most) => ratio <= most,
+        Most::Instructions(most) => guard.round() <= most,
+    }
 }
 
-/// How many ratios of instructions are small enough, of how many.
+/// How many counts of instructions are small enough, of how many.
 fn count_instructions() -> (usize, usize) {
     println!();
     println!("| instructions | guard | second guard | ratio |");
@@ -337,11 +361,12 @@ fn count_instructions() -> (usize, usize) {
         let (sheet, question) = many_rounds(n, bands);
         let count = rounds(&sheet, &question) as f64;
         let name = format!("one round, n {n}, bands {bands}");
-        fine.push(count_line(&name, Work::Decide(n, bands), count));
+        let most = most_of_round(n, bands);
+        fine.push(count_line(&name, Work::Decide(n, bands), count, most));
     }
     for (size, (name, _)) in SIZES.iter().enumerate() {
         let name = format!("reading a sheet, {name}");
-        fine.push(count_line(&name, Work::Read(size), 1.0));
+        fine.push(count_line(&name, Work::Read(size), 1.0, MOST_OF_READING));
     }
     (fine.iter().filter(|&&fine| fine).count(), fine.len())
 }
