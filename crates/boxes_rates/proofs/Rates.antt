@@ -1,21 +1,14 @@
--- Laws about the commands that a law offers. Assumes nothing.
-use mathlib.Core.Path.{_≡_, refl, ap, _∙_}
-use mathlib.Core.Bool.{Bool, true, false}
+-- Laws about the outermost of many, and about the commands that a law offers. Assumes nothing.
+use mathlib.Core.Path.{_≡_, refl}
+use mathlib.Core.Bool.{Bool}
 use mathlib.Core.List.{List}
-use Prim.Native.Nat.{ℕ, _+_, _≤_, _<_}
+use Prim.Native.Nat.{ℕ, _+_}
 use native.Mathlib.Numerals.{add-one}
 use lib.IntN.{ℤ}
-use lib.Signed.{ltZ, _≤ℤ_, _<ℤ_}
-use borrow.Author.Tests.{le-leb, lt-leb}
-use Rattle.sheet_spec.specs.Slots.{bands, edge}
-use Rattle.sheet_spec.specs.Box.{lo, hi}
 use Rattle.machine_spec.specs.declared.Law.{Law}
 use Rattle.machine_spec.specs.declared.Law.the-variants.{Baseline, Command}
-use Rattle.machine_spec.specs.Machine.{machine, safetyEnd, bandMeets}
-use Rattle.machine_spec.specs.Rate.{outer, outermost, bandMet, offeredOver}
-use Rattle.boxes_rates.specs.declared.Plant.{Plant}
-use Rattle.boxes_rates.specs.Plant.{Describes}
-use Rattle.sheet_spec.proofs.Box.{le-is, le-not}
+use Rattle.machine_spec.specs.Machine.{machine, safetyEnd}
+use Rattle.machine_spec.specs.Rate.{outer, outermost, offeredOver}
 
 pub outermost-more : (up : Bool) (z : ℤ) (n : ℕ) (f : ℕ → ℤ) → outermost up z (n + 1) f ≡ outer up (outermost up z n f) (f n)
 unfolding outermost

@@ -1,4 +1,5 @@
--- A wider box has wider rates, and the rates over two boxes that share a state are in order. Assumes nothing.
+-- A wider box has wider rates, parts of a box have tighter ones, and the rates over two boxes that share a state are in order.
+-- Assumes nothing.
 use mathlib.Core.Path.{_≡_}
 use mathlib.Core.Bool.{Bool, true, false, cond}
 use mathlib.Core.List.{List}
@@ -13,13 +14,13 @@ use Rattle.sheet_spec.specs.Slots.{_!_, Row}
 use Rattle.machine_spec.specs.Box.{Ordered, In}
 use Rattle.machine_spec.specs.Machine.{Machine, varsOf, bandsOf, bandVarOf, cap, rowOf}
 use Rattle.machine_spec.specs.Accepted.{Accepted}
-use Rattle.machine_spec.specs.Rate.{outer, outermost, weighted, bound, bandMet, part, bandRate, rate}
+use Rattle.machine_spec.specs.Rate.{outer, outermost, weighted, bound, bandMet, part, rowOver, bandRate, rate}
 use Rattle.machine_spec.proofs.Face.{Beyond, beyond-refl, beyond-sum, sum-beyond, outer-in, outer-mono, span, change-mono}
 use Rattle.machine_spec.proofs.Inside.{Inside}
 use Rattle.machine_spec.proofs.Facts.{cap-low, divisor}
 use Rattle.machine_spec.proofs.Offers.{over-wider, over-ordered}
 use Rattle.machine_spec.proofs.Bands.{Band, meets-read, meets-show, meets-wider}
-use Rattle.machine_spec.proofs.Part.{part-ordered, part-inside}
+use Rattle.machine_spec.proofs.Part.{part-within, part-ordered, part-inside}
 use Rattle.machine_spec.proofs.Sound.{change-between, beyond-neutral, rate-bounds}
 use Rattle.machine_spec.proofs.Progress.{some-tick}
 
@@ -63,6 +64,14 @@ module _ {m : Machine} (wf : Accepted m) {A B : List ℤ} (l : length A ≡ leng
   pub rate-mono : (up : Bool) (i : ℕ) → i < varsOf m → Beyond up (rate up m B i) (rate up m A i)
   unfolding rate
   rate-mono up i h = outermost-mono _ (bandsOf m) _ _ (λ k g. share-mono up i k h g)
+
+-- ---- TIGHTER: a row's number over the part of a box is no further out than over the whole box
+
+pub part-tightens : {m : Machine} → Accepted m → (B : List ℤ) (up : Bool) (i k : ℕ) → k < bandsOf m → Ordered (varsOf m) B → T (bandMet m k B) → Beyond up (rowOver up m B i k) (rowOver up m (part m k B) i k)
+part-tightens {m} wf B up i k g o t =
+    let u = part-ordered m (wf .sheet) k o t in
+    let w = part-within m (wf .sheet) k B in
+    bound-mono up (varsOf m) (rowOf m k i) (part m k B) B u w (over-ordered wf k g _ u) (over-wider m k _ _ u w false .order) (over-wider m k _ _ u w true .order)
 
 -- ---- rates over two boxes that share a state
 

@@ -4,11 +4,11 @@ use mathlib.Core.Bool.{Bool, true, false}
 use mathlib.Core.List.{List}
 use Prim.Native.Nat.{ℕ, zero, suc, _+_, _*_, _≤_, _<_}
 use native.Mathlib.Omega.{arith}
-use lib.IntN.{ℤ, pos, negℤ, _+ℤ_, _-ℤ_, _*ℤ_}
+use lib.IntN.{ℤ, pos, negℤ, _*ℤ_}
 use lib.ListN.{replicate}
 use lib.Signed.{_≤ℤ_}
 use Rattle.integers.specs.Bound.{Bound}
-use Rattle.integers.proofs.Z.{ints, sum as plus, neg, sub, min-is, max-is, bound-in, bound-less, bound-sum, bound-sub, bound-mul}
+use Rattle.integers.proofs.Z.{ints, neg, bound-in, bound-less, bound-sum, bound-sub, bound-mul}
 use Rattle.sheet_spec.specs.Limits.{maxCommand, maxCap, maxCoefficient, maxConstant}
 use Rattle.sheet_spec.specs.Slots.{_!_, N, boxSize, Row, vars, cap}
 use Rattle.sheet_spec.specs.Box.{lo, hi}
@@ -20,7 +20,7 @@ use Rattle.machine_spec.specs.Accepted.{Accepted}
 use Rattle.machine_spec.specs.Rate.{outer, neighborhood, weighted, bound, rowOver, rate, rates, faceRate}
 use Rattle.machine_spec.proofs.Face.{outer-one}
 use Rattle.machine_spec.proofs.Inside.{hull-side, moved-side, trim-side, rates-side, Inside}
-use Rattle.machine_spec.proofs.Neighborhood.{inward, cut, sides-one}
+use Rattle.machine_spec.proofs.Neighborhood.{inward}
 use Rattle.machine_spec.proofs.Facts.{room, cap-low, cap-near}
 use Rattle.machine_spec.proofs.Offers.{over-near}
 use Rattle.machine_spec.proofs.Sound.{rate-between}
@@ -69,21 +69,6 @@ module _ {n : ℕ} (room : n ≤ N) where
 
   pub moved-near : {b c : ℕ} {A r : List ℤ} (k : ℕ) → Near n b A → Near n c r → Near n (b + k * c) (moved n A k r)
   moved-near {A} {r} k h u = record { at = λ up i l. rw (moved-side n i room l up A k r) (bound-sum (h .at up i l) (bound-mul {x = pos k} {B = k} (record { at-most = omega arith }) (u .at up i l))) }
-
--- nor is one of the neighborhood of a face of such a box, in a working box that is such
-pub neighborhood-near : {n b : ℕ} {S E : List ℤ} {reach : ℤ} → n ≤ N → pos 0 ≤ℤ reach → Near n b S → Near n b E → (up : Bool) (i : ℕ) → i < n → Near n b (neighborhood up S reach E i)
-unfolding outer
-neighborhood-near {b} {S} {E} {reach} room z s e up i h = record { at = λ face j g. sides-one room S reach i h up face (λ a. Bound a b) E j g (e .at face j g) (λ _ _. cut-near up) }
-  where
-    cut-near : (up : Bool) → Bound (cut up S reach E i) b
-    cut-near false =
-        let x = e .at true i h .at-most in
-        let y = s .at false i h .at-most in
-        bound-in (omega (ints, neg (pos b), min-is (hi E i) (lo S i +ℤ reach), plus (lo S i) reach)) (omega (ints, min-is (hi E i) (lo S i +ℤ reach)))
-    cut-near true =
-        let x = e .at false i h .at-most in
-        let y = s .at true i h .at-most in
-        bound-in (omega (ints, neg (pos b), max-is (lo E i) (hi S i -ℤ reach))) (omega (ints, max-is (lo E i) (hi S i -ℤ reach), sub (hi S i) reach))
 
 -- ---- a rate
 

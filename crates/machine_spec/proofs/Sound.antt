@@ -79,14 +79,11 @@ unfolding neutral
 beyond-neutral h false = record { order = h .high }
 beyond-neutral h true = record { order = h .low }
 
--- so it is the outer one of itself and the neutral value; and the outer one of it and a change lies within the cap too
+-- so it is the outer one of itself and the neutral value
 pub outer-neutral : {c z : ℤ} → Between (negℤ c) c z → (up : Bool) → outer up z (neutral up c) ≡ z
 unfolding outer neutral
 outer-neutral {c} {z} h false = omega (ints, min-is z c, h .high)
 outer-neutral {c} {z} h true = omega (ints, max-is z (negℤ c), h .low)
-
-pub outer-between : {c z : ℤ} → Between (negℤ c) c z → (up : Bool) (r : Row) (n : ℤ) → Between (negℤ c) c (outer up z (change up c r n))
-outer-between {c} h up r n = outer-one (Between (negℤ c) c) up h (change-between up c r n (omega (ints, h .low, h .high, neg c)))
 
 module _ {m : Machine} {x y : List ℤ} (wf : Valid (m .sheet)) (t : Tick m x y) (i : ℕ) (h : i < varsOf m) where
   allowed : (up : Bool) → Beyond up (change up (cap m i) (rowOf m (t .band) i) (numerator (varsOf m) (rowOf m (t .band) i) x (t .used))) (y ! i -ℤ x ! i)

@@ -4,7 +4,7 @@
 use mathlib.Core.Path.{_≡_, sym, ap, _∙_}
 use mathlib.Core.Bool.{Bool, true, false}
 use mathlib.Core.List.{List}
-use Prim.Native.Nat.{ℕ, _+_, _*_, _-_, _≤_, _<_}
+use Prim.Native.Nat.{ℕ, _+_, _-_, _≤_, _<_}
 use native.Mathlib.Nat.{zero-add}
 use native.Mathlib.Omega.{arith}
 use lib.IntN.{ℤ, pos, _+ℤ_, _-ℤ_}
@@ -28,7 +28,6 @@ use Rattle.machine_spec.proofs.Facts.{cap-low, cap-near}
 use Rattle.machine_spec.proofs.Part.{part-within, part-ordered}
 use Rattle.machine_spec.proofs.Ranges.{near-less, near-part}
 use Rattle.machine_spec.proofs.Sound.{outermost-between}
-use Rattle.boxes_rates.specs.declared.Plant.{Plant}
 use Rattle.boxes_rates.specs.Limits.{BandAsked, RowRated, RateAsked}
 use Rattle.boxes_rates.specs.Plant.{FirstBand}
 use Rattle.boxes_rates.proofs.Parts.{starts-yes, starts-no, first-starts, first-met, next-met, unmet-before, unmet-behind, share-met, unmet-stays, Cutting, cutting-starts, cutting-part, cutting-on, cutting-ends, part-end, last-end}
