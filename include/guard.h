@@ -1,4 +1,5 @@
-/* The guard's calls for C. The rules behind them are those of "document 01", the scope paper.
+/* The guard's calls for C. The rules behind them are those of "document 01", the scope paper, and of
+ * paper 3 of "document 02" (tighter rates near a band edge).
  *
  * A drive calls guard_recovery once for its sheet and guard_decide once for each period; guard_sheet
  * tests a sheet's format alone. The others serve set-up tools, other products and tests.
@@ -102,7 +103,8 @@ uint64_t guard_sheet(const uint8_t *sheet, size_t sheet_length);
 
 /* The recovery check: under the plain law, does every state of the recovery box stay out of the no-go
  * boxes for rho ticks and end in the recovery box? GUARD_PASS or GUARD_FAIL with width and rounds, or
- * refused with 1 to 11. There is no allowance: a sheet is checked at set-up, not in a period. */
+ * refused with 1 to 11. There is no allowance: a sheet is checked at set-up, not in a period. A pass
+ * counts for the archive that gave it: check each sheet again with a new one. */
 uint64_t guard_recovery(const uint8_t *sheet, size_t sheet_length);
 
 /* The decision on one question. GUARD_KEEP, GUARD_FINEST or GUARD_SPENT with the width and the rounds
