@@ -11,13 +11,12 @@ use Rattle.integers.specs.Bound.{Bound}
 use Rattle.integers.proofs.Z.{ints, neg, bound-in, bound-less, bound-sum, bound-sub, bound-mul}
 use Rattle.sheet_spec.specs.Limits.{maxCommand, maxCap, maxCoefficient, maxConstant}
 use Rattle.sheet_spec.specs.Slots.{_!_, N, boxSize, Row, vars, cap}
-use Rattle.sheet_spec.specs.Box.{lo, hi}
 use Rattle.sheet_spec.specs.Valid.{Between, ValidRow, Valid}
 use Rattle.machine_spec.specs.Box.{side, Near, Ordered, sum, trim, hull, moved}
 use Rattle.machine_spec.specs.declared.Law.{Law}
 use Rattle.machine_spec.specs.Machine.{Machine, machine, varsOf, bandsOf}
 use Rattle.machine_spec.specs.Accepted.{Accepted}
-use Rattle.machine_spec.specs.Rate.{outer, neighborhood, weighted, bound, rowOver, rate, rates, faceRate}
+use Rattle.machine_spec.specs.Rate.{weighted, bound, rowOver, rate, rates, faceRate}
 use Rattle.machine_spec.proofs.Face.{outer-one}
 use Rattle.machine_spec.proofs.Inside.{hull-side, moved-side, trim-side, rates-side, Inside}
 use Rattle.machine_spec.proofs.Neighborhood.{inward}

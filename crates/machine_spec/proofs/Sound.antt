@@ -3,7 +3,7 @@
 use mathlib.Core.Path.{_≡_, refl}
 use mathlib.Core.Bool.{Bool, true, false, not, cond}
 use mathlib.Core.List.{List}
-use Prim.Native.Nat.{ℕ, _≤_, _<_}
+use Prim.Native.Nat.{ℕ, _<_}
 use lib.Dec.{T}
 use lib.IntN.{ℤ, pos, negℤ, natAbs, _-ℤ_}
 use lib.Signed.{_≤ℤ_, ≤ℤ-refl}
@@ -14,7 +14,7 @@ use Rattle.sheet_spec.specs.Valid.{Between, Valid}
 use Rattle.machine_spec.specs.Box.{In}
 use Rattle.machine_spec.specs.Machine.{Machine, varsOf, bandsOf, bandVarOf, cap, rowOf, clamp, numerator, change, Tick}
 use Rattle.machine_spec.specs.Rate.{outer, outermost, weighted, bound, bandMet, part, offeredOver, neutral, bandRate, rate}
-use Rattle.machine_spec.proofs.Face.{Beyond, beyond-refl, beyond-trans, beyond-sum, sum-beyond, span, change-mono, cond-one, outer-one, outermost-one, outermost-at}
+use Rattle.machine_spec.proofs.Face.{Beyond, beyond-refl, beyond-trans, beyond-sum, sum-beyond, span, change-mono, cond-one, outermost-one, outermost-at}
 use Rattle.machine_spec.proofs.Facts.{cap-low, divisor}
 use Rattle.machine_spec.proofs.Offers.{offered-between}
 use Rattle.machine_spec.proofs.Bands.{meets-read, meets-show, meets-wider}

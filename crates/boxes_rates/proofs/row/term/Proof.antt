@@ -9,7 +9,6 @@ use lib.IntN.{ℤ, _*ℤ_}
 use mir.Facts.{toZ-ofZ}
 use mir.Syntax.{w64}
 use mir.Val.{SFits}
-use borrow.Author.Needs.{needs}
 use Rattle.integers.specs.Bound.{Bound}
 use Rattle.integers.proofs.Z.{told, up32, bound-of, bound-mul, fits64}
 use Rattle.sheet_spec.specs.Slots.{_!_, boxSize}
