@@ -14,13 +14,13 @@ use Rattle.machine_spec.specs.Machine.{machine}
 use Rattle.machine_spec.specs.Accepted.{Lawful}
 use Rattle.machine_spec.proofs.Facts.{room}
 use Rattle.machine_spec.proofs.Inside.{trim-holds, inside-ordered}
-use Rattle.machine_spec.proofs.Ranges.{trim-near}
+use Rattle.machine_spec.proofs.Ranges.{trim-near, sized-as}
 use Rattle.boxes.specs.declared.steps.ReachResult.{ReachResult}
 use Rattle.boxes.specs.declared.steps.ReachResult.the-variants.{Ended, Unsettled, Unsafe, Exhausted}
 use Rattle.boxes.specs.ReachResult.{resultOf, reachedOf}
 use Rattle.boxes_spec.specs.Reach.{reach, clear, reachRefusal, refused, answer, reachOf}
 use Rattle.boxes_spec.proofs.Refusals.{reach-passes}
-use Rattle.boxes_spec.proofs.Ranges.{sized-as, lawful, start-sized}
+use Rattle.boxes_spec.proofs.Ranges.{lawful, start-sized}
 
 -- the code's refusal of a reach is a
 pub record Refusal (v : List ℤ) (ticks w : ℕ) (l : Law) (B : List ℤ) (a : ℕ) : Type 0 where

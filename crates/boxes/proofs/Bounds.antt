@@ -22,7 +22,8 @@ use Rattle.boxes.specs.ReachResult.{resultOf, testedStepOf}
 use Rattle.boxes.proofs.Turn.{Stepping, Reaching}
 use Rattle.boxes_spec.proofs.Stages.{value-of}
 use Rattle.boxes_spec.proofs.Settled.{step-takes, firstPlace, tested-takes, reach-takes}
-use Rattle.boxes_spec.proofs.Ranges.{sized-less, settled-sized, steps-sized}
+use Rattle.machine_spec.proofs.Ranges.{sized-less}
+use Rattle.boxes_spec.proofs.Ranges.{settled-sized, steps-sized}
 
 -- a step covers at most its width
 pub step-ticks : {l : Bool} {a : ℕ} {m : Machine} {w : ℕ} {S : List ℤ} {left c : ℕ} {r : StepResult} {R : List ℤ} → Stepping l a m w S left c r R

@@ -8,13 +8,12 @@ use native.Mathlib.Nat.{add-zero, add-suc}
 use native.Mathlib.Numerals.{unary-clauses}
 use native.Mathlib.Omega.{arith}
 use lib.Dec.{leb, nleb→lt}
-use lib.IntN.{ℤ, pos, _-ℤ_}
+use lib.IntN.{ℤ, pos}
 use lib.ListN.{set}
 use lib.Seq.{set-set, set-comm}
 use lib.Signed.{leZ, _≤ℤ_, _<ℤ_}
 use borrow.Author.Tests.{lt-leb}
-use Rattle.integers.specs.Order.{maxZ}
-use Rattle.integers.proofs.Z.{ints, sub, min-is, max-is, le-true, le-false}
+use Rattle.integers.proofs.Z.{ints, le-true, le-false}
 use Rattle.sheet_spec.specs.Slots.{_!_, N, bandSlot, bands, edge}
 use Rattle.sheet_spec.specs.Box.{lo, hi}
 use Rattle.sheet_spec.specs.Valid.{Valid}
@@ -22,8 +21,9 @@ use Rattle.machine_spec.specs.Machine.{Machine, bandsOf, bandVarOf, cap, rowOf,
 use Rattle.machine_spec.specs.Rate.{outermost, bandMet, cutToBand, part, rowOver, neutral, bandRate}
 use Rattle.sheet_spec.proofs.Box.{differ}
 use Rattle.machine_spec.proofs.Bands.{Meets, meets-read, meets-show, edge-below, edges-ascend}
-use Rattle.machine_spec.proofs.Part.{cut-next, cut-cases}
-use Rattle.machine_spec.proofs.Sound.{cond-yes, cond-no, outer-neutral, outermost-between}
+use Rattle.machine_spec.proofs.Part.{low-stays, low-cut}
+use Rattle.machine_spec.proofs.Sound.{outer-neutral, outermost-between}
+use Rattle.machine_spec.proofs.Face.{cond-yes, cond-no}
 use Rattle.boxes_rates.specs.Plant.{startsBy, FirstBand}
 use Rattle.boxes_rates.proofs.Cut.{put-back}
 
@@ -47,23 +47,23 @@ module _ (v : List ℤ) (k : ℕ) {end at : ℕ} (x : ℤ) (p : at ≡ bandSlot 
 
 -- the first band with a number from l on starts at or below l, and is met by what reaches from l to h
 module _ {v : List ℤ} {l : ℤ} {at : ℕ} (f : FirstBand v l at) (low : edge v 0 ≤ℤ l) where
-  pub first-starts : edge v (f .band) ≤ℤ l
-  first-starts = by (f .band) (f .before)
+  pub first-starts : edge v (f .from .band) ≤ℤ l
+  first-starts = by (f .from .band) (f .from .before)
     where
       by : (k : ℕ) → ((j : ℕ) → j < k → edge v (j + 1) ≤ℤ l) → edge v k ≤ℤ l
       by zero g = low
       by (suc j) g = simp unary-clauses at (g j (omega arith))
 
-  pub first-met : {h : ℤ} → l ≤ℤ h → Meets v (bands v) (f .band) l h
+  pub first-met : {h : ℤ} → l ≤ℤ h → Meets v (bands v) (f .from .band) l h
   first-met o = record { above = omega (ints, first-starts, o); below = f .next }
 
--- the next one is met too if it starts at or below h; if it does not, none behind it is
-module _ {v : List ℤ} (wf : Valid v) {k : ℕ} {l h : ℤ} (s : Meets v (bands v) k l h) where
-  pub next-met : k + 1 < bands v → edge v (k + 1) ≤ℤ h → Meets v (bands v) (k + 1) l h
-  next-met g e = record { above = e; below = λ u. omega (ints, s .below g, edge-below wf (k + 1) u) }
+-- the one after a band that is met is met too if it starts at or below h
+pub next-met : {v : List ℤ} {k : ℕ} {l h : ℤ} → Valid v → Meets v (bands v) k l h → k + 1 < bands v → edge v (k + 1) ≤ℤ h → Meets v (bands v) (k + 1) l h
+next-met {k} wf s g e = record { above = e; below = λ u. omega (ints, s .below g, edge-below wf (k + 1) u) }
 
-pub unmet-before : {v : List ℤ} {l h : ℤ} {at : ℕ} (f : FirstBand v l at) (j : ℕ) → j < f .band → Meets v (bands v) j l h → ⊥
-unmet-before f j g s = omega (ints, f .before j g, s .below (omega (arith, f .among)))
+-- none before the first is met, and none from one on that starts above h
+pub unmet-before : {v : List ℤ} {l h : ℤ} {at : ℕ} (f : FirstBand v l at) (j : ℕ) → j < f .from .band → Meets v (bands v) j l h → ⊥
+unmet-before f j g s = omega (ints, f .from .before j g, s .below (omega (arith, f .from .among)))
 
 pub unmet-behind : {v : List ℤ} {l h : ℤ} → Valid v → (k d : ℕ) → (k < bands v → h <ℤ edge v k) → k + d < bands v → Meets v (bands v) (k + d) l h → ⊥
 unmet-behind wf k d e g s = omega (ints, e (omega arith), edges-ascend wf k d g, s .above)
@@ -107,17 +107,7 @@ module _ (m : Machine) (k : ℕ) (B : List ℤ) where
 
   -- a band that starts at or below the box
   pub cutting-starts : edge (m .sheet) k ≤ℤ lo B i → Cutting m k B B
-  unfolding cutToBand
-  cutting-starts e =
-      let same : maxZ (lo B i) (edge (m .sheet) k) ≡ lo B i = omega (ints, max-is (lo B i) (edge (m .sheet) k)) in
-      record { cut = λ x. ap (λ (l : List ℤ). set l (i + N) x) (sym (ap (set B i) same ∙ set-own B i)) }
-
-  -- the upper side of a part, where the next band is met and where it is not
-  pub part-end : k + 1 < bandsOf m → edge (m .sheet) (k + 1) ≤ℤ hi B i → edge (m .sheet) (k + 1) -ℤ pos 1 ≡ cutToBand true m k (hi B i)
-  part-end g e = sym (cut-next m k (hi B i) g ∙ omega (ints, min-is (hi B i) (edge (m .sheet) (k + 1) -ℤ pos 1), sub (edge (m .sheet) (k + 1)) (pos 1)))
-
-  pub last-end : (k + 1 < bandsOf m → hi B i <ℤ edge (m .sheet) (k + 1)) → cutToBand true m k (hi B i) ≡ hi B i
-  last-end n = cut-cases m k (λ z. z ≡ hi B i) (hi B i) (λ g. refl) (λ g. omega (ints, n g, min-is (hi B i) (edge (m .sheet) (k + 1) -ℤ pos 1), sub (edge (m .sheet) (k + 1)) (pos 1)))
+  cutting-starts e = record { cut = λ x. ap (λ (l : List ℤ). set l (i + N) x) (sym (ap (set B i) (low-stays m k e) ∙ set-own B i)) }
 
   -- j is the band variable, as the code has it
   module _ {j : ℕ} (v : j ≡ bandVarOf m) where
@@ -128,11 +118,11 @@ module _ (m : Machine) (k : ℕ) (B : List ℤ) where
 
     -- the next band
     pub cutting-on : j < N → {P : List ℤ} → P ≡ part m k B → {e : ℤ} → e ≡ edge (m .sheet) (k + 1) → lo B i ≤ℤ e → Cutting m (k + 1) B (set P j e)
-    unfolding cutToBand part
+    unfolding part
     cutting-on r {P} p {e} q h =
         let A = set B i (cutToBand false m k (lo B i)) in
         let y = cutToBand true m k (hi B i) in
-        let same : e ≡ maxZ (lo B i) (edge (m .sheet) (k + 1)) = omega (ints, max-is (lo B i) (edge (m .sheet) (k + 1))) in
+        let same : e ≡ cutToBand false m (k + 1) (lo B i) = q ∙ sym (low-cut m (k + 1) (omega (ints, h, q))) in
         record {
           cut = λ x.
               rw v (ap (λ (l : List ℤ). set (set l i e) (i + N) x) p

@@ -10,21 +10,14 @@ use Rattle.integers.proofs.Z.{ints, lt-true, lt-false, min-is, max-is, mul-mono
 use Rattle.sheet_spec.specs.Slots.{_!_, N}
 use Rattle.sheet_spec.specs.Box.{lo, hi}
 use Rattle.machine_spec.specs.Rate.{outer}
+use Rattle.machine_spec.proofs.Face.{cond-one}
 use Rattle.boxes_rates.specs.Limits.{outerPlace}
 
 -- what holds of the places of both sides holds of this one
 pub outer-place-one : (P : ℕ → Type 0) (up : Bool) (a : ℤ) {j : ℕ} → P j → P (j + N) → P (outerPlace up a j)
 unfolding outerPlace
-outer-place-one P false a {j} l h = by (ltZ a (pos 0))
-  where
-    by : (t : Bool) → P (cond t (j + N) j)
-    by true = h
-    by false = l
-outer-place-one P true a {j} l h = by (ltZ a (pos 0))
-  where
-    by : (t : Bool) → P (cond t j (j + N))
-    by true = l
-    by false = h
+outer-place-one P false a l h = cond-one P (ltZ a (pos 0)) h l
+outer-place-one P true a l h = cond-one P (ltZ a (pos 0)) l h
 
 module _ (a : ℤ) (B : List ℤ) (j : ℕ) (o : lo B j ≤ℤ hi B j) where
   negative : ltZ a (pos 0) ≡ true → (a *ℤ hi B j) ≤ℤ (a *ℤ lo B j)

@@ -23,13 +23,17 @@ pub record Describes (p : Plant) (v : List ℤ) : Type 0 where
 unfoldable pub startsBy : List ℤ → ℕ → ℕ → ℤ → Bool
 startsBy v end at x = not (leb end at) && leZ (v ! at) x
 
--- the band at a slot is the first that has a number from l on: those before it end at or below l, and it does not
-pub record FirstBand (v : List ℤ) (l : ℤ) (at : ℕ) : Type 0 where
+-- the bands before the one at a slot end at or below l
+pub record BandFrom (v : List ℤ) (l : ℤ) (at : ℕ) : Type 0 where
   pub band : ℕ
   pub place : at ≡ bandSlot band
   pub among : band < bands v
   pub before : (k : ℕ) → k < band → edge v (k + 1) ≤ℤ l
-  pub next : band + 1 < bands v → l <ℤ edge v (band + 1)
+
+-- and it does not: it is the first that has a number from l on
+pub record FirstBand (v : List ℤ) (l : ℤ) (at : ℕ) : Type 0 where
+  pub from : BandFrom v l at
+  pub next : from .band + 1 < bands v → l <ℤ edge v (from .band + 1)
 
 -- ---- the side that is cut
 

@@ -1,6 +1,6 @@
 -- How far the numbers of a reach go: sides, neighborhoods and the rows' numbers, at every step of a reach; and no box on the way is
 -- reversed. Assumes nothing.
-use mathlib.Core.Path.{_≡_, refl, sym, subst}
+use mathlib.Core.Path.{_≡_, refl}
 use mathlib.Core.Bool.{Bool, true, false, _&&_}
 use mathlib.Core.List.{List}
 use Prim.Native.Nat.{ℕ, zero, suc, _+_, _*_, _-_, _≤_, _<_}
@@ -11,14 +11,14 @@ use lib.Signed.{leZ, _≤ℤ_}
 use Rattle.integers.specs.Bound.{Bound}
 use Rattle.integers.proofs.Z.{ints, le-true, bound-sum, bound-sub, bound-less, bound-in}
 use Rattle.sheet_spec.specs.Limits.{maxVars, maxCommand, maxCap, maxEdge, maxCoefficient, maxConstant, maxSpread, maxRecoverySide, maxSide, maxTicks}
-use Rattle.sheet_spec.specs.Slots.{N, vars, edge, leastCommand, greatestCommand, recoverySlot, recoveryBox}
+use Rattle.sheet_spec.specs.Slots.{N, vars, leastCommand, greatestCommand, recoverySlot, recoveryBox}
 use Rattle.sheet_spec.specs.Refusals.{Cause, unlessRefused}
 use Rattle.sheet_spec.specs.Box.{lo, hi}
 use Rattle.machine_spec.specs.Box.{side, Near, Ordered, Sized, trim, hull}
 use Rattle.sheet_spec.specs.Valid.{Valid}
 use Rattle.machine_spec.specs.declared.Law.{Law}
 use Rattle.machine_spec.specs.declared.Law.the-variants.{Baseline, Command}
-use Rattle.machine_spec.specs.Machine.{Machine, machine, varsOf, bandsOf, bandVarOf, cap, rowOf}
+use Rattle.machine_spec.specs.Machine.{Machine, machine, varsOf, bandsOf, cap, rowOf}
 use Rattle.machine_spec.specs.Accepted.{Lawful, Accepted}
 use Rattle.machine_spec.specs.Rate.{bandMet, part, rowOver, neighborhood}
 use Rattle.sheet_spec.proofs.Laws.{unless-zero}
@@ -26,22 +26,13 @@ use Rattle.sheet_spec.proofs.Box.{and-both, all-at, box-lo, box-hi}
 use Rattle.machine_spec.proofs.Neighborhood.{inward, neighborhood-part}
 use Rattle.machine_spec.proofs.Facts.{room}
 use Rattle.machine_spec.proofs.Part.{part-within, part-ordered}
-use Rattle.machine_spec.proofs.Ranges.{near-less, near-part, zero-near, trim-near, hull-near, moved-near, rates-near, limit-near, number-near}
+use Rattle.machine_spec.proofs.Ranges.{near-less, sized-part, above-first, zero-near, trim-near, hull-near, moved-near, rates-near, limit-near, number-near}
 use Rattle.boxes_spec.specs.Step.{lifted, grown, endBox, Failure, Result, Step, swept}
 use Rattle.boxes_spec.specs.Reach.{maxReached, Reached, reach, clear, lawRefusal, sidesRefusal, reachRefusal, Answer, refused, answer, reachOf}
 use Rattle.boxes_spec.proofs.Settled.{Working, starts, grows, Settled, Place, firstPlace, StepsTo, here, next, steps-less, Ends, reach-takes}
 use Rattle.boxes_spec.proofs.Stages.{Takes, value, failure, spent}
 use Rattle.boxes_spec.proofs.Refusals.{reach-passes}
 use Rattle.boxes_spec.proofs.Order.{working-holds, face-ordered, end-ordered}
-
--- ---- a box that is not empty, and whose sides are at most b
-
-pub sized-less : {n b c : ℕ} {B : List ℤ} → b ≤ c → Sized n b B → Sized n c B
-sized-less h s = record { near = near-less h (s .near); ordered = s .ordered }
-
--- an equal box
-pub sized-as : {n b : ℕ} {A B : List ℤ} → A ≡ B → Sized n b B → Sized n b A
-sized-as {n} {b} e s = subst (Sized n b) (sym e) s
 
 -- ---- a step of length k from S, whose sides are at most b
 
@@ -80,15 +71,12 @@ module _ {m : Machine} (wf : Valid (m .sheet)) where
       near-less (omega (arith, steps-less w, e .most)) (swept-near w n all)
 
 module _ {m : Machine} (wf : Accepted m) where
-  above-first : {b : ℕ} (E : List ℤ) → Near (varsOf m) b E → b ≤ maxEdge → edge (m .sheet) 0 ≤ℤ lo E (bandVarOf m)
-  above-first E e h = omega (ints, wf .sheet .first-edge, e .at false (bandVarOf m) (wf .sheet .var) .at-most)
-
   -- after a step
   pub settled-sized : {S : List ℤ} {k b : ℕ} {t : Step} → Sized (varsOf m) b S → b + k * maxCap ≤ maxEdge → Settled m S k t → Sized (varsOf m) (b + t .ticks * maxCap) (t .end)
   settled-sized {S} {t = t} s h e = record {
     near = settled-near (wf .sheet) (s .near) e;
     ordered = rw (e .end) (end-ordered wf S (t .ticks) (s .ordered) (working-holds (room (wf .sheet)) (e .working))
-        (above-first (e .E) (working-near m (wf .sheet) (t .ticks) (s .near) (e .working)) (omega (arith, e .most, e .some))));
+        (above-first (wf .sheet) (near-less (omega (arith, e .most, e .some)) (working-near m (wf .sheet) (t .ticks) (s .near) (e .working)))));
   }
 
   -- NEVER REVERSED, wherever a reach has come
@@ -133,14 +121,13 @@ pub record Ranges (m : Machine) (S : List ℤ) (k : ℕ) (E : List ℤ) : Type 0
 module _ {m : Machine} (wf : Accepted m) {S : List ℤ} (k : ℕ) {b : ℕ} (s : Sized (varsOf m) b S) (z : 0 < k) (h : b + k * maxCap ≤ maxReached) {E : List ℤ} (w : Working m S k E) where
   near-around : (up : Bool) (i : ℕ) → i < varsOf m → Sized (varsOf m) (maxReached - maxCap) (around m S k E up i)
   near-around up i g =
-      let o = face-ordered wf S k (s .ordered) (working-holds (room (wf .sheet)) w) up i g in
-      record { near = near-part o (neighborhood-part (room (wf .sheet)) S _ i g up E) (near-less (omega arith) (working-near m (wf .sheet) k (s .near) w)); ordered = o }
+      sized-part (face-ordered wf S k (s .ordered) (working-holds (room (wf .sheet)) w) up i g) (neighborhood-part (room (wf .sheet)) S _ i g up E)
+      (near-less (omega arith) (working-near m (wf .sheet) k (s .near) w))
 
   near-part-of : (up : Bool) (i j : ℕ) → i < varsOf m → T (bandMet m j (around m S k E up i)) → Sized (varsOf m) (maxReached - maxCap) (part m j (around m S k E up i))
   near-part-of up i j g t =
       let a = near-around up i g in
-      let o = part-ordered m (wf .sheet) j (a .ordered) t in
-      record { near = near-part o (part-within m (wf .sheet) j (around m S k E up i)) (a .near); ordered = o }
+      sized-part (part-ordered m (wf .sheet) j (a .ordered) t) (part-within m (wf .sheet) j (around m S k E up i)) (a .near)
 
   number : (up : Bool) (i j : ℕ) → i < varsOf m → j < bandsOf m → T (bandMet m j (around m S k E up i)) → Bound (numeratorOver m S k E up i j) maxNumerator
   number up i j g l t = bound-less (number-near wf (near-part-of up i j g t .near) up i j g l) (omega (arith, wf .sheet .vars-high))

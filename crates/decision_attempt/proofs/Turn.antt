@@ -26,7 +26,7 @@ use Rattle.sheet_spec.specs.Limits.{maxSide, maxTicks, maxWidth}
 use Rattle.boxes_spec.specs.Reach.{Reached, reach, clear}
 use Rattle.boxes.specs.ReachResult.{resultOf, reachedOf, Names}
 use Rattle.boxes_spec.proofs.Stages.{value, failure, spent}
-use Rattle.boxes_spec.proofs.Ranges.{sized-less}
+use Rattle.machine_spec.proofs.Ranges.{sized-less}
 use Rattle.boxes_step.specs.Limits.{stepLimit}
 use Rattle.boxes.proofs.Bounds.{reach-sized}
 use Rattle.integers.proofs.Tests.{pick-yes, pick-no}

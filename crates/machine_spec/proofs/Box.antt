@@ -1,7 +1,7 @@
 -- Laws about boxes, and about what is said of each variable below n. Assumes nothing.
-use mathlib.Core.Path.{_≡_, refl, sym, ap, _∙_, subst}
+use mathlib.Core.Path.{_≡_, refl, sym, ap, _∙_}
 use mathlib.Core.Logic.{⊎-elim}
-use mathlib.Core.Bool.{Bool, true, false, _&&_, _||_}
+use mathlib.Core.Bool.{Bool, true, false, _&&_}
 use mathlib.Core.List.{List, [], _∷_}
 use Prim.Native.Nat.{ℕ, zero, suc, _+_, _≤_, _<_}
 use native.Mathlib.Nat.{eq-or-lt-of-le}
@@ -9,12 +9,12 @@ use native.Mathlib.Numerals.{add-one}
 use native.Mathlib.Omega.{arith}
 use lib.Dec.{T}
 use lib.IntN.{ℤ, pos, _+ℤ_, _*ℤ_}
-use lib.Signed.{leZ, _≤ℤ_, _<ℤ_}
-use lib.ListN.{set, drop, length, length-set, length-replicate}
-use lib.Seq.{getD-set-same, getD-set-other, getD-take, getD-drop}
+use lib.Signed.{_≤ℤ_}
+use lib.ListN.{set, length, length-set, length-replicate}
+use lib.Seq.{getD-set-same, getD-set-other}
 use Rattle.integers.specs.Order.{minZ, maxZ}
 use Rattle.integers.proofs.Z.{ints, flat, le-true}
-use Rattle.sheet_spec.specs.Slots.{_!_, N, boxSize, boxAt}
+use Rattle.sheet_spec.specs.Slots.{_!_, N, boxSize}
 use Rattle.sheet_spec.specs.Box.{lo, hi}
 use Rattle.machine_spec.specs.Box.{sum, boxOf, trim, hull, within, moved}
 use Rattle.sheet_spec.proofs.Box.{and-both, all-at}

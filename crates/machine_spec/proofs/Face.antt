@@ -1,10 +1,11 @@
 -- A face's own order, so that what holds of lower and of upper faces is said once. Assumes nothing.
-use mathlib.Core.Path.{_≡_}
+use mathlib.Core.Path.{_≡_, refl}
 use mathlib.Core.Logic.{_⊎_, inl, inr, ⊎-elim}
 use mathlib.Core.Bool.{Bool, true, false, not, cond}
 use Prim.Native.Nat.{ℕ, zero, suc, _≤_, _<_}
 use native.Mathlib.Decide.{ℕ-discrete}
 use native.Mathlib.Omega.{arith}
+use lib.Dec.{T}
 use lib.IntN.{ℤ, pos, negℤ, natAbs, _+ℤ_, _-ℤ_, _*ℤ_}
 use lib.Signed.{leZ, _≤ℤ_, ≤ℤ-refl}
 use Rattle.integers.specs.Order.{minZ, maxZ}
@@ -61,11 +62,24 @@ unfolding sum
 sum-beyond {up} zero f g h = beyond-refl up (pos 0)
 sum-beyond (suc n) f g h = beyond-sum (sum-beyond n f g (λ i k. h i (omega arith))) (h n (omega arith))
 
--- ---- the outer of two, the outermost of many
+-- ---- a choice
 
-pub cond-one : (P : ℤ → Type 0) (t : Bool) {x y : ℤ} → P x → P y → P (cond t x y)
-cond-one P true h k = h
-cond-one P false h k = k
+pub cond-cases : {A : Type 0} (P : A → Type 0) (t : Bool) {x y : A} → (T t → P x) → (T (not t) → P y) → P (cond t x y)
+cond-cases P true f g = f tt
+cond-cases P false f g = g tt
+
+pub cond-one : {A : Type 0} (P : A → Type 0) (t : Bool) {x y : A} → P x → P y → P (cond t x y)
+cond-one P t h k = cond-cases P t (λ _. h) (λ _. k)
+
+pub cond-yes : (t : Bool) (x y : ℤ) → T t → cond t x y ≡ x
+cond-yes true x y h = refl
+cond-yes false x y h = absurd h
+
+pub cond-no : (t : Bool) (x y : ℤ) → (T t → ⊥) → cond t x y ≡ y
+cond-no true x y h = absurd (h tt)
+cond-no false x y h = refl
+
+-- ---- the outer of two, the outermost of many
 
 pub outer-left : (up : Bool) (a b : ℤ) → Beyond up (outer up a b) a
 unfolding outer

@@ -2,15 +2,15 @@
 use mathlib.Core.Path.{_≡_, refl, _∙_}
 use mathlib.Core.Bool.{Bool, true, false, not}
 use mathlib.Core.List.{List}
-use Prim.Native.Nat.{ℕ, zero, suc, _≤_, _<_}
+use Prim.Native.Nat.{ℕ, _≤_, _<_}
 use native.Mathlib.Omega.{arith}
 use lib.IntN.{ℤ, pos, _+ℤ_, _*ℤ_}
-use lib.Signed.{_≤ℤ_, ≤ℤ-refl}
+use lib.Signed.{≤ℤ-refl}
 use Rattle.integers.specs.Order.{minZ, maxZ}
 use Rattle.integers.proofs.Z.{ints, min-is, max-is}
 use Rattle.sheet_spec.specs.Slots.{_!_, N}
 use Rattle.sheet_spec.specs.Box.{lo, hi, meets}
-use Rattle.machine_spec.specs.Box.{side, Ordered, In, boxOf, trim, hull, within, moved}
+use Rattle.machine_spec.specs.Box.{side, Ordered, In, trim, hull, within, moved}
 use Rattle.machine_spec.specs.Machine.{Machine, varsOf}
 use Rattle.machine_spec.specs.Rate.{outer, faceRate, rates}
 use Rattle.sheet_spec.proofs.Box.{le-is, all-of}

@@ -1,14 +1,14 @@
 -- The part of a box that lies in a band: it holds the box's states that are in the band, it lies in the box, it is wider in a wider
 -- one, and never empty where the box meets the band. Assumes nothing.
-use mathlib.Core.Path.{_≡_, refl}
-use mathlib.Core.Bool.{Bool, true, false, not, cond}
+use mathlib.Core.Path.{_≡_, refl, _∙_}
+use mathlib.Core.Bool.{Bool, true, false}
 use mathlib.Core.List.{List}
 use Prim.Native.Nat.{ℕ, _+_, _≤_, _<_}
 use native.Mathlib.Omega.{arith}
 use lib.Dec.{T, leb, leb→le, nleb→lt}
 use lib.IntN.{ℤ, pos, _-ℤ_}
 use lib.ListN.{length}
-use lib.Signed.{_≤ℤ_}
+use lib.Signed.{_≤ℤ_, _<ℤ_}
 use borrow.Author.Tests.{le-leb, lt-leb}
 use Rattle.integers.specs.Order.{minZ}
 use Rattle.integers.proofs.Z.{ints, sub, min-is, max-is}
@@ -19,33 +19,44 @@ use Rattle.machine_spec.specs.Box.{side, Ordered, In}
 use Rattle.machine_spec.specs.Machine.{Machine, varsOf, bandsOf, bandVarOf, bandHolds}
 use Rattle.machine_spec.specs.Rate.{bandMet, cutToBand, part}
 use Rattle.machine_spec.proofs.Box.{set-two}
-use Rattle.machine_spec.proofs.Face.{Beyond, beyond-refl}
+use Rattle.machine_spec.proofs.Face.{Beyond, beyond-refl, cond-cases}
 use Rattle.machine_spec.proofs.Inside.{in-side, in-by, Inside}
 use Rattle.machine_spec.proofs.Facts.{room}
 use Rattle.machine_spec.proofs.Bands.{Meets, meets-read, edge-below}
 
 -- ---- a side that is cut to band k
 
-cond-cases : (P : ℤ → Type 0) (t : Bool) {x y : ℤ} → (T t → P x) → (T (not t) → P y) → P (cond t x y)
-cond-cases P true f g = f tt
-cond-cases P false f g = g tt
-
 module _ (m : Machine) (k : ℕ) where
   -- just below the next edge
   abbrev last : ℤ
   last = edge (m .sheet) (k + 1) -ℤ pos 1
 
-  pub cut-last : (h : ℤ) → bandsOf m ≤ k + 1 → cutToBand true m k h ≡ h
+  cut-last : (h : ℤ) → bandsOf m ≤ k + 1 → cutToBand true m k h ≡ h
   unfolding cutToBand
   cut-last h e = rw (le-leb (bandsOf m) (k + 1) e) refl
 
-  pub cut-next : (h : ℤ) → k + 1 < bandsOf m → cutToBand true m k h ≡ minZ h last
+  cut-next : (h : ℤ) → k + 1 < bandsOf m → cutToBand true m k h ≡ minZ h last
   unfolding cutToBand
   cut-next h e = rw (lt-leb (bandsOf m) (k + 1) e) refl
 
-  pub cut-cases : (P : ℤ → Type 0) (h : ℤ) → (bandsOf m ≤ k + 1 → P h) → (k + 1 < bandsOf m → P (minZ h last)) → P (cutToBand true m k h)
+  cut-cases : (P : ℤ → Type 0) (h : ℤ) → (bandsOf m ≤ k + 1 → P h) → (k + 1 < bandsOf m → P (minZ h last)) → P (cutToBand true m k h)
   unfolding cutToBand
   cut-cases P h f g = cond-cases P (leb (bandsOf m) (k + 1)) (λ t. f (leb→le (bandsOf m) (k + 1) t)) (λ t. g (nleb→lt (bandsOf m) (k + 1) t))
+
+  -- a side that does not reach beyond the band stays; one that does becomes the band's own
+  pub low-stays : {l : ℤ} → edge (m .sheet) k ≤ℤ l → cutToBand false m k l ≡ l
+  unfolding cutToBand
+  low-stays {l} h = omega (ints, max-is l (edge (m .sheet) k))
+
+  pub low-cut : {l : ℤ} → l ≤ℤ edge (m .sheet) k → cutToBand false m k l ≡ edge (m .sheet) k
+  unfolding cutToBand
+  low-cut {l} h = omega (ints, max-is l (edge (m .sheet) k))
+
+  pub high-stays : {h : ℤ} → (k + 1 < bandsOf m → h <ℤ edge (m .sheet) (k + 1)) → cutToBand true m k h ≡ h
+  high-stays {h} n = cut-cases (λ z. z ≡ h) h (λ e. refl) (λ e. omega (ints, n e, min-is h last, sub (edge (m .sheet) (k + 1)) (pos 1)))
+
+  pub high-cut : {h : ℤ} → k + 1 < bandsOf m → edge (m .sheet) (k + 1) ≤ℤ h → cutToBand true m k h ≡ last
+  high-cut {h} e g = cut-next h e ∙ omega (ints, g, min-is h last, sub (edge (m .sheet) (k + 1)) (pos 1))
 
   cut-inward : (up : Bool) (s : ℤ) → Beyond up s (cutToBand up m k s)
   unfolding cutToBand

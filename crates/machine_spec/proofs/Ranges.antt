@@ -9,10 +9,11 @@ use lib.ListN.{replicate}
 use lib.Signed.{_≤ℤ_}
 use Rattle.integers.specs.Bound.{Bound}
 use Rattle.integers.proofs.Z.{ints, neg, bound-in, bound-less, bound-sum, bound-sub, bound-mul}
-use Rattle.sheet_spec.specs.Limits.{maxCommand, maxCap, maxCoefficient, maxConstant}
-use Rattle.sheet_spec.specs.Slots.{_!_, N, boxSize, Row, vars, cap}
+use Rattle.sheet_spec.specs.Limits.{maxCommand, maxCap, maxEdge, maxCoefficient, maxConstant}
+use Rattle.sheet_spec.specs.Slots.{_!_, N, boxSize, Row, vars, bandVar, cap, edge}
+use Rattle.sheet_spec.specs.Box.{lo}
 use Rattle.sheet_spec.specs.Valid.{Between, ValidRow, Valid}
-use Rattle.machine_spec.specs.Box.{side, Near, Ordered, sum, trim, hull, moved}
+use Rattle.machine_spec.specs.Box.{side, Near, Ordered, Sized, sum, trim, hull, moved}
 use Rattle.machine_spec.specs.declared.Law.{Law}
 use Rattle.machine_spec.specs.Machine.{Machine, machine, varsOf, bandsOf}
 use Rattle.machine_spec.specs.Accepted.{Accepted}
@@ -45,6 +46,20 @@ near-part {n} {b} {A} o s k = record { at = at }
     at : (up : Bool) (i : ℕ) → i < n → Bound (side up A i) b
     at false i h = bound-between (k .at false i h) (k .at true i h) (s .at false i h .order) (omega (ints, o .at i h, s .at true i h .order))
     at true i h = bound-between (k .at false i h) (k .at true i h) (omega (ints, o .at i h, s .at false i h .order)) (s .at true i h .order)
+
+-- the same of a box that is not empty
+pub sized-less : {n b c : ℕ} {B : List ℤ} → b ≤ c → Sized n b B → Sized n c B
+sized-less h s = record { near = near-less h (s .near); ordered = s .ordered }
+
+pub sized-as : {n b : ℕ} {A B : List ℤ} → A ≡ B → Sized n b B → Sized n b A
+sized-as {n} {b} e s = subst (Sized n b) (sym e) s
+
+pub sized-part : {n b : ℕ} {A B : List ℤ} → Ordered n A → Inside n A B → Near n b B → Sized n b A
+sized-part o s k = record { near = near-part o s k; ordered = o }
+
+-- a box within ±2,000,000 is not below the first edge
+pub above-first : {v E : List ℤ} → Valid v → Near (vars v) maxEdge E → edge v 0 ≤ℤ lo E (bandVar v)
+above-first {v} wf e = omega (ints, wf .first-edge, e .at false (bandVar v) (wf .var) .at-most)
 
 -- the box of zeros
 pub zero-near : (n b : ℕ) → Near n b (replicate boxSize (pos 0))

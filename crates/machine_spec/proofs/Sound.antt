@@ -1,7 +1,7 @@
 -- The rates bound every allowed change: over a box that holds the state, a tick changes a variable by no more than the rates
 -- of its two faces, and never by more than its cap. Assumes nothing.
-use mathlib.Core.Path.{_≡_, refl}
-use mathlib.Core.Bool.{Bool, true, false, not, cond}
+use mathlib.Core.Path.{_≡_}
+use mathlib.Core.Bool.{Bool, true, false, not}
 use mathlib.Core.List.{List}
 use Prim.Native.Nat.{ℕ, _<_}
 use lib.Dec.{T}
@@ -14,7 +14,7 @@ use Rattle.sheet_spec.specs.Valid.{Between, Valid}
 use Rattle.machine_spec.specs.Box.{In}
 use Rattle.machine_spec.specs.Machine.{Machine, varsOf, bandsOf, bandVarOf, cap, rowOf, clamp, numerator, change, Tick}
 use Rattle.machine_spec.specs.Rate.{outer, outermost, weighted, bound, bandMet, part, offeredOver, neutral, bandRate, rate}
-use Rattle.machine_spec.proofs.Face.{Beyond, beyond-refl, beyond-trans, beyond-sum, sum-beyond, span, change-mono, cond-one, outermost-one, outermost-at}
+use Rattle.machine_spec.proofs.Face.{Beyond, beyond-refl, beyond-trans, beyond-sum, sum-beyond, span, change-mono, cond-one, cond-yes, outermost-one, outermost-at}
 use Rattle.machine_spec.proofs.Facts.{cap-low, divisor}
 use Rattle.machine_spec.proofs.Offers.{offered-between}
 use Rattle.machine_spec.proofs.Bands.{meets-read, meets-show, meets-wider}
@@ -41,14 +41,6 @@ tick-in-part {m} {x} B wf b t = let s = part-holds m wf (t .band) B x b (t .hold
 }
 
 -- ---- the rates
-
-pub cond-yes : (t : Bool) (x y : ℤ) → T t → cond t x y ≡ x
-cond-yes true x y h = refl
-cond-yes false x y h = absurd h
-
-pub cond-no : (t : Bool) (x y : ℤ) → (T t → ⊥) → cond t x y ≡ y
-cond-no true x y h = absurd (h tt)
-cond-no false x y h = refl
 
 -- a band's share in a rate bounds the outermost change from every state, with every command, that it covers
 pub share-bounds : {m : Machine} {B : List ℤ} {k : ℕ} {x : List ℤ} {u : ℤ} (up : Bool) (i : ℕ) → InPart m B k x u → 0 < natAbs (rowOf m k i .q)

@@ -7,7 +7,7 @@ use Rattle.sheet_spec.specs.Slots.{N}
 use Rattle.machine_spec.proofs.InPlace.{trim-trim, trim-as, trimmed-by}
 use Rattle.boxes_rates.specs.Plant.{Describes}
 use Rattle.machine_spec.proofs.Facts as facts
-use Rattle.boxes_spec.proofs.Ranges.{sized-less}
+use Rattle.machine_spec.proofs.Ranges.{sized-less}
 use Rattle.boxes.proofs.Answer.{Refusal, reach-refused, reachable, reach-ended, reach-failed}
 use Rattle.boxes.proofs.Turn.{not-ended}
 use Rattle.boxes.proofs.reach_of.Statement.{statement}

@@ -12,7 +12,7 @@ use Rattle.machine_spec.specs.Box.{Near}
 use Rattle.machine_spec.specs.Machine.{Machine, machine, varsOf}
 use Rattle.sheet_spec.specs.Limits.{maxCap}
 use Rattle.boxes_step.specs.declared.Budget.{Budget}
-use Rattle.boxes_spec.proofs.Ranges.{sized-less}
+use Rattle.machine_spec.proofs.Ranges.{sized-less}
 use Rattle.boxes_step.proofs.Bounds.{halving-count}
 use Rattle.boxes_step.proofs.Turn.{Halving, halving-starts, halving-ends, halving-finest, halving-on}
 use Rattle.boxes_step.proofs.StepResult.{the-type}

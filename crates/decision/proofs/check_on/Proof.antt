@@ -9,7 +9,8 @@ use Rattle.machine_spec.specs.Box.{trim}
 use Rattle.machine_spec.proofs.InPlace.{trim-as}
 use Rattle.decision_spec.specs.Decision.{ticksOf, recoveryOf}
 use Rattle.decision_answers.specs.Decision.{replyOf}
-use Rattle.boxes_spec.proofs.Ranges.{sized-as, recovery-sized}
+use Rattle.machine_spec.proofs.Ranges.{sized-as}
+use Rattle.boxes_spec.proofs.Ranges.{recovery-sized}
 use Rattle.decision_spec.proofs.Allowance.{recoveryOf-unspent}
 use Rattle.decision.proofs.Answer.{plan-checks}
 use Rattle.decision.proofs.check_on.Statement.{statement}

@@ -10,7 +10,7 @@ use borrow.Author.Needs.{needs}
 use Rattle.sheet_spec.specs.Slots.{vars}
 use Rattle.machine_spec.specs.Box.{trim}
 use Rattle.machine_spec.specs.declared.Law.the-variants.{Baseline}
-use Rattle.boxes_spec.proofs.Ranges.{sized-less}
+use Rattle.machine_spec.proofs.Ranges.{sized-less}
 use Rattle.boxes.proofs.Turn.{not-ended}
 use Rattle.decision_spec.specs.declared.Phase.{Phase}
 use Rattle.decision_spec.specs.Decision.{phase, ticksOf}

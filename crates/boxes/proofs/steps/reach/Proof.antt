@@ -10,7 +10,7 @@ use Rattle.sheet_spec.specs.Slots.{N, vars}
 use Rattle.machine_spec.specs.Box.{Sized, trim, hull}
 use Rattle.machine_spec.proofs.InPlace.{trim-as-hull, trimmed-by}
 use Rattle.machine_spec.proofs.Facts as facts
-use Rattle.boxes_spec.proofs.Ranges.{sized-less}
+use Rattle.machine_spec.proofs.Ranges.{sized-less}
 use Rattle.boxes_step.specs.Limits.{stepLimit}
 use Rattle.boxes.specs.declared.steps.ReachPlan.{ReachPlan}
 use Rattle.boxes.specs.ReachPlan.{machineOn, clearOn}

@@ -12,10 +12,9 @@ use Rattle.machine_spec.specs.Box.{trim}
 use Rattle.sheet_spec.proofs.Box.{differ}
 use Rattle.machine_spec.proofs.InPlace.{trim-moved, trim-as, trimmed-by}
 use Rattle.machine_spec.proofs.Facts as facts
-use Rattle.machine_spec.proofs.Ranges.{near-less, near-by, zero-near}
+use Rattle.machine_spec.proofs.Ranges.{near-less, near-by, zero-near, sized-less}
 use Rattle.boxes_shape.specs.Limits.{ArriveDone}
 use Rattle.boxes_spec.specs.Step.{step}
-use Rattle.boxes_spec.proofs.Ranges.{sized-less}
 use Rattle.boxes.specs.declared.steps.ReachPlan.{ReachPlan}
 use Rattle.boxes.specs.ReachPlan.{machineOn, clearOn, lowestOn}
 use Rattle.boxes.specs.ReachResult.{isEnded, Names}

@@ -24,7 +24,7 @@ use Rattle.machine_spec.proofs.Facts.{cap-low, cap-near}
 use Rattle.machine_spec.proofs.Facts as facts
 use Rattle.machine_spec.proofs.Inside.{within-inside, inside-ordered}
 use Rattle.machine_spec.proofs.Neighborhood.{neighborhood-part, neighborhood-ordered}
-use Rattle.machine_spec.proofs.Ranges.{near-less, near-part}
+use Rattle.machine_spec.proofs.Ranges.{near-less, near-part, sized-part}
 use Rattle.boxes_rates.proofs.rate.face_rate.Statement.{statement}
 use Rattle.boxes_rates.proofs.rate.face_rate.Tie as tie
 
@@ -93,7 +93,7 @@ neighborhood-sized at-start =
     let room = facts.room (asked at-start .plant .sheet) in
     let holds = within-inside (S at-start) (E at-start) (asked at-start .holds) in
     let o = neighborhood-ordered room (S at-start) (reach at-start) (at-start .args .i) (var at-start) (reach-low at-start) (at-start .args .up) holds (inside-ordered holds (asked at-start .start)) in
-    record { near = near-part o (neighborhood-part room (S at-start) (reach at-start) (at-start .args .i) (var at-start) (at-start .args .up) (E at-start)) (asked at-start .work); ordered = o }
+    sized-part o (neighborhood-part room (S at-start) (reach at-start) (at-start .args .i) (var at-start) (at-start .args .up) (E at-start)) (asked at-start .work)
 
 -- the narrowed box B, and that it is the working box again with the saved side
 module _ (at-narrow : tie.After-narrow) where

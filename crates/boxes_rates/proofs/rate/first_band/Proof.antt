@@ -3,7 +3,7 @@
 use mathlib.Core.Path.{_≡_, refl, sym, _∙_}
 use mathlib.Core.Logic.{⊎-elim}
 use mathlib.Core.List.{List}
-use Prim.Native.Nat.{ℕ, _+_, _-_, _≤_, _<_}
+use Prim.Native.Nat.{_+_, _-_, _≤_, _<_}
 use native.Mathlib.Nat.{eq-or-lt-of-le}
 use native.Mathlib.Omega.{arith}
 use lib.IntN.{ℤ}
@@ -12,19 +12,13 @@ use mir.Facts.{toZ-ofZ}
 use mir.Syntax.{w64}
 use mir.Val.{toZ}
 use Rattle.sheet_spec.specs.Slots.{bandSize, bandSlot, bands, edge, slots}
+use Rattle.boxes_rates.specs.Plant.{BandFrom}
 use Rattle.boxes_rates.proofs.Parts.{starts-yes, starts-no}
 use Rattle.boxes_rates.proofs.rate.first_band.Statement.{statement}
 use Rattle.boxes_rates.proofs.rate.first_band.Tie as tie
 
--- the band at the slot, where those before it end at or below l
-record Invariant (v : List ℤ) (l : ℤ) (at : ℕ) : Type 0 where
-  band : ℕ
-  place : at ≡ bandSlot band
-  among : band < bands v
-  before : (k : ℕ) → k < band → edge v (k + 1) ≤ℤ l
-
 abbrev Inv-loop : tie.InvT-loop
-Inv-loop sheet end low at₀ at = Invariant sheet (toZ w64 low) at
+Inv-loop sheet end low at₀ at = BandFrom sheet (toZ w64 low) at
 
 abbrev μ-loop : tie.MeasureT-loop
 μ-loop sheet end low at₀ at = end - at
@@ -84,10 +78,7 @@ returns at-return =
     let inv = l .loop .inv in
     let low-is = toZ-ofZ (at-start l .fits .low) in
     record {
-      band = inv .band;
-      place = inv .place;
-      among = inv .among;
-      before = λ k h. rw low-is at (inv .before k h);
+      from = rw low-is at inv;
       next = starts-no (v l) _ _ (next-place l) (ends l) (sym (rw low-is at (at-test .starts-by .ensures)) ∙ at-return .if1 .left);
     }
 

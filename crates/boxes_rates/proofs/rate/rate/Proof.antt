@@ -16,21 +16,20 @@ use mir.Val.{SFits, toZ, ofZ}
 use borrow.Author.Needs.{needs}
 use Rattle.integers.specs.Bound.{Bound}
 use Rattle.integers.proofs.Z.{ints, sum as plus, sub, told, up32, bound-of, bound-sub, bound-lit, fits64}
-use Rattle.sheet_spec.specs.Slots.{_!_, N, bandSize, bandSlot, slots, vars, bands, bandVar, cap, edge}
+use Rattle.sheet_spec.specs.Slots.{_!_, N, bandSize, bandSlot, slots, bands, bandVar, cap, edge}
 use Rattle.sheet_spec.specs.Box.{lo, hi}
-use Rattle.machine_spec.specs.Box.{Sized}
 use Rattle.machine_spec.specs.Machine.{Machine, machine, rowOf, change}
 use Rattle.machine_spec.specs.Rate.{outer, outermost, cutToBand, part, rowOver, neutral, bandRate, rate}
-use Rattle.boxes_arithmetic.specs.Limits.{limit, word}
+use Rattle.boxes_arithmetic.specs.Limits.{word}
 use Rattle.boxes_arithmetic.proofs.Bounds.{wide}
 use Rattle.machine_spec.proofs.Bands.{Meets, meets-show}
 use Rattle.machine_spec.proofs.Facts.{cap-low, cap-near}
-use Rattle.machine_spec.proofs.Part.{part-within, part-ordered}
-use Rattle.machine_spec.proofs.Ranges.{near-less, near-part}
+use Rattle.machine_spec.proofs.Part.{high-stays, high-cut, part-within, part-ordered}
+use Rattle.machine_spec.proofs.Ranges.{sized-less, sized-as, sized-part, above-first}
 use Rattle.machine_spec.proofs.Sound.{outermost-between}
 use Rattle.boxes_rates.specs.Limits.{BandAsked, RowRated, RateAsked}
 use Rattle.boxes_rates.specs.Plant.{FirstBand}
-use Rattle.boxes_rates.proofs.Parts.{starts-yes, starts-no, first-starts, first-met, next-met, unmet-before, unmet-behind, share-met, unmet-stays, Cutting, cutting-starts, cutting-part, cutting-on, cutting-ends, part-end, last-end}
+use Rattle.boxes_rates.proofs.Parts.{starts-yes, starts-no, first-starts, first-met, next-met, unmet-before, unmet-behind, share-met, unmet-stays, Cutting, cutting-starts, cutting-part, cutting-on, cutting-ends}
 use Rattle.boxes_rates.proofs.Rates.{outermost-more}
 use Rattle.boxes_rates.proofs.rate.rate.Statement.{statement}
 use Rattle.boxes_rates.proofs.rate.rate.Tie as tie
@@ -76,7 +75,7 @@ module _ (at-start : tie.Start Inv-loop μ-loop) where
   ordered = asked .sides .ordered .at (bandVar v) (asked .plant .sheet .var)
 
   low-enough : edge v 0 ≤ℤ lo B (bandVar v)
-  low-enough = omega (ints, asked .plant .sheet .first-edge, asked .sides .near .at false (bandVar v) (asked .plant .sheet .var) .at-most)
+  low-enough = above-first (asked .plant .sheet) (asked .sides .near)
 
   ends : bandSlot (at-start .args .plant .bands) ≡ bandSlot (bands v)
   ends = ap bandSlot (asked .plant .bands)
@@ -114,16 +113,16 @@ loop-holds at-first =
     let first : FirstBand (v at-start) (lo (B at-start) (bandVar (v at-start))) (at-first .first-band .result) = rw (low-is at-high) at (at-first .first-band .ensures) in
     let neutral-fits : SFits w64 (at-neutral .neutral .result) = search needs in
     record {
-      band = first .band;
-      place = first .place;
-      among = first .among;
+      band = first .from .band;
+      place = first .from .place;
+      among = first .from .among;
       met = first-met first (low-enough at-start) (ordered at-start);
-      cutting = cutting-starts (M at-start) (first .band) (B at-start) (first-starts first (low-enough at-start));
+      cutting = cutting-starts (M at-start) (first .from .band) (B at-start) (first-starts first (low-enough at-start));
       so-far =
           toZ-ofZ neutral-fits
           ∙ (at-neutral .neutral .ensures
           ∙ simp (wide, at-neutral .before .neutral-arg .given)
-          (sym (rw (zero-add (first .band)) at (unmet-stays (M at-start) (B at-start) (at-start .args .up) (at-start .args .i) (cap-low (asked at-start .plant .sheet) (at-start .args .i) (asked at-start .var)) 0 (first .band)
+          (sym (rw (zero-add (first .from .band)) at (unmet-stays (M at-start) (B at-start) (at-start .args .up) (at-start .args .i) (cap-low (asked at-start .plant .sheet) (at-start .args .i) (asked at-start .var)) 0 (first .from .band)
           (λ j h. rw (zero-add j) (unmet-before first j h))))));
     }
 
@@ -162,12 +161,10 @@ module _ (at-loop : tie.At-loop Inv-loop μ-loop) where
     row-asked =
         let wf = asked entry .plant .sheet in
         let o = part-ordered (M entry) wf k (asked entry .sides .ordered) (meets-show (at-loop .loop .inv .met)) in
-        let sized : Sized (vars (v entry)) limit (part (M entry) k (B entry)) =
-        record { near = near-less (omega arith) (near-part o (part-within (M entry) wf k (B entry)) (asked entry .sides .near)); ordered = o } in
         record {
           plant = asked entry .plant;
           var = asked entry .var;
-          sides = rw part-is sized;
+          sides = sized-as part-is (sized-less (omega arith) (sized-part o (part-within (M entry) wf k (B entry)) (asked entry .sides .near)));
           band = k;
           place = at-loop .loop .inv .place;
           among = at-loop .loop .inv .among;
@@ -226,7 +223,7 @@ module _ (at-edge : tie.After-last Inv-loop μ-loop) where
   coded-is = rw edge-is (toZ-ofZ last-fits)
 
   end-is : coded ≡ cutToBand true (M (entry here)) (k here) (hi (B (entry here)) (bandVar (v (entry here))))
-  end-is = coded-is ∙ part-end (M (entry here)) (k here) (B (entry here)) (starts in-turn .0) (starts in-turn .1)
+  end-is = coded-is ∙ sym (high-cut (M (entry here)) (k here) (starts in-turn .0) (starts in-turn .1))
 
   one-more : coded +ℤ pos 1 ≡ e
   one-more = ap (λ (x : ℤ). x +ℤ pos 1) coded-is ∙ omega (ints, sub e (pos 1), plus (e -ℤ pos 1) (pos 1))
@@ -273,7 +270,7 @@ module _ (at-last : tie.Else1 Inv-loop μ-loop) where
 
   -- the upper side that is put back is the part's
   last-is : toZ w64 (ofZ w64 (B (entry last) ! (entry last .args .plant .var + N))) ≡ cutToBand true (M (entry last)) (k last) (hi (B (entry last)) (bandVar (v (entry last))))
-  last-is = high-is (at-high last) ∙ sym (last-end (M (entry last)) (k last) (B (entry last)) none-next)
+  last-is = high-is (at-high last) ∙ sym (high-stays (M (entry last)) (k last) none-next)
 
 row-rate-requires-2 : tie.Need-row-rate-requires-2 Inv-loop μ-loop
 row-rate-requires-2 at-arg κs = row-asked (last (at-arg .before)) (last-is (at-arg .before))
@@ -291,7 +288,7 @@ returns at-row =
           ∙ (rated l (last-is at-last) (at-row .row-rate2 .ensures)
           ∙ sym (rw all at (unmet-stays (M at-start) (B at-start) (at-start .args .up) (at-start .args .i) (cap-low wf (at-start .args .i) (asked at-start .var)) (k l + 1) (bands (v at-start) - (k l + 1))
           (λ j h. unmet-behind wf (k l + 1) j (none-next at-last) (omega arith))))),
-      cutting-ends (M at-start) (k l) (B at-start) (var-is at-start) (room at-start) (part-is l (last-is at-last)) (last-end (M at-start) (k l) (B at-start) (none-next at-last)) (low-is (at-high l)),
+      cutting-ends (M at-start) (k l) (B at-start) (var-is at-start) (room at-start) (part-is l (last-is at-last)) (high-stays (M at-start) (k l) (none-next at-last)) (low-is (at-high l)),
     )
 
 pub rate-spec : {M : Type 1} → statement M
