@@ -13,5 +13,6 @@ pub mod Sound
 pub mod Progress
 pub mod Order
 pub mod Ranges
+pub mod Clamped
 pub mod Examples
 mod Shortcuts

@@ -1,4 +1,5 @@
 pub mod Box
 pub mod Machine
 pub mod Rate
+pub mod Clamped
 pub mod Accepted
