@@ -9,8 +9,8 @@ use mir.Syntax.{w32, w64}
 use mir.Val.{hbits, toZ, ofZ}
 use borrow.Author.Needs.{sfits-of}
 use Rattle.integers.specs.Bound.{Bound}
-use Rattle.integers.specs.Division.{floorDiv}
-use Rattle.integers.proofs.Z.{ints, flat, neg, from32, bound-in}
+use Rattle.integers.specs.Division.{floorDiv, ceilDiv}
+use Rattle.integers.proofs.Z.{ints, flat, neg, from32, bound-in, bound-neg}
 use Rattle.sheet_spec.specs.Valid.{Between}
 
 -- the code's −z
@@ -29,6 +29,10 @@ pub floor-bound : {z : ℤ} {B : ℕ} (q : ℕ) → Bound z B → Bound (floorDi
 unfolding floorDiv
 floor-bound {z = pos n} q h = record { at-most = omega (arith, div-le-self n q, h .at-most) }
 floor-bound {z = negsuc n} q h = record { at-most = omega (arith, div-le-self n q, h .at-most) }
+
+pub ceil-bound : {z : ℤ} {B : ℕ} (q : ℕ) → Bound z B → Bound (ceilDiv z q) B
+unfolding ceilDiv
+ceil-bound q h = bound-neg (floor-bound q (bound-neg h))
 
 -- what lies within a cap goes no further than it
 pub between-bound : {b : ℕ} {c z : ℤ} → Bound c b → Between (negℤ c) c z → Bound z b

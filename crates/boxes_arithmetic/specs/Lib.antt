@@ -1,1 +1,2 @@
+pub mod Outward
 pub mod Limits

@@ -1,9 +1,9 @@
 -- How far the numbers go that the code is given, and what it asks of its caller.
 use Prim.Native.Nat.{ℕ}
-use lib.IntN.{ℤ, pos, negℤ}
-use lib.Signed.{_≤ℤ_}
+use lib.IntN.{ℤ, pos, negℤ, _*ℤ_}
+use lib.Signed.{_<ℤ_}
 use Rattle.integers.specs.Bound.{Bound}
-use Rattle.sheet_spec.specs.Limits.{maxCap}
+use Rattle.sheet_spec.specs.Limits.{maxCap, maxDivisor}
 use Rattle.sheet_spec.specs.Valid.{Between}
 
 -- no side that the code takes is greater, without its sign
@@ -14,13 +14,19 @@ limit = 16777216
 abbrev pub word : ℕ
 word = 2147483648
 
--- x can be divided by q: the negative of x also fits 64 bits, and q is positive
-pub record DivisionAsked (x q : ℤ) : Type 0 where
-  pub dividend : Bound x 9223372036854775807
-  pub positive : pos 1 ≤ℤ q
-  pub divisor : Bound q word
+-- the cap and the divisor q are those of a sheet, and x is strictly between −q·cap and q·cap: the cap does not clamp x / q
+pub record DivisionAsked (cap x q : ℤ) : Type 0 where
+  pub small : Bound cap maxCap
+  pub divisor : Between (pos 1) (pos maxDivisor) q
+  pub above : negℤ (q *ℤ cap) <ℤ x
+  pub below : x <ℤ (q *ℤ cap)
 
 -- z lies from −cap to cap
 pub record Capped (cap z : ℤ) : Type 0 where
   pub small : Bound cap maxCap
   pub between : Between (negℤ cap) cap z
+
+-- a quotient by q can be worked out and clamped, beside the outermost so far, z
+pub record QuotientAsked (cap q z : ℤ) : Type 0 where
+  pub divisor : Between (pos 1) (pos maxDivisor) q
+  pub capped : Capped cap z

@@ -1,15 +1,18 @@
 // The arithmetic of a box's faces: the lesser, the greater and the outer one of two numbers, and signed numbers divided by
-// positive ones, rounded outward and clamped (document 01, "The machine on a sheet"). The definitions are in
+// positive ones, rounded outward and clamped (document 01, "The machine on a sheet"), by comparisons first (document 02, paper 6). The definitions are in
 // integers/specs/Division, machine_spec/specs/Machine and machine_spec/specs/Rate.
 ghost use mathlib.Core.Path.{_≡_};
 ghost use mathlib.Core.Bool.{_&&_};
 ghost use lib.IntN.{natAbs};
 ghost use lib.Signed.{leZ};
+ghost use Rattle.integers.specs.Bound.{Bound};
 ghost use Rattle.integers.specs.Order.{minZ, maxZ};
 ghost use Rattle.integers.specs.Division.{ceilDiv, floorDiv};
+ghost use Rattle.sheet_spec.specs.Limits.{maxCap};
 ghost use Rattle.machine_spec.specs.Machine.{clamp};
 ghost use Rattle.machine_spec.specs.Rate.{outer};
-ghost use Rattle.boxes_arithmetic.specs.Limits.{Capped, DivisionAsked};
+ghost use Rattle.boxes_arithmetic.specs.Limits.{DivisionAsked, QuotientAsked};
+ghost use Rattle.boxes_arithmetic.specs.Outward.{noFurther, outwardDiv};
 
 pub fn min(a: i64, b: i64) -> i64
     ensures { λ r. ⌜ r ≡ minZ a b ⌝ }
@@ -30,39 +33,74 @@ pub fn outer(up: bool, a: i64, b: i64) -> i64
     if up { max(a, b) } else { min(a, b) }
 }
 
-// The quotient, rounded down.
-pub fn floor_div(dividend: i64, divisor: i64) -> i64
-    requires { ⌜ DivisionAsked dividend divisor ⌝ }
+// The quotient, rounded down, of a dividend that the cap does not clamp. By cap times the divisor it is moved to above zero, and there
+// 32 bits hold it.
+pub fn floor_div(cap: i64, dividend: i64, divisor: i64) -> i64
+    requires { ⌜ DivisionAsked cap dividend divisor ⌝ }
     ensures { λ r. ⌜ r ≡ floorDiv dividend (natAbs divisor) ⌝ }
 {
-    let quotient = dividend / divisor;
-    let rest = dividend % divisor;
-    if rest < 0 { quotient - 1 } else { quotient }
+    let moved = dividend + divisor * cap;
+    let quotient = (moved as u32) / (divisor as u32);
+    (quotient as i64) - cap
 }
 
-// The lesser of the outermost so far and of the quotient, rounded down and clamped by the cap. It divides only if the quotient is
-// the answer.
-pub fn lowest(cap: i64, dividend: i64, divisor: i64, outermost: i64) -> i64
-    requires { ⌜ DivisionAsked dividend divisor × Capped cap outermost ⌝ }
-    ensures { λ r. ⌜ r ≡ minZ outermost (clamp cap (floorDiv dividend (natAbs divisor))) ⌝ }
+// The quotient, rounded up, of a dividend that the cap does not clamp: its negative is rounded down.
+pub fn ceil_div(cap: i64, dividend: i64, divisor: i64) -> i64
+    requires { ⌜ DivisionAsked cap dividend divisor ⌝ }
+    ensures { λ r. ⌜ r ≡ ceilDiv dividend (natAbs divisor) ⌝ }
 {
-    if outermost * divisor <= dividend {
-        return outermost;
-    }
-    let low = -cap;
-    if dividend <= low * divisor {
-        low
+    -floor_div(cap, -dividend, divisor)
+}
+
+// Rounded down for a lower face, up for an upper.
+fn outward_div(up: bool, cap: i64, dividend: i64, divisor: i64) -> i64
+    requires { ⌜ DivisionAsked cap dividend divisor ⌝ }
+    ensures { λ r. ⌜ r ≡ outwardDiv up dividend (natAbs divisor) ⌝ }
+{
+    if up {
+        ceil_div(cap, dividend, divisor)
     } else {
-        floor_div(dividend, divisor)
+        floor_div(cap, dividend, divisor)
     }
 }
 
-// The greater of the outermost so far and of the quotient, rounded up and clamped by the cap: `lowest` of the negatives.
-pub fn highest(cap: i64, dividend: i64, divisor: i64, outermost: i64) -> i64
-    requires { ⌜ DivisionAsked dividend divisor × Capped cap outermost ⌝ }
-    ensures { λ r. ⌜ r ≡ maxZ outermost (clamp cap (ceilDiv dividend (natAbs divisor))) ⌝ }
+// x is no further out than z.
+fn no_further(up: bool, z: i64, x: i64) -> bool
+    ensures { λ r. ⌜ r ≡ noFurther up z x ⌝ }
 {
-    -lowest(cap, -dividend, divisor, -outermost)
+    if up { x <= z } else { z <= x }
+}
+
+// The outer one of the outermost so far and of the quotient of a dividend that the cap does not clamp. It divides only if the quotient
+// is the answer.
+fn outer_unclamped(up: bool, cap: i64, dividend: i64, divisor: i64, outermost: i64) -> i64
+    requires { ⌜ DivisionAsked cap dividend divisor × Bound outermost maxCap ⌝ }
+    ensures { λ r. ⌜ r ≡ outer up outermost (outwardDiv up dividend (natAbs divisor)) ⌝ }
+{
+    if no_further(up, outermost * divisor, dividend) {
+        outermost
+    } else {
+        outward_div(up, cap, dividend, divisor)
+    }
+}
+
+// The outer one of the outermost so far and of the quotient, rounded outward and clamped by the cap. Only a dividend strictly between
+// −divisor·cap and divisor·cap is divided: at or beyond them the cap is the answer.
+pub fn outer_quotient(up: bool, cap: i64, dividend: i64, divisor: i64, outermost: i64) -> i64
+    requires { ⌜ QuotientAsked cap divisor outermost ⌝ }
+    ensures { λ r. ⌜ r ≡ outer up outermost (clamp cap (outwardDiv up dividend (natAbs divisor))) ⌝ }
+{
+    let most = divisor * cap;
+    let least = -most;
+    if dividend < most {
+        if least < dividend {
+            outer_unclamped(up, cap, dividend, divisor, outermost)
+        } else {
+            outer(up, outermost, -cap)
+        }
+    } else {
+        outer(up, outermost, cap)
+    }
 }
 
 // Both of two tests.

@@ -6,7 +6,7 @@ use Prim.Native.Nat.{ℕ, _+_, _*_, _≤_, _<_}
 use lib.IntN.{ℤ, pos, negℤ, _*ℤ_}
 use lib.Signed.{ltZ, _≤ℤ_}
 use Rattle.integers.specs.Bound.{Bound}
-use Rattle.sheet_spec.specs.Limits.{maxTicks, maxCap, maxEdge}
+use Rattle.sheet_spec.specs.Limits.{maxTicks, maxCap, maxDivisor, maxEdge}
 use Rattle.sheet_spec.specs.Slots.{N, rowSize, bandSlot, slots, vars, bands, cap, Row, rowAt}
 use Rattle.sheet_spec.specs.Box.{lo, hi}
 use Rattle.sheet_spec.specs.Valid.{Between}
@@ -61,7 +61,7 @@ pub record RowBounded (up : Bool) (n : ℕ) (r : Row) (B : List ℤ) (t x : ℤ)
 -- the allowed change by the row at a slot can be worked out where x is the row's N, beside the outermost so far, z
 pub record ChangeAsked (cap : ℤ) (v : List ℤ) (row : ℕ) (x z : ℤ) : Type 0 where
   pub place : row + rowSize ≤ slots
-  pub divisor : pos 1 ≤ℤ rowAt v row .q
+  pub divisor : Between (pos 1) (pos maxDivisor) (rowAt v row .q)
   pub number : Bound x rowLimit
   pub capped : Capped cap z
 

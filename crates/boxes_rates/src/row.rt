@@ -11,8 +11,7 @@ ghost use Rattle.machine_spec.specs.Machine.{change};
 ghost use Rattle.machine_spec.specs.Rate.{outer, weighted};
 ghost use Rattle.boxes_arithmetic.specs.Limits.{limit, word};
 ghost use Rattle.boxes_rates.specs.Limits.{ChangeAsked, RowAsked, RowBounded, TermAsked, outerPlace, termLimit};
-use boxes_arithmetic::highest;
-use boxes_arithmetic::lowest;
+use boxes_arithmetic::outer_quotient;
 use sheet_spec::slots::BOX_SIZE;
 use sheet_spec::slots::N;
 use sheet_spec::slots::ROW_C;
@@ -100,8 +99,8 @@ pub fn further(
     let spread = sheet[spread_slot] as i64;
     let divisor = sheet[divisor_slot] as i64;
     if up {
-        highest(cap, number + spread, divisor, outermost)
+        outer_quotient(up, cap, number + spread, divisor, outermost)
     } else {
-        lowest(cap, number - spread, divisor, outermost)
+        outer_quotient(up, cap, number - spread, divisor, outermost)
     }
 }

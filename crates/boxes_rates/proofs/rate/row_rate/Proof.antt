@@ -6,12 +6,13 @@ use mathlib.Core.List.{List}
 use Prim.Native.Nat.{ℕ, _+_, _*_, _≤_}
 use native.Mathlib.Omega.{arith}
 use lib.IntN.{ℤ, pos}
-use lib.Signed.{_≤ℤ_}
 use mir.Facts.{toZ-ofZ}
 use mir.Syntax.{w64}
 use mir.Val.{SFits}
 use borrow.Author.Needs.{needs}
 use Rattle.integers.proofs.Z.{up32, fits64}
+use Rattle.sheet_spec.specs.Limits.{maxDivisor}
+use Rattle.sheet_spec.specs.Valid.{Between}
 use Rattle.sheet_spec.specs.Slots.{firstRow, rowSize, bandSlot, slots, vars, cap, Row, rowAt}
 use Rattle.machine_spec.specs.Box.{Sized}
 use Rattle.machine_spec.specs.Machine.{Machine, machine, rowOf, change}
@@ -59,7 +60,7 @@ further-requires at-cap κs =
     let near = at-bound .bound .ensures .near in
     record {
       place = place at-start;
-      divisor = subst (λ (r : Row). pos 1 ≤ℤ r .q) (sym (row-is at-start (band .band) (band .place))) (band .plant .sheet .rows (band .band) (at-start .args .i) (band .among) (band .var) .q .low);
+      divisor = subst (λ (r : Row). Between (pos 1) (pos maxDivisor) (r .q)) (sym (row-is at-start (band .band) (band .place))) (band .plant .sheet .rows (band .band) (at-start .args .i) (band .among) (band .var) .q);
       number = rw (toZ-ofZ (fits64 near tt)) near;
       capped = simp (wide, at-cap .further-arg .given, toZ-ofZ, at-start .fits .outermost) (record { small = cap-near (band .plant .sheet) (at-start .args .i) (band .var); between = band .between });
     }

@@ -3,19 +3,17 @@
 use mathlib.Core.Path.{_≡_, _∙_}
 use mathlib.Core.List.{List}
 use Prim.Native.Nat.{_+_}
-use lib.Dec.{lit≤}
 use lib.IntN.{ℤ, _+ℤ_, _-ℤ_}
 use mir.Facts.{toZ-ofZ}
 use mir.Syntax.{w32, w64}
 use mir.Val.{SFits, toZ, ofZ}
 use borrow.Author.Needs.{needs}
 use Rattle.integers.specs.Bound.{Bound}
-use Rattle.integers.proofs.Z.{up32, bound-sum, bound-sub, bound-less, fits64}
+use Rattle.integers.proofs.Z.{up32, bound-sum, bound-sub, fits64}
 use Rattle.sheet_spec.specs.Slots.{_!_, N, Row, rowAt}
 use Rattle.machine_spec.specs.Machine.{change}
-use Rattle.machine_spec.specs.Rate.{outer}
-use Rattle.boxes_arithmetic.specs.Limits.{DivisionAsked, word}
-use Rattle.boxes_rates.specs.Limits.{rowLimit}
+use Rattle.boxes_arithmetic.specs.Limits.{QuotientAsked, word}
+use Rattle.boxes_arithmetic.specs.Outward.{outwardDiv}
 use Rattle.boxes_rates.proofs.RowNumbers.{row-read, row-bound}
 use Rattle.boxes_rates.proofs.row.further.Statement.{statement}
 use Rattle.boxes_rates.proofs.row.further.Tie as tie
@@ -46,72 +44,60 @@ module _ (at-divisor : tie.After-divisor) where
   spread-bound : Bound (row .d) word
   spread-bound = row-bound v (at-start .args .row) 2 (at-spread .spread .given)
 
-  division : {x : ℤ} → Bound x (rowLimit + word) → DivisionAsked x (row .q)
-  division near = record {
-    dividend = bound-less near (lit≤ tt);
-    positive = at-start .pre .divisor;
-    divisor = row-bound v (at-start .args .row) 3 (at-divisor .divisor .given);
-  }
-
-  above : DivisionAsked (number +ℤ row .d) (row .q)
-  above = division (bound-sum (at-start .pre .number) spread-bound)
-
-  below : DivisionAsked (number -ℤ row .d) (row .q)
-  below = division (bound-sub (at-start .pre .number) spread-bound)
+  quotient-asked : QuotientAsked (at-start .args .cap) (row .q) (at-start .args .outermost)
+  quotient-asked = record { divisor = at-start .pre .divisor; capped = at-start .pre .capped }
 
   above-fits : SFits w64 (number +ℤ row .d)
-  above-fits = fits64 (above .dividend) tt
+  above-fits = fits64 (bound-sum (at-start .pre .number) spread-bound) tt
 
   below-fits : SFits w64 (number -ℤ row .d)
-  below-fits = fits64 (below .dividend) tt
+  below-fits = fits64 (bound-sub (at-start .pre .number) spread-bound) tt
 
-add-highest : tie.Need-add-highest
-add-highest upper =
+add-outer-quotient : tie.Need-add-outer-quotient
+add-outer-quotient upper =
     let at-divisor = upper .before in
     simp (toZ-ofZ, at-start at-divisor .fits .number, spread-is at-divisor) (above-fits at-divisor)
 
-highest-requires : tie.Need-highest-requires
-highest-requires upper κs =
+outer-quotient-requires : tie.Need-outer-quotient-requires
+outer-quotient-requires upper κs =
     let at-divisor = upper .before in
     let fits = at-start at-divisor .fits in
-    simp (toZ-ofZ, fits .number, spread-is at-divisor, divisor-is at-divisor, above-fits at-divisor, fits .outermost, fits .cap)
-    (above at-divisor, at-start at-divisor .pre .capped)
+    simp (toZ-ofZ, fits .cap, divisor-is at-divisor, fits .outermost) (quotient-asked at-divisor)
 
-sub-lowest : tie.Need-sub-lowest
-sub-lowest lower =
+sub-outer-quotient : tie.Need-sub-outer-quotient
+sub-outer-quotient lower =
     let at-divisor = lower .before in
     simp (toZ-ofZ, at-start at-divisor .fits .number, spread-is at-divisor) (below-fits at-divisor)
 
-lowest-requires : tie.Need-lowest-requires
-lowest-requires lower κs =
+outer-quotient-requires-2 : tie.Need-outer-quotient-requires-2
+outer-quotient-requires-2 lower κs =
     let at-divisor = lower .before in
     let fits = at-start at-divisor .fits in
-    simp (toZ-ofZ, fits .number, spread-is at-divisor, divisor-is at-divisor, below-fits at-divisor, fits .outermost, fits .cap)
-    (below at-divisor, at-start at-divisor .pre .capped)
+    simp (toZ-ofZ, fits .cap, divisor-is at-divisor, fits .outermost) (quotient-asked at-divisor)
 
 -- an upper face
 returns : tie.Need-returns
-unfolding outer change
-returns at-highest =
-    let upper = at-highest .before in
+unfolding change outwardDiv
+returns at-outer =
+    let upper = at-outer .before in
     let at-divisor = upper .before in
     let fits = at-start at-divisor .fits in
-    let highest-fits : SFits w64 (at-highest .highest .result) = search needs in
-    rw (upper .if1 .taken)
-    (toZ-ofZ highest-fits
-    ∙ (at-highest .highest .ensures ∙ simp (toZ-ofZ, fits .cap, fits .outermost, fits .number, spread-is at-divisor, divisor-is at-divisor, above-fits at-divisor)))
+    let answer-fits : SFits w64 (at-outer .outer-quotient .result) = search needs in
+    toZ-ofZ answer-fits
+    ∙ (at-outer .outer-quotient .ensures
+    ∙ rw (upper .if1 .taken) (simp (toZ-ofZ, fits .cap, fits .outermost, fits .number, spread-is at-divisor, divisor-is at-divisor, above-fits at-divisor)))
 
 -- a lower face
 returns-2 : tie.Need-returns-2
-unfolding outer change
-returns-2 at-lowest =
-    let lower = at-lowest .before in
+unfolding change outwardDiv
+returns-2 at-outer =
+    let lower = at-outer .before in
     let at-divisor = lower .before in
     let fits = at-start at-divisor .fits in
-    let lowest-fits : SFits w64 (at-lowest .lowest .result) = search needs in
-    rw (lower .if1 .left)
-    (toZ-ofZ lowest-fits
-    ∙ (at-lowest .lowest .ensures ∙ simp (toZ-ofZ, fits .cap, fits .outermost, fits .number, spread-is at-divisor, divisor-is at-divisor, below-fits at-divisor)))
+    let answer-fits : SFits w64 (at-outer .outer-quotient2 .result) = search needs in
+    toZ-ofZ answer-fits
+    ∙ (at-outer .outer-quotient2 .ensures
+    ∙ rw (lower .if1 .left) (simp (toZ-ofZ, fits .cap, fits .outermost, fits .number, spread-is at-divisor, divisor-is at-divisor, below-fits at-divisor)))
 
 pub further-spec : {M : Type 1} → statement M
 further-spec =
@@ -125,9 +111,9 @@ further-spec =
     (λ c. search needs)
     (λ c. search needs)
     (λ c. search (needs, up32))
-    add-highest
-    highest-requires
-    sub-lowest
-    lowest-requires
+    add-outer-quotient
+    outer-quotient-requires
+    sub-outer-quotient
+    outer-quotient-requires-2
     returns
     returns-2)
