@@ -1,6 +1,7 @@
 // The arithmetic of a box's faces: the lesser, the greater and the outer one of two numbers, and signed numbers divided by
-// positive ones, rounded outward and clamped (document 01, "The machine on a sheet"), by comparisons first (document 02, paper 6). The definitions are in
-// integers/specs/Division, machine_spec/specs/Machine and machine_spec/specs/Rate.
+// positive ones, rounded outward and clamped (document 01, "The machine on a sheet"; document 02, paper 6: compared first, and divided
+// only where the cap does not clamp). The definitions are in integers/specs/Division, machine_spec/specs/Machine and
+// machine_spec/specs/Rate, the law that makes comparisons of the clamp in machine_spec/specs/Clamped.
 ghost use mathlib.Core.Path.{_≡_};
 ghost use mathlib.Core.Bool.{_&&_};
 ghost use lib.IntN.{natAbs};
@@ -33,8 +34,8 @@ pub fn outer(up: bool, a: i64, b: i64) -> i64
     if up { max(a, b) } else { min(a, b) }
 }
 
-// The quotient, rounded down, of a dividend that the cap does not clamp. By cap times the divisor it is moved to above zero, and there
-// 32 bits hold it.
+// The quotient, rounded down, of a dividend strictly between −divisor·cap and divisor·cap. Moved up by divisor·cap it is above zero, so
+// nothing negative is divided, and 32 bits hold it.
 pub fn floor_div(cap: i64, dividend: i64, divisor: i64) -> i64
     requires { ⌜ DivisionAsked cap dividend divisor ⌝ }
     ensures { λ r. ⌜ r ≡ floorDiv dividend (natAbs divisor) ⌝ }
@@ -44,7 +45,7 @@ pub fn floor_div(cap: i64, dividend: i64, divisor: i64) -> i64
     (quotient as i64) - cap
 }
 
-// The quotient, rounded up, of a dividend that the cap does not clamp: its negative is rounded down.
+// The quotient, rounded up, of a dividend strictly between −divisor·cap and divisor·cap: its negative is rounded down.
 pub fn ceil_div(cap: i64, dividend: i64, divisor: i64) -> i64
     requires { ⌜ DivisionAsked cap dividend divisor ⌝ }
     ensures { λ r. ⌜ r ≡ ceilDiv dividend (natAbs divisor) ⌝ }
@@ -71,8 +72,7 @@ fn no_further(up: bool, z: i64, x: i64) -> bool
     if up { x <= z } else { z <= x }
 }
 
-// The outer one of the outermost so far and of the quotient of a dividend that the cap does not clamp. It divides only if the quotient
-// is the answer.
+// The outer one of the outermost so far and of the quotient of such a dividend. It divides only if the quotient is the answer.
 fn outer_unclamped(up: bool, cap: i64, dividend: i64, divisor: i64, outermost: i64) -> i64
     requires { ⌜ DivisionAsked cap dividend divisor × Bound outermost maxCap ⌝ }
     ensures { λ r. ⌜ r ≡ outer up outermost (outwardDiv up dividend (natAbs divisor)) ⌝ }
