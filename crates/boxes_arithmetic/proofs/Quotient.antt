@@ -10,16 +10,16 @@ use lib.Signed.{nonNeg, yes-nonNeg, _≤ℤ_, _<ℤ_}
 use mir.Syntax.{w32}
 use mir.Val.{Fits}
 use Rattle.integers.specs.Bound.{Bound}
-use Rattle.integers.specs.Division.{floorDiv}
-use Rattle.integers.proofs.Z.{ints, flat, le-true, le-false, neg, min-is, max-is, bound-in, bound-mul}
+use Rattle.integers.specs.Order.{minZ, maxZ}
+use Rattle.integers.specs.Division.{floorDiv, ceilDiv}
+use Rattle.integers.proofs.Z.{ints, flat, le-true, le-false, neg, mul-mono, mul-neg, min-is, max-is, bound-in, bound-mul}
 use Rattle.integers.proofs.Rounding.{Close, floor-moved, floor-close, ceil-close, close-most, close-least}
 use Rattle.sheet_spec.specs.Limits.{maxCap, maxDivisor}
 use Rattle.sheet_spec.specs.Valid.{Between}
 use Rattle.machine_spec.specs.Machine.{clamp}
 use Rattle.machine_spec.specs.Rate.{outer}
-use Rattle.machine_spec.specs.Clamped.{ByComparison}
-use Rattle.machine_spec.proofs.Clamped.{by-comparison}
-use Rattle.boxes_arithmetic.specs.Limits.{DivisionAsked}
+use Rattle.machine_spec.proofs.Clamped.{clamped-by-comparison}
+use Rattle.boxes_arithmetic.specs.Limits.{CapAsked, Capped, DivisionAsked}
 use Rattle.boxes_arithmetic.specs.Outward.{noFurther, outwardDiv}
 
 -- ---- what 32 bits hold without a sign
@@ -28,11 +28,15 @@ use Rattle.boxes_arithmetic.specs.Outward.{noFurther, outwardDiv}
 abbrev pub mostLimit : ℕ
 mostLimit = maxDivisor * maxCap
 
-pub divisor-bound : {q : ℤ} → Between (pos 1) (pos maxDivisor) q → Bound q maxDivisor
-divisor-bound h = bound-in (omega (ints, h .low, neg (pos maxDivisor))) (h .high)
+module _ {cap q : ℤ} (asked : CapAsked cap q) where
+  pub cap-bound : Bound cap maxCap
+  cap-bound = bound-in (omega (ints, asked .room .low, neg (pos maxCap))) (asked .room .high)
 
-pub most-bound : {cap q : ℤ} → Between (pos 1) (pos maxDivisor) q → Bound cap maxCap → Bound (q *ℤ cap) mostLimit
-most-bound h k = bound-mul (divisor-bound h) k
+  pub divisor-bound : Bound q maxDivisor
+  divisor-bound = bound-in (omega (ints, asked .divisor .low, neg (pos maxDivisor))) (asked .divisor .high)
+
+  pub most-bound : Bound (q *ℤ cap) mostLimit
+  most-bound = bound-mul divisor-bound cap-bound
 
 pub unsigned : (z : ℤ) → pos 0 ≤ℤ z → Bound z (mostLimit + mostLimit) → T (nonNeg z) × Fits w32 (natAbs z)
 unsigned (pos n) h k = (yes-nonNeg h, record { fits = omega (arith, k .at-most) })
@@ -51,7 +55,7 @@ quotient-bound {z = negsuc n} q h = record { at-most = omega (arith, div-le-self
 module _ {cap x q : ℤ} (asked : DivisionAsked cap x q) where
   pub dividend-bound : Bound x mostLimit
   dividend-bound =
-      let most = most-bound (asked .divisor) (asked .small) in
+      let most = most-bound (asked .sheet) in
       bound-in (omega (ints, asked .above, most .at-most, neg (q *ℤ cap), neg (pos mostLimit))) (omega (ints, asked .below, most .at-most))
 
   pub moved-low : pos 0 ≤ℤ (x +ℤ q *ℤ cap)
@@ -60,8 +64,7 @@ module _ {cap x q : ℤ} (asked : DivisionAsked cap x q) where
   -- the negative of x
   pub negative : DivisionAsked cap (negℤ x) q
   negative = record {
-    small = asked .small;
-    divisor = asked .divisor;
+    sheet = asked .sheet;
     above = omega (ints, asked .below, neg x, neg (q *ℤ cap));
     below = omega (ints, asked .above, neg x, neg (q *ℤ cap));
   }
@@ -76,7 +79,7 @@ pub moved-back : (cap x q : ℤ) → pos 1 ≤ℤ q → pos 0 ≤ℤ (x +ℤ q *
 moved-back cap x (negsuc b) h k = absurd (h .le)
 moved-back cap x (pos b) h k = rw (floored (x +ℤ pos b *ℤ cap) b k) (sym (floor-moved x cap b (omega ints)))
 
--- ---- the outer one of z and of a quotient
+-- ---- quotients of either face
 
 outward-close : (up : Bool) (x : ℤ) (q : ℕ) → 0 < q → Close x q (outwardDiv up x q)
 unfolding outwardDiv
@@ -84,48 +87,72 @@ outward-close false x q h = floor-close x q h
 outward-close true x q h = ceil-close x q h
 
 -- z·q is q·z
-turned : (z : ℤ) (q : ℕ) → z *ℤ pos q ≡ pos q *ℤ z
+turned : (z q : ℤ) → z *ℤ q ≡ q *ℤ z
 turned z q = simp flat (omega ints)
 
+-- ---- z, the outermost so far, lies within the cap: what z·q says of ±q·cap
+
+module _ {cap z : ℤ} (capped : Capped cap z) where
+  pub cap-asked : {q : ℤ} → Between (pos 1) (pos maxDivisor) q → CapAsked cap q
+  cap-asked divisor = record {
+    room = record { low = omega (ints, capped .between .low, capped .between .high, neg cap); high = omega (ints, capped .small .at-most) };
+    divisor = divisor;
+  }
+
+  pub below-most : (x q : ℤ) → pos 1 ≤ℤ q → x <ℤ (z *ℤ q) → x <ℤ (q *ℤ cap)
+  below-most x q one h = let far = mul-mono q z cap (omega (ints, one)) (capped .between .high) in omega (ints, turned z q)
+
+  pub above-least : (x q : ℤ) → pos 1 ≤ℤ q → (z *ℤ q) <ℤ x → negℤ (q *ℤ cap) <ℤ x
+  above-least x q one h =
+      let far = mul-mono q (negℤ cap) z (omega (ints, one)) (capped .between .low) in
+      omega (ints, far, mul-neg q cap, turned z q)
+
+-- ---- the outer one of z and of the clamped quotient
+
 -- it is z where x is no further out than z·q
-pub outer-stays : (up : Bool) (z x q : ℤ) → pos 1 ≤ℤ q → noFurther up (z *ℤ q) x ≡ true → z ≡ outer up z (outwardDiv up x (natAbs q))
-unfolding outer noFurther
-outer-stays up z x (negsuc b) one h = absurd (one .le)
-outer-stays false z x (pos b) one h =
+pub outer-stays : (up : Bool) (cap z x q : ℤ) → Capped cap z → pos 1 ≤ℤ q → noFurther up (z *ℤ q) x ≡ true → z ≡ outer up z (clamp cap (outwardDiv up x (natAbs q)))
+unfolding outer noFurther clamp
+outer-stays up cap z x (negsuc b) capped one h = absurd (one .le)
+outer-stays false cap z x (pos b) capped one h =
     let y = outwardDiv false x b in
-    let inner = close-least (omega ints) (outward-close false x b (omega ints)) z (omega (ints, le-true (z *ℤ pos b) x h, turned z b)) in
-    omega (ints, min-is z y)
-outer-stays true z x (pos b) one h =
+    let inner = close-least (omega ints) (outward-close false x b (omega ints)) z (omega (ints, le-true (z *ℤ pos b) x h, turned z (pos b))) in
+    omega (ints, capped .between .low, capped .between .high, min-is z (maxZ (negℤ cap) (minZ y cap)), max-is (negℤ cap) (minZ y cap), min-is y cap)
+outer-stays true cap z x (pos b) capped one h =
     let y = outwardDiv true x b in
-    let inner = close-most (omega ints) (outward-close true x b (omega ints)) z (omega (ints, le-true x (z *ℤ pos b) h, turned z b)) in
-    omega (ints, max-is z y)
+    let inner = close-most (omega ints) (outward-close true x b (omega ints)) z (omega (ints, le-true x (z *ℤ pos b) h, turned z (pos b))) in
+    omega (ints, capped .between .low, capped .between .high, max-is z (maxZ (negℤ cap) (minZ y cap)), max-is (negℤ cap) (minZ y cap), min-is y cap)
 
--- elsewhere it is the quotient
-pub outer-moves : (up : Bool) (z x q : ℤ) → pos 1 ≤ℤ q → noFurther up (z *ℤ q) x ≡ false → outwardDiv up x (natAbs q) ≡ outer up z (outwardDiv up x (natAbs q))
-unfolding outer noFurther
-outer-moves up z x (negsuc b) one h = absurd (one .le)
-outer-moves false z x (pos b) one h =
+-- elsewhere it is the clamped quotient
+pub outer-moves : (up : Bool) (cap z x q : ℤ) → Capped cap z → pos 1 ≤ℤ q → noFurther up (z *ℤ q) x ≡ false → clamp cap (outwardDiv up x (natAbs q)) ≡ outer up z (clamp cap (outwardDiv up x (natAbs q)))
+unfolding outer noFurther clamp
+outer-moves up cap z x (negsuc b) capped one h = absurd (one .le)
+outer-moves false cap z x (pos b) capped one h =
     let y = outwardDiv false x b in
-    let further = close-most (omega ints) (outward-close false x b (omega ints)) z (omega (ints, le-false (z *ℤ pos b) x h, turned z b)) in
-    omega (ints, min-is z y)
-outer-moves true z x (pos b) one h =
+    let further = close-most (omega ints) (outward-close false x b (omega ints)) z (omega (ints, le-false (z *ℤ pos b) x h, turned z (pos b))) in
+    omega (ints, capped .between .low, capped .between .high, min-is z (maxZ (negℤ cap) (minZ y cap)), max-is (negℤ cap) (minZ y cap), min-is y cap)
+outer-moves true cap z x (pos b) capped one h =
     let y = outwardDiv true x b in
-    let further = close-least (omega ints) (outward-close true x b (omega ints)) z (omega (ints, le-false x (z *ℤ pos b) h, turned z b)) in
-    omega (ints, max-is z y)
+    let further = close-least (omega ints) (outward-close true x b (omega ints)) z (omega (ints, le-false x (z *ℤ pos b) h, turned z (pos b))) in
+    omega (ints, capped .between .low, capped .between .high, max-is z (maxZ (negℤ cap) (minZ y cap)), max-is (negℤ cap) (minZ y cap), min-is y cap)
 
--- ---- the clamp by comparisons, for either face
+-- ---- the clamp by comparisons, with the code's divisor
 
-outward-by-comparison : (up : Bool) (cap x : ℤ) (q : ℕ) → pos 0 ≤ℤ cap → 0 < q → ByComparison cap x q (outwardDiv up x q)
-outward-by-comparison up cap x q room positive = by-comparison cap x (outwardDiv up x q) q room positive (outward-close up x q positive)
+pub floor-clamped : (cap x q : ℤ) → CapAsked cap q → x ≤ℤ negℤ (q *ℤ cap) → clamp cap (floorDiv x (natAbs q)) ≡ negℤ cap
+floor-clamped cap x (negsuc b) asked h = absurd (asked .divisor .low .le)
+floor-clamped cap x (pos b) asked h = clamped-by-comparison cap x b (asked .room .low) (positive-size (pos b) (asked .divisor .low)) .0 .low h
 
-pub clamped-low : (up : Bool) (cap x q : ℤ) → pos 0 ≤ℤ cap → pos 1 ≤ℤ q → x ≤ℤ negℤ (q *ℤ cap) → clamp cap (outwardDiv up x (natAbs q)) ≡ negℤ cap
-clamped-low up cap x (negsuc b) room one h = absurd (one .le)
-clamped-low up cap x (pos b) room one h = outward-by-comparison up cap x b room (omega ints) .low h
+pub ceil-clamped : (cap x q : ℤ) → CapAsked cap q → (q *ℤ cap) ≤ℤ x → clamp cap (ceilDiv x (natAbs q)) ≡ cap
+ceil-clamped cap x (negsuc b) asked h = absurd (asked .divisor .low .le)
+ceil-clamped cap x (pos b) asked h = clamped-by-comparison cap x b (asked .room .low) (positive-size (pos b) (asked .divisor .low)) .1 .high h
 
-pub clamped-high : (up : Bool) (cap x q : ℤ) → pos 0 ≤ℤ cap → pos 1 ≤ℤ q → (q *ℤ cap) ≤ℤ x → clamp cap (outwardDiv up x (natAbs q)) ≡ cap
-clamped-high up cap x (negsuc b) room one h = absurd (one .le)
-clamped-high up cap x (pos b) room one h = outward-by-comparison up cap x b room (omega ints) .high h
+pub floor-unclamped : {cap x : ℤ} (q : ℤ) → DivisionAsked cap x q → clamp cap (floorDiv x (natAbs q)) ≡ floorDiv x (natAbs q)
+floor-unclamped (negsuc b) asked = absurd (asked .sheet .divisor .low .le)
+floor-unclamped {cap} {x} (pos b) asked =
+    let sheet = asked .sheet in
+    clamped-by-comparison cap x b (sheet .room .low) (positive-size (pos b) (sheet .divisor .low)) .0 .between (asked .above) (asked .below)
 
-pub not-clamped : (up : Bool) (cap x q : ℤ) → pos 0 ≤ℤ cap → pos 1 ≤ℤ q → negℤ (q *ℤ cap) <ℤ x → x <ℤ (q *ℤ cap) → clamp cap (outwardDiv up x (natAbs q)) ≡ outwardDiv up x (natAbs q)
-not-clamped up cap x (negsuc b) room one h k = absurd (one .le)
-not-clamped up cap x (pos b) room one h k = outward-by-comparison up cap x b room (omega ints) .between h k
+pub ceil-unclamped : {cap x : ℤ} (q : ℤ) → DivisionAsked cap x q → clamp cap (ceilDiv x (natAbs q)) ≡ ceilDiv x (natAbs q)
+ceil-unclamped (negsuc b) asked = absurd (asked .sheet .divisor .low .le)
+ceil-unclamped {cap} {x} (pos b) asked =
+    let sheet = asked .sheet in
+    clamped-by-comparison cap x b (sheet .room .low) (positive-size (pos b) (sheet .divisor .low)) .1 .between (asked .above) (asked .below)

@@ -14,10 +14,14 @@ limit = 16777216
 abbrev pub word : ℕ
 word = 2147483648
 
--- the cap and the divisor q are those of a sheet, and x is strictly between −q·cap and q·cap: the cap does not clamp x / q
-pub record DivisionAsked (cap x q : ℤ) : Type 0 where
-  pub small : Bound cap maxCap
+-- the cap and the divisor q are those of a sheet
+pub record CapAsked (cap q : ℤ) : Type 0 where
+  pub room : Between (pos 0) (pos maxCap) cap
   pub divisor : Between (pos 1) (pos maxDivisor) q
+
+-- and x is strictly between −q·cap and q·cap: the cap does not clamp x / q
+pub record DivisionAsked (cap x q : ℤ) : Type 0 where
+  pub sheet : CapAsked cap q
   pub above : negℤ (q *ℤ cap) <ℤ x
   pub below : x <ℤ (q *ℤ cap)
 

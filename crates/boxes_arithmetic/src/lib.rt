@@ -4,15 +4,13 @@
 // machine_spec/specs/Rate, the law that makes comparisons of the clamp in machine_spec/specs/Clamped.
 ghost use mathlib.Core.Path.{_≡_};
 ghost use mathlib.Core.Bool.{_&&_};
-ghost use lib.IntN.{natAbs};
-ghost use lib.Signed.{leZ};
-ghost use Rattle.integers.specs.Bound.{Bound};
+ghost use lib.IntN.{natAbs, negℤ, _*ℤ_};
+ghost use lib.Signed.{leZ, _<ℤ_};
 ghost use Rattle.integers.specs.Order.{minZ, maxZ};
 ghost use Rattle.integers.specs.Division.{ceilDiv, floorDiv};
-ghost use Rattle.sheet_spec.specs.Limits.{maxCap};
 ghost use Rattle.machine_spec.specs.Machine.{clamp};
 ghost use Rattle.machine_spec.specs.Rate.{outer};
-ghost use Rattle.boxes_arithmetic.specs.Limits.{DivisionAsked, QuotientAsked};
+ghost use Rattle.boxes_arithmetic.specs.Limits.{CapAsked, DivisionAsked, QuotientAsked};
 ghost use Rattle.boxes_arithmetic.specs.Outward.{noFurther, outwardDiv};
 
 pub fn min(a: i64, b: i64) -> i64
@@ -53,15 +51,29 @@ pub fn ceil_div(cap: i64, dividend: i64, divisor: i64) -> i64
     -floor_div(cap, -dividend, divisor)
 }
 
-// Rounded down for a lower face, up for an upper.
-fn outward_div(up: bool, cap: i64, dividend: i64, divisor: i64) -> i64
-    requires { ⌜ DivisionAsked cap dividend divisor ⌝ }
-    ensures { λ r. ⌜ r ≡ outwardDiv up dividend (natAbs divisor) ⌝ }
+// The quotient, rounded down and clamped, of a dividend below divisor·cap.
+fn clamped_floor(cap: i64, dividend: i64, divisor: i64) -> i64
+    requires { ⌜ CapAsked cap divisor × (dividend <ℤ (divisor *ℤ cap)) ⌝ }
+    ensures { λ r. ⌜ r ≡ clamp cap (floorDiv dividend (natAbs divisor)) ⌝ }
 {
-    if up {
+    let least = -(divisor * cap);
+    if least < dividend {
+        floor_div(cap, dividend, divisor)
+    } else {
+        -cap
+    }
+}
+
+// The quotient, rounded up and clamped, of a dividend above −divisor·cap.
+fn clamped_ceil(cap: i64, dividend: i64, divisor: i64) -> i64
+    requires { ⌜ CapAsked cap divisor × (negℤ (divisor *ℤ cap) <ℤ dividend) ⌝ }
+    ensures { λ r. ⌜ r ≡ clamp cap (ceilDiv dividend (natAbs divisor)) ⌝ }
+{
+    let most = divisor * cap;
+    if dividend < most {
         ceil_div(cap, dividend, divisor)
     } else {
-        floor_div(cap, dividend, divisor)
+        cap
     }
 }
 
@@ -72,34 +84,20 @@ fn no_further(up: bool, z: i64, x: i64) -> bool
     if up { x <= z } else { z <= x }
 }
 
-// The outer one of the outermost so far and of the quotient of such a dividend. It divides only if the quotient is the answer.
-fn outer_unclamped(up: bool, cap: i64, dividend: i64, divisor: i64, outermost: i64) -> i64
-    requires { ⌜ DivisionAsked cap dividend divisor × Bound outermost maxCap ⌝ }
-    ensures { λ r. ⌜ r ≡ outer up outermost (outwardDiv up dividend (natAbs divisor)) ⌝ }
-{
-    if no_further(up, outermost * divisor, dividend) {
-        outermost
-    } else {
-        outward_div(up, cap, dividend, divisor)
-    }
-}
-
-// The outer one of the outermost so far and of the quotient, rounded outward and clamped by the cap. Only a dividend strictly between
-// −divisor·cap and divisor·cap is divided: at or beyond them the cap is the answer.
+// The outer one of the outermost so far and of the quotient, rounded outward and clamped by the cap. A dividend is divided only if it is
+// strictly between −divisor·cap and divisor·cap, and its quotient further out than the outermost so far.
 pub fn outer_quotient(up: bool, cap: i64, dividend: i64, divisor: i64, outermost: i64) -> i64
     requires { ⌜ QuotientAsked cap divisor outermost ⌝ }
     ensures { λ r. ⌜ r ≡ outer up outermost (clamp cap (outwardDiv up dividend (natAbs divisor))) ⌝ }
 {
-    let most = divisor * cap;
-    let least = -most;
-    if dividend < most {
-        if least < dividend {
-            outer_unclamped(up, cap, dividend, divisor, outermost)
-        } else {
-            outer(up, outermost, -cap)
-        }
+    if no_further(up, outermost * divisor, dividend) {
+        return outermost;
+    }
+    // The outermost so far lies within the cap. So the dividend is also beyond the cap that does not clamp this face.
+    if up {
+        clamped_ceil(cap, dividend, divisor)
     } else {
-        outer(up, outermost, cap)
+        clamped_floor(cap, dividend, divisor)
     }
 }
 

@@ -11,7 +11,7 @@ use lib.IntN.{ℤ, pos, natAbs, _+ℤ_, _-ℤ_, _*ℤ_}
 use Rattle.integers.specs.Bound.{Bound}
 use Rattle.integers.proofs.Z.{ints, flat, bound-sum, bound-sub, bound-less, fits64}
 use Rattle.boxes_arithmetic.specs.Limits.{DivisionAsked}
-use Rattle.boxes_arithmetic.proofs.Quotient.{mostLimit, unsigned, positive-size, quotient-bound, most-bound, dividend-bound, divisor-bound, moved-low, moved-back}
+use Rattle.boxes_arithmetic.proofs.Quotient.{mostLimit, cap-bound, unsigned, positive-size, quotient-bound, most-bound, dividend-bound, divisor-bound, moved-low, moved-back}
 use Rattle.boxes_arithmetic.proofs.floor_div.Statement.{statement}
 use Rattle.boxes_arithmetic.proofs.floor_div.Tie as tie
 
@@ -33,10 +33,10 @@ module _ (at-start : tie.Start) where
   asked = at-start .pre
 
   most-fits : SFits w64 (q *ℤ cap)
-  most-fits = fits64 (most-bound (asked .divisor) (asked .small)) tt
+  most-fits = fits64 (most-bound (asked .sheet)) tt
 
   moved-bound : Bound moved (mostLimit + mostLimit)
-  moved-bound = bound-sum (dividend-bound asked) (most-bound (asked .divisor) (asked .small))
+  moved-bound = bound-sum (dividend-bound asked) (most-bound (asked .sheet))
 
   moved-fits : SFits w64 moved
   moved-fits = fits64 moved-bound tt
@@ -64,11 +64,11 @@ cast-quotient at-start =
 
 cast-quotient-2 : tie.Need-cast-quotient-2
 cast-quotient-2 at-start =
-    let positive = asked at-start .divisor .low in
-    simp (toZ-ofZ, at-start .fits .divisor) (unsigned (q at-start) (omega (ints, positive)) (bound-less (divisor-bound (asked at-start .divisor)) (lit≤ tt)))
+    let positive = asked at-start .sheet .divisor .low in
+    simp (toZ-ofZ, at-start .fits .divisor) (unsigned (q at-start) (omega (ints, positive)) (bound-less (divisor-bound (asked at-start .sheet)) (lit≤ tt)))
 
 div-quotient : tie.Need-div-quotient
-div-quotient at-start = simp (toZ-ofZ, at-start .fits .divisor) (positive-size (q at-start) (asked at-start .divisor .low))
+div-quotient at-start = simp (toZ-ofZ, at-start .fits .divisor) (positive-size (q at-start) (asked at-start .sheet .divisor .low))
 
 cast-result : tie.Need-cast-result
 cast-result at-start =
@@ -80,14 +80,14 @@ sub-result : tie.Need-sub-result
 sub-result at-start =
     let fits = at-start .fits in
     simp (toZ-ofZ, fits .dividend, fits .divisor, fits .cap, most-fits at-start, moved-fits at-start, wide at-start)
-    (simp flat (omega (ints, quotient-near at-start .at-most, asked at-start .small .at-most)))
+    (simp flat (omega (ints, quotient-near at-start .at-most, cap-bound (asked at-start .sheet) .at-most)))
 
 returns : tie.Need-returns
 returns at-start =
     let fits = at-start .fits in
-    let back-fits : SFits w64 (pos (quotient at-start) -ℤ cap at-start) = fits64 (bound-sub (quotient-near at-start) (asked at-start .small)) tt in
+    let back-fits : SFits w64 (pos (quotient at-start) -ℤ cap at-start) = fits64 (bound-sub (quotient-near at-start) (cap-bound (asked at-start .sheet))) tt in
     simp (toZ-ofZ, fits .dividend, fits .divisor, fits .cap, most-fits at-start, moved-fits at-start, wide at-start, back-fits)
-    (moved-back (cap at-start) (at-start .args .dividend) (q at-start) (asked at-start .divisor .low) (moved-low (asked at-start)))
+    (moved-back (cap at-start) (at-start .args .dividend) (q at-start) (asked at-start .sheet .divisor .low) (moved-low (asked at-start)))
 
 pub floor-div-spec : {M : Type 1} → statement M
 floor-div-spec = tie.close (tie.spec mul-moved add-moved cast-quotient cast-quotient-2 div-quotient cast-result sub-result returns)

@@ -1,22 +1,25 @@
--- `outer_quotient` compares the dividend with ±divisor·cap: at or beyond them the clamped quotient is the cap with its sign, and strictly
--- between them it is the quotient. Assumes nothing.
-use mathlib.Core.Path.{_≡_, _∙_}
+-- `outer_quotient` gives the outermost so far where the dividend is no further out than that times the divisor, and the clamped quotient
+-- elsewhere. Assumes nothing.
+use mathlib.Core.Path.{_≡_, sym, ap, _∙_, subst}
+use mathlib.Core.Bool.{Bool, false}
 use mir.Facts.{toZ-ofZ}
 use mir.Syntax.{w64}
-use mir.Val.{SFits, toZ, ofZ}
-use lib.IntN.{ℤ, pos, negℤ, _-ℤ_, _*ℤ_}
-use lib.Signed.{_≤ℤ_, _<ℤ_}
+use mir.Val.{SFits}
+use lib.IntN.{ℤ, natAbs, _*ℤ_}
 use borrow.Author.Needs.{needs}
-use Rattle.integers.proofs.Z.{ints, neg, lt-false, bound-neg, fits64}
-use Rattle.boxes_arithmetic.specs.Limits.{DivisionAsked, QuotientAsked}
-use Rattle.boxes_arithmetic.proofs.Bounds.{zero-less, between-bound}
-use Rattle.boxes_arithmetic.proofs.Quotient.{most-bound, clamped-low, clamped-high, not-clamped}
+use Rattle.integers.proofs.Z.{le-false, bound-mul, fits64}
+use Rattle.machine_spec.specs.Machine.{clamp}
+use Rattle.machine_spec.specs.Rate.{outer}
+use Rattle.boxes_arithmetic.specs.Limits.{CapAsked, Capped}
+use Rattle.boxes_arithmetic.specs.Outward.{noFurther, outwardDiv}
+use Rattle.boxes_arithmetic.proofs.Bounds.{between-bound}
+use Rattle.boxes_arithmetic.proofs.Quotient.{divisor-bound, cap-asked, below-most, above-least, outer-stays, outer-moves}
 use Rattle.boxes_arithmetic.proofs.outer_quotient.Statement.{statement}
 use Rattle.boxes_arithmetic.proofs.outer_quotient.Tie as tie
 
 module _ (at-start : tie.Start) where
-  abbrev cap : ℤ
-  cap = at-start .args .cap
+  abbrev z : ℤ
+  z = at-start .args .outermost
 
   abbrev x : ℤ
   x = at-start .args .dividend
@@ -24,88 +27,91 @@ module _ (at-start : tie.Start) where
   abbrev q : ℤ
   q = at-start .args .divisor
 
-  asked : QuotientAsked cap q (at-start .args .outermost)
-  asked = at-start .pre
+  capped : Capped (at-start .args .cap) z
+  capped = at-start .pre .capped
 
-  room : pos 0 ≤ℤ cap
-  room = omega (ints, asked .capped .between .low, asked .capped .between .high, neg cap)
+  asked : CapAsked (at-start .args .cap) q
+  asked = cap-asked capped (at-start .pre .divisor)
 
-  most-fits : SFits w64 (q *ℤ cap)
-  most-fits = fits64 (most-bound (asked .divisor) (asked .capped .small)) tt
+  product-fits : SFits w64 (z *ℤ q)
+  product-fits = fits64 (bound-mul (between-bound (capped .small) (capped .between)) (divisor-bound asked)) tt
 
-  least-fits : SFits w64 (negℤ (q *ℤ cap))
-  least-fits = fits64 (bound-neg (most-bound (asked .divisor) (asked .capped .small))) tt
+mul-no-further : tie.Need-mul-no-further
+mul-no-further at-start = simp (toZ-ofZ, at-start .fits .outermost, at-start .fits .divisor) (product-fits at-start)
 
-  neg-fits : SFits w64 (negℤ cap)
-  neg-fits = fits64 (bound-neg (asked .capped .small)) tt
-
-mul-most : tie.Need-mul-most
-mul-most at-start = simp (toZ-ofZ, at-start .fits .divisor, at-start .fits .cap) (most-fits at-start)
-
-sub-least : tie.Need-sub-least
-sub-least at-start = simp (toZ-ofZ, at-start .fits .divisor, at-start .fits .cap, most-fits at-start, zero-less) (least-fits at-start)
-
--- the two comparisons
-below : (at-then : tie.Then1) → x (at-then .before) <ℤ (q (at-then .before) *ℤ cap (at-then .before))
-below at-then =
-    let at-start = at-then .before in
+-- what the test says
+said : (at-test : tie.After-no-further) → let at-start = at-test .before in at-test .no-further .result ≡ noFurther (at-start .args .up) (z at-start *ℤ q at-start) (x at-start)
+said at-test =
+    let at-start = at-test .before in
     let fits = at-start .fits in
-    let test = simp (toZ-ofZ, fits .dividend, fits .divisor, fits .cap, most-fits at-start) at (at-then .if1 .taken) in
-    omega (ints, test)
+    at-test .no-further .ensures ∙ simp (toZ-ofZ, fits .outermost, fits .divisor, fits .dividend, product-fits at-start)
 
-above : (at-then : tie.Then2) → negℤ (q (at-then .before .before) *ℤ cap (at-then .before .before)) <ℤ x (at-then .before .before)
-above at-then =
-    let at-start = at-then .before .before in
-    let fits = at-start .fits in
-    let test = simp (toZ-ofZ, fits .dividend, fits .divisor, fits .cap, most-fits at-start, zero-less, least-fits at-start) at (at-then .if2 .taken) in
-    omega (ints, test)
-
-outer-unclamped-requires : tie.Need-outer-unclamped-requires
-outer-unclamped-requires at-then κs =
-    let at-start = at-then .before .before in
-    let fits = at-start .fits in
-    let capped = asked at-start .capped in
-    let division : DivisionAsked (cap at-start) (x at-start) (q at-start) =
-    record { small = capped .small; divisor = asked at-start .divisor; above = above at-then; below = below (at-then .before) } in
-    simp (toZ-ofZ, fits .cap, fits .dividend, fits .divisor, fits .outermost) (division, between-bound (capped .small) (capped .between))
-
-sub-outer : tie.Need-sub-outer
-sub-outer at-else = simp (toZ-ofZ, at-else .before .before .fits .cap, zero-less) (neg-fits (at-else .before .before))
-
--- the quotient
+-- the outermost so far
 returns : tie.Need-returns
 returns at-return =
-    let at-then = at-return .before in
-    let at-start = at-then .before .before in
-    let a = at-start .args in
-    let fits = at-start .fits in
-    let answer-fits : SFits w64 (at-return .outer-unclamped .result) = search needs in
-    rw (not-clamped (a .up) (cap at-start) (x at-start) (q at-start) (room at-start) (asked at-start .divisor .low) (above at-then) (below (at-then .before)))
-    (toZ-ofZ answer-fits ∙ (at-return .outer-unclamped .ensures ∙ simp (toZ-ofZ, fits .dividend, fits .divisor, fits .outermost)))
-
--- −cap
-returns-2 : tie.Need-returns-2
-returns-2 at-return =
-    let at-else = at-return .before in
-    let at-start = at-else .before .before in
-    let a = at-start .args in
-    let fits = at-start .fits in
-    let answer-fits : SFits w64 (at-return .outer .result) = search needs in
-    let low = simp (toZ-ofZ, fits .dividend, fits .divisor, fits .cap, most-fits at-start, zero-less, least-fits at-start) at (at-else .if2 .left) in
-    rw (clamped-low (a .up) (cap at-start) (x at-start) (q at-start) (room at-start) (asked at-start .divisor .low) (lt-false _ _ low))
-    (toZ-ofZ answer-fits ∙ (at-return .outer .ensures ∙ simp (toZ-ofZ, fits .cap, fits .outermost, zero-less, neg-fits at-start)))
-
--- cap
-returns-3 : tie.Need-returns-3
-returns-3 at-return =
     let at-start = at-return .before .before in
     let a = at-start .args in
+    toZ-ofZ (at-start .fits .outermost)
+    ∙ outer-stays (a .up) (a .cap) (z at-start) (x at-start) (q at-start) (capped at-start) (at-start .pre .divisor .low) (sym (said (at-return .before)) ∙ at-return .if1 .taken)
+
+-- the dividend is further out
+further : (at-else : tie.Else1) → let at-start = at-else .before .before in noFurther (at-start .args .up) (z at-start *ℤ q at-start) (x at-start) ≡ false
+further at-else = sym (said (at-else .before)) ∙ at-else .if1 .left
+
+-- so it is above −divisor·cap for an upper face
+clamped-ceil-requires : tie.Need-clamped-ceil-requires
+unfolding noFurther
+clamped-ceil-requires upper κs =
+    let at-start = upper .before .before .before in
     let fits = at-start .fits in
-    let answer-fits : SFits w64 (at-return .outer2 .result) = search needs in
-    let high = simp (toZ-ofZ, fits .dividend, fits .divisor, fits .cap, most-fits at-start) at (at-return .before .if1 .left) in
-    rw (clamped-high (a .up) (cap at-start) (x at-start) (q at-start) (room at-start) (asked at-start .divisor .low) (lt-false _ _ high))
-    (toZ-ofZ answer-fits ∙ (at-return .outer2 .ensures ∙ simp (toZ-ofZ, fits .cap, fits .outermost)))
+    let test = subst (λ (b : Bool). noFurther b (z at-start *ℤ q at-start) (x at-start) ≡ false) (upper .if2 .taken) (further (upper .before)) in
+    simp (toZ-ofZ, fits .cap, fits .dividend, fits .divisor)
+    (asked at-start, above-least (capped at-start) (x at-start) (q at-start) (at-start .pre .divisor .low) (le-false (x at-start) (z at-start *ℤ q at-start) test))
+
+-- and below divisor·cap for a lower face
+clamped-floor-requires : tie.Need-clamped-floor-requires
+unfolding noFurther
+clamped-floor-requires lower κs =
+    let at-start = lower .before .before .before in
+    let fits = at-start .fits in
+    let test = subst (λ (b : Bool). noFurther b (z at-start *ℤ q at-start) (x at-start) ≡ false) (lower .if2 .left) (further (lower .before)) in
+    simp (toZ-ofZ, fits .cap, fits .dividend, fits .divisor)
+    (asked at-start, below-most (capped at-start) (x at-start) (q at-start) (at-start .pre .divisor .low) (le-false (z at-start *ℤ q at-start) (x at-start) test))
+
+-- the clamped quotient is the outer one
+answer : (at-else : tie.Else1) → let a = at-else .before .before .args in clamp (a .cap) (outwardDiv (a .up) (a .dividend) (natAbs (a .divisor))) ≡ outer (a .up) (a .outermost) (clamp (a .cap) (outwardDiv (a .up) (a .dividend) (natAbs (a .divisor))))
+answer at-else =
+    let at-start = at-else .before .before in
+    let a = at-start .args in
+    outer-moves (a .up) (a .cap) (z at-start) (x at-start) (q at-start) (capped at-start) (at-start .pre .divisor .low) (further at-else)
+
+-- an upper face
+returns-2 : tie.Need-returns-2
+unfolding outwardDiv
+returns-2 at-return =
+    let upper = at-return .before in
+    let at-start = upper .before .before .before in
+    let a = at-start .args in
+    let fits = at-start .fits in
+    let ceil-fits : SFits w64 (at-return .clamped-ceil .result) = search needs in
+    toZ-ofZ ceil-fits
+    ∙ (at-return .clamped-ceil .ensures
+    ∙ simp (toZ-ofZ, fits .cap, fits .dividend, fits .divisor)
+    (ap (λ (b : Bool). clamp (a .cap) (outwardDiv b (a .dividend) (natAbs (a .divisor)))) (sym (upper .if2 .taken)) ∙ answer (upper .before)))
+
+-- a lower face
+returns-3 : tie.Need-returns-3
+unfolding outwardDiv
+returns-3 at-return =
+    let lower = at-return .before in
+    let at-start = lower .before .before .before in
+    let a = at-start .args in
+    let fits = at-start .fits in
+    let floor-fits : SFits w64 (at-return .clamped-floor .result) = search needs in
+    toZ-ofZ floor-fits
+    ∙ (at-return .clamped-floor .ensures
+    ∙ simp (toZ-ofZ, fits .cap, fits .dividend, fits .divisor)
+    (ap (λ (b : Bool). clamp (a .cap) (outwardDiv b (a .dividend) (natAbs (a .divisor)))) (sym (lower .if2 .left)) ∙ answer (lower .before)))
 
 pub outer-quotient-spec : {M : Type 1} → statement M
-outer-quotient-spec =
-    tie.close (tie.spec mul-most sub-least outer-unclamped-requires sub-outer (λ c κs. search needs) (λ c κs. search needs) returns returns-2 returns-3)
+outer-quotient-spec = tie.close (tie.spec mul-no-further (λ c κs. search needs) returns clamped-ceil-requires clamped-floor-requires returns-2 returns-3)

@@ -1,0 +1,76 @@
+-- `clamped_floor` compares the dividend with −divisor·cap: at or below it the clamped floor is −cap, above it the floor. Assumes nothing.
+use mathlib.Core.Path.{_≡_, _∙_}
+use mir.Facts.{toZ-ofZ}
+use mir.Syntax.{w64}
+use mir.Val.{SFits}
+use lib.IntN.{ℤ, negℤ, _*ℤ_}
+use borrow.Author.Needs.{needs}
+use Rattle.integers.proofs.Z.{ints, lt-false, bound-neg, fits64}
+use Rattle.boxes_arithmetic.specs.Limits.{CapAsked, DivisionAsked}
+use Rattle.boxes_arithmetic.proofs.Bounds.{zero-less}
+use Rattle.boxes_arithmetic.proofs.Quotient.{cap-bound, most-bound, floor-clamped, floor-unclamped}
+use Rattle.boxes_arithmetic.proofs.clamped_floor.Statement.{statement}
+use Rattle.boxes_arithmetic.proofs.clamped_floor.Tie as tie
+
+module _ (at-start : tie.Start) where
+  abbrev cap : ℤ
+  cap = at-start .args .cap
+
+  abbrev x : ℤ
+  x = at-start .args .dividend
+
+  abbrev q : ℤ
+  q = at-start .args .divisor
+
+  asked : CapAsked cap q
+  asked = at-start .pre .0
+
+  most-fits : SFits w64 (q *ℤ cap)
+  most-fits = fits64 (most-bound asked) tt
+
+  least-fits : SFits w64 (negℤ (q *ℤ cap))
+  least-fits = fits64 (bound-neg (most-bound asked)) tt
+
+  neg-fits : SFits w64 (negℤ cap)
+  neg-fits = fits64 (bound-neg (cap-bound asked)) tt
+
+mul-least : tie.Need-mul-least
+mul-least at-start = simp (toZ-ofZ, at-start .fits .divisor, at-start .fits .cap) (most-fits at-start)
+
+sub-least : tie.Need-sub-least
+sub-least at-start = simp (toZ-ofZ, at-start .fits .divisor, at-start .fits .cap, most-fits at-start, zero-less) (least-fits at-start)
+
+-- the premise of the division
+division : (at-then : tie.Then1) → DivisionAsked (cap (at-then .before)) (x (at-then .before)) (q (at-then .before))
+division at-then =
+    let at-start = at-then .before in
+    let fits = at-start .fits in
+    let test = simp (toZ-ofZ, fits .dividend, fits .divisor, fits .cap, most-fits at-start, zero-less, least-fits at-start) at (at-then .if1 .taken) in
+    record { sheet = asked at-start; above = omega (ints, test); below = at-start .pre .1 }
+
+floor-div-requires : tie.Need-floor-div-requires
+floor-div-requires at-then κs =
+    let fits = at-then .before .fits in
+    simp (toZ-ofZ, fits .cap, fits .dividend, fits .divisor) (division at-then)
+
+sub-result : tie.Need-sub-result
+sub-result at-else = simp (toZ-ofZ, at-else .before .fits .cap, zero-less) (neg-fits (at-else .before))
+
+-- the quotient
+returns : tie.Need-returns
+returns at-return =
+    let at-then = at-return .before in
+    let fits = at-then .before .fits in
+    let quotient-fits : SFits w64 (at-return .floor-div .result) = search needs in
+    rw (floor-unclamped (q (at-then .before)) (division at-then)) (toZ-ofZ quotient-fits ∙ (at-return .floor-div .ensures ∙ simp (toZ-ofZ, fits .dividend, fits .divisor)))
+
+-- −cap
+returns-2 : tie.Need-returns-2
+returns-2 at-else =
+    let at-start = at-else .before in
+    let fits = at-start .fits in
+    let low = simp (toZ-ofZ, fits .dividend, fits .divisor, fits .cap, most-fits at-start, zero-less, least-fits at-start) at (at-else .if1 .left) in
+    rw (floor-clamped (cap at-start) (x at-start) (q at-start) (asked at-start) (lt-false _ _ low)) (simp (toZ-ofZ, fits .cap, zero-less, neg-fits at-start))
+
+pub clamped-floor-spec : {M : Type 1} → statement M
+clamped-floor-spec = tie.close (tie.spec mul-least sub-least floor-div-requires sub-result returns returns-2)
