@@ -6,6 +6,7 @@ pub use guard_bindings as archive;
 pub mod expected;
 pub mod fences;
 pub mod generate;
+pub mod machines;
 pub mod random;
 pub mod spoil;
 pub mod tally;

@@ -8,19 +8,15 @@ use matching::archive::format::question_length;
 use matching::archive::{self, Answer};
 use matching::expected::{decide_before, recovery_before};
 use matching::generate::{everyday, question_bytes, question_near, sheet_bytes};
+use matching::machines::{any_question, bytes_of, machine};
 use matching::random::Random;
-use second_guard::boxes::StateBox;
-use second_guard::decision::Question;
-use second_guard::sheet::{self, Sheet};
-use sheet_tool::{asks_text, sheet_parser};
-use std::fs;
+use second_guard::sheet;
 
 /// How many everyday sheets, questions near each one's, and questions to each machine of examples/.
 const SHEETS: usize = 30_000;
 const NEAR: usize = 7;
 const ASKED: usize = 10_000;
 
-const EXAMPLES: &str = concat!(env!("CARGO_MANIFEST_DIR"), "/../../examples");
 const WORKED: &str = include_str!("../../../examples.txt");
 
 /// The answers to one group of questions, or of recovery checks.
@@ -91,10 +87,6 @@ impl Group {
     }
 }
 
-fn bytes_of(question: &Question, n: usize) -> Vec<u8> {
-    question_bytes(question.allowance, question.command, &question.measured, n)
-}
-
 /// The sheets and questions of random matching. The boxes of a sheet are placed by today's reaches
 /// of one question, so that this question is kept or handed over by little: of these more are won.
 fn everyday_sheets() -> Vec<Group> {
@@ -114,34 +106,6 @@ fn everyday_sheets() -> Vec<Group> {
         checks.check(&bytes);
     }
     vec![placed, near, checks]
-}
-
-/// A machine of examples/: its sheet, the bytes of it, and its questions.
-fn machine(name: &str) -> (Sheet, Vec<u8>, Vec<u8>) {
-    let read = |end: &str| {
-        fs::read_to_string(format!("{EXAMPLES}/{name}{end}")).expect("the example is there")
-    };
-    let text = sheet_parser::parse(&read(".txt")).expect("a sheet");
-    let asks = asks_text::parse(&read(".asks.txt"), &text.sheet, &text.names).expect("questions");
-    let bytes = text.bytes().expect("an accepted sheet");
-    (text.sheet, bytes, asks.bytes(&text.sheet))
-}
-
-/// A small box in or close to the recovery box, and any command.
-fn any_question(random: &mut Random, sheet: &Sheet) -> Question {
-    let mut measured = StateBox::default();
-    for i in 0..sheet.n() {
-        let (lower, upper) = (sheet.recovery.lower[i], sheet.recovery.upper[i]);
-        let more = (upper - lower) / 4;
-        let centre = random.range(lower - more, upper + more);
-        let half = random.range(0, 1 + more / 20);
-        (measured.lower[i], measured.upper[i]) = (centre - half, centre + half);
-    }
-    Question {
-        allowance: 2_000,
-        command: random.int(sheet.commands.least, sheet.commands.greatest),
-        measured,
-    }
 }
 
 /// A machine of examples/ with its own questions and with random ones.
