@@ -3,12 +3,16 @@
 //! instructions of a round and of reading a sheet, which callgrind counts over this program itself.
 //! Times are told and not judged, since they vary with the machine. What is judged is that the two
 //! answer alike and how many instructions the guard takes: for a round with several bands at most 1.1
-//! times the second guard's, with one band no more than before a neighborhood was cut into parts, for
-//! reading a sheet at most 1.25 times the second guard's. The last line is `N passed, M failed`.
+//! times the second guard's or no more than before paper 6 of document 02, with one band no more than
+//! before paper 3, for reading a sheet at most 1.25 times the second guard's. The last line is
+//! `N passed, M failed`.
 
+use matching::archive::format::question_length;
 use matching::archive::{self, sheet_archive::SheetArchive};
 use matching::expected;
-use matching::generate::{everywhere, question_bytes, sheet_bytes, worst_case};
+use matching::generate::{everyday, everywhere, question_bytes, sheet_bytes, worst_case};
+use matching::machines::machine;
+use matching::random::Random;
 use second_guard::boxes::{StateBox, VARIABLES};
 use second_guard::sheet::{self, Band, CommandRange, Row, Sheet};
 use second_guard::sheet::{BANDS, NUMBERS, UNSAFE_BOXES};
@@ -235,6 +239,65 @@ fn many_rounds(n: usize, bands: usize) -> (Vec<u8>, Vec<u8>) {
     (bytes, question)
 }
 
+/// Sheets and questions that are asked one after another.
+type Asked = Vec<(Vec<u8>, Vec<u8>)>;
+
+/// Groups of questions, in which changes are often clamped, and the most instructions of a round.
+const GROUPS: [(&str, fn() -> Asked, f64); 2] = [
+    ("leg press", leg_press, 700.0),
+    ("random sheets", random_sheets, 910.0),
+];
+
+/// The leg press of examples/ with those of its questions that are not refused.
+fn leg_press() -> Asked {
+    let (sheet, bytes, asks) = machine("leg_press");
+    let questions = asks.chunks(question_length(sheet.n()));
+    let asked = questions.map(|question| (bytes.clone(), question.to_vec()));
+    asked
+        .filter(|(sheet, question)| rounds(sheet, question) > 0)
+        .collect()
+}
+
+/// How many random sheets, and the least and the most rounds that a question to them takes.
+const RANDOM_SHEETS: usize = 100;
+const LEAST_ROUNDS: u64 = 50;
+const MOST_ROUNDS: u32 = 200;
+
+/// Everyday sheets of random matching, each with the question that its boxes are placed for.
+fn random_sheets() -> Asked {
+    let random = &mut Random::new(6);
+    let cases = std::iter::repeat_with(|| everyday(random).case);
+    let asked = cases.map(|case| {
+        let question = question_bytes(MOST_ROUNDS, case.command, &case.measured, case.sheet.n());
+        (sheet_bytes(&case.sheet), question)
+    });
+    let long = asked.filter(|(sheet, question)| rounds(sheet, question) >= LEAST_ROUNDS);
+    long.take(RANDOM_SHEETS).collect()
+}
+
+/// How one of the two decides.
+type Decide = fn(&[u8], &[u8]) -> u64;
+
+/// All questions of a group; the number differs where one of the answers does.
+fn ask_all(asked: &Asked, decide: Decide) -> u64 {
+    let mut all: u64 = 0;
+    for (sheet, question) in asked {
+        all = all.wrapping_mul(31).wrapping_add(decide(sheet, question));
+    }
+    all
+}
+
+/// The rounds of all questions of a group.
+fn rounds_of_all(asked: &Asked) -> f64 {
+    asked
+        .iter()
+        .map(|(sheet, question)| rounds(sheet, question) as f64)
+        .sum()
+}
+
+/// So many times the second guard's instructions are little more.
+const LITTLE_MORE: f64 = 1.1;
+
 /// How many instructions the guard may take.
 #[derive(Clone, Copy)]
 enum Most {
@@ -242,16 +305,24 @@ enum Most {
     Times(f64),
     /// So many.
     Instructions(f64),
+    /// So many, or little more than the second guard.
+    Either(f64),
 }
 
 /// Of a round: with one band as many as before a neighborhood was cut into parts, with several bands
-/// little more than the second guard.
+/// little more than the second guard, or as many as before the second guard compared a change with
+/// its cap first.
 fn most_of_round(n: usize, bands: usize) -> Most {
     match (n, bands) {
         (1, 1) => Most::Instructions(299.0),
         (2, 1) => Most::Instructions(532.0),
         (4, 1) => Most::Instructions(1143.0),
-        _ => Most::Times(1.1),
+        (1, 3) => Most::Either(385.0),
+        (1, _) => Most::Either(572.0),
+        (2, 3) => Most::Either(726.0),
+        (2, _) => Most::Either(1337.0),
+        (_, 3) => Most::Either(1894.0),
+        _ => Most::Either(4060.0),
     }
 }
 
@@ -266,6 +337,8 @@ const COUNTED: &str = "counted";
 enum Work {
     /// Decisions at a number of variables and of bands.
     Decide(usize, usize),
+    /// The questions of a group, by its place in `GROUPS`.
+    Ask(usize),
     /// Reading a sheet, by its place in `SIZES`.
     Read(usize),
 }
@@ -274,6 +347,7 @@ impl Work {
     fn words(self) -> [String; 3] {
         match self {
             Work::Decide(n, bands) => ["decide".into(), n.to_string(), bands.to_string()],
+            Work::Ask(group) => ["ask".into(), group.to_string(), "0".into()],
             Work::Read(size) => ["read".into(), size.to_string(), "0".into()],
         }
     }
@@ -282,6 +356,7 @@ impl Work {
         let number = |i: usize| words[i].parse::<usize>().expect("a number");
         match words[0].as_str() {
             "decide" => Work::Decide(number(1), number(2)),
+            "ask" => Work::Ask(number(1)),
             _ => Work::Read(number(1)),
         }
     }
@@ -294,6 +369,13 @@ impl Work {
                 match who {
                     "guard" => repeat(times, || decide_by_guard(sheet, question)),
                     _ => repeat(times, || decide_by_second(sheet, question)),
+                }
+            }
+            Work::Ask(group) => {
+                let asked = GROUPS[group].1();
+                match who {
+                    "guard" => repeat(times, || ask_all(&asked, decide_by_guard)),
+                    _ => repeat(times, || ask_all(&asked, decide_by_second)),
                 }
             }
             Work::Read(size) => {
@@ -348,6 +430,7 @@ fn count_line(name: &str, work: Work, per: f64, most: Most) -> bool {
     match most {
         Most::Times(most) => ratio <= most,
         Most::Instructions(most) => guard.round() <= most,
+        Most::Either(most) => ratio <= LITTLE_MORE || guard.round() <= most,
     }
 }
 
@@ -364,11 +447,67 @@ fn count_instructions() -> (usize, usize) {
         let most = most_of_round(n, bands);
         fine.push(count_line(&name, Work::Decide(n, bands), count, most));
     }
+    for (group, (name, asked, most)) in GROUPS.into_iter().enumerate() {
+        let name = format!("one round, {name}");
+        let count = rounds_of_all(&asked());
+        let most = Most::Either(most);
+        fine.push(count_line(&name, Work::Ask(group), count, most));
+    }
     for (size, (name, _)) in SIZES.iter().enumerate() {
         let name = format!("reading a sheet, {name}");
         fine.push(count_line(&name, Work::Read(size), 1.0, MOST_OF_READING));
     }
     (fine.iter().filter(|&&fine| fine).count(), fine.len())
+}
+
+/// The lines of decisions on one sheet with ever more rounds.
+fn time_decisions() {
+    let (sheet, measured) = model(2, 3, 2);
+    let bytes = sheet_bytes(&sheet);
+    for allowance in ALLOWANCES {
+        let question = question_bytes(allowance, 5, &measured, 2);
+        assert_eq!(rounds(&bytes, &question), u64::from(allowance));
+        let name = format!("decision, rounds {allowance} (n 2, bands 3)");
+        line(&name, &decide(&bytes, &question), 1.0);
+    }
+}
+
+/// The lines of a round.
+fn time_rounds() {
+    for (n, bands) in SHAPES {
+        let (bytes, question) = many_rounds(n, bands);
+        let count = rounds(&bytes, &question);
+        let name = format!("one round, n {n}, bands {bands}");
+        line(&name, &decide(&bytes, &question), count as f64);
+    }
+    for (name, asked, _) in GROUPS {
+        let asked = asked();
+        let times = compare(
+            || ask_all(&asked, decide_by_guard),
+            || ask_all(&asked, decide_by_second),
+        );
+        line(&format!("one round, {name}"), &times, rounds_of_all(&asked));
+    }
+}
+
+/// The lines of reading a sheet.
+fn time_reading() {
+    for (size, (name, _)) in SIZES.iter().enumerate() {
+        let bytes = sheet_of_size(size);
+        let name = format!("reading a sheet, {name} ({} bytes)", bytes.len());
+        line(&name, &read(&bytes), 1.0);
+    }
+}
+
+/// The line of the case with the most rounds.
+fn time_worst_case() {
+    let case = worst_case();
+    let bytes = sheet_bytes(&case.sheet);
+    let question = question_bytes(1_000_000, case.command, &case.measured, 4);
+    let count = rounds(&bytes, &question);
+    assert!(count > 100_000, "the worst case has over 100,000 rounds");
+    let name = format!("worst case, rounds {count} (n 4, bands 3)");
+    line(&name, &decide(&bytes, &question), 1.0);
 }
 
 fn main() {
@@ -378,40 +517,13 @@ fn main() {
     }
     println!("| case | guard | second guard | ratio |");
     println!("|---|---:|---:|---:|");
-
-    let (sheet, measured) = model(2, 3, 2);
-    let bytes = sheet_bytes(&sheet);
-    for allowance in ALLOWANCES {
-        let question = question_bytes(allowance, 5, &measured, 2);
-        assert_eq!(rounds(&bytes, &question), u64::from(allowance));
-        let name = format!("decision, rounds {allowance} (n 2, bands 3)");
-        line(&name, &decide(&bytes, &question), 1.0);
-    }
-
-    for (n, bands) in SHAPES {
-        let (bytes, question) = many_rounds(n, bands);
-        let count = rounds(&bytes, &question);
-        let name = format!("one round, n {n}, bands {bands}");
-        line(&name, &decide(&bytes, &question), count as f64);
-    }
-
-    for (size, (name, _)) in SIZES.iter().enumerate() {
-        let bytes = sheet_of_size(size);
-        let name = format!("reading a sheet, {name} ({} bytes)", bytes.len());
-        line(&name, &read(&bytes), 1.0);
-    }
-
-    let case = worst_case();
-    let bytes = sheet_bytes(&case.sheet);
-    let question = question_bytes(1_000_000, case.command, &case.measured, 4);
-    let count = rounds(&bytes, &question);
-    assert!(count > 100_000, "the worst case has over 100,000 rounds");
-    let name = format!("worst case, rounds {count} (n 4, bands 3)");
-    line(&name, &decide(&bytes, &question), 1.0);
-
+    time_decisions();
+    time_rounds();
+    time_reading();
+    time_worst_case();
     let (fine, all) = count_instructions();
     // every line of the first table has compared two answers
-    let alike = ALLOWANCES.len() + SHAPES.len() + SIZES.len() + 1;
+    let alike = ALLOWANCES.len() + SHAPES.len() + GROUPS.len() + SIZES.len() + 1;
     println!("{} passed, {} failed", alike + fine, all - fine);
     std::process::exit(i32::from(fine < all));
 }
