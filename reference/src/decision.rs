@@ -2,6 +2,7 @@
 //! and the one number that the drive gets.
 
 use crate::boxes::StateBox;
+use crate::changes::Change;
 use crate::reach::{advance, Budget, Law, NoWatch, Step, Stop, Watch};
 use crate::sheet::{self, Fields, Refusal, Sheet, START_LIMIT};
 use std::ops::ControlFlow;
@@ -127,8 +128,8 @@ impl<W: Watch> Watch for Safety<'_, W> {
     }
 
     #[inline]
-    fn bound(&mut self, before: i64, after: i64) {
-        self.watch.bound(before, after);
+    fn change(&mut self, change: Change) {
+        self.watch.change(change);
     }
 
     #[inline]

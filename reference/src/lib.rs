@@ -1,7 +1,9 @@
-//! The second guard: document 01 and paper 3 of document 02 in plain Rust, without any dependency.
+//! The second guard: document 01 and papers 3 and 6 of document 02 in plain Rust, without any
+//! dependency.
 //! No text or code is shared with the proved guard. Both follow the readings in `docs/DECISIONS.md`.
 
 pub mod boxes;
+pub mod changes;
 pub mod decision;
 pub mod listing;
 pub mod machine;

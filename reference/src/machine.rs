@@ -1,32 +1,72 @@
 //! The machine on a sheet: bands of one variable, and the changes that a row allows in one tick,
-//! with outward rounding and the clamp.
+//! with outward rounding and the clamp. A numerator is compared with −q·cap and q·cap first and
+//! divided only strictly between them (paper 6 of document 02).
 
 use crate::boxes::State;
 use crate::sheet::{Row, Sheet};
 use std::ops::Range;
 
-/// The quotient rounded down; the divisor is positive.
+/// q·cap: from here on a change is at the cap. It is at most 4,096,000.
 #[inline]
-pub fn floor_div(numerator: i64, divisor: i64) -> i64 {
-    numerator.div_euclid(divisor)
+pub fn limit(q: i32, cap: i32) -> i64 {
+    i64::from(q) * i64::from(cap)
 }
 
-/// The quotient rounded up; the divisor is positive.
+/// The quotient rounded down. It asks of its caller that −q·cap < numerator < q·cap; so the
+/// numerator and q·cap together are above 0 and fit 32 bits.
 #[inline]
-pub fn ceil_div(numerator: i64, divisor: i64) -> i64 {
-    -(-numerator).div_euclid(divisor)
+pub fn floor_div(numerator: i64, q: i32, cap: i32) -> i64 {
+    let limit = limit(q, cap);
+    debug_assert!(-limit < numerator && numerator < limit);
+    let above_least = (numerator + limit) as u32;
+    i64::from(above_least / q as u32) - i64::from(cap)
 }
 
-/// The least allowed change for the row's numerator, before the clamp.
+/// The quotient rounded up. It asks the same.
 #[inline]
-pub fn least_change(row: &Row, numerator: i64) -> i64 {
-    floor_div(numerator - i64::from(row.d), i64::from(row.q))
+pub fn ceil_div(numerator: i64, q: i32, cap: i32) -> i64 {
+    let limit = limit(q, cap);
+    debug_assert!(-limit < numerator && numerator < limit);
+    let below_greatest = (limit - numerator) as u32;
+    i64::from(cap) - i64::from(below_greatest / q as u32)
 }
 
-/// The greatest allowed change for the row's numerator, before the clamp.
+/// The lesser of the least change so far, from −cap to cap, and of the quotient rounded down and
+/// clamped. It divides only where that is the answer: a numerator at or above q·cap is also at or
+/// above q times the least so far.
 #[inline]
-pub fn greatest_change(row: &Row, numerator: i64) -> i64 {
-    ceil_div(numerator + i64::from(row.d), i64::from(row.q))
+pub fn least_so_far(numerator: i64, q: i32, cap: i32, least: i64) -> i64 {
+    if numerator <= -limit(q, cap) {
+        -i64::from(cap)
+    } else if numerator >= least * i64::from(q) {
+        least
+    } else {
+        floor_div(numerator, q, cap)
+    }
+}
+
+/// The greater of the greatest change so far and of the quotient rounded up and clamped, likewise.
+#[inline]
+pub fn greatest_so_far(numerator: i64, q: i32, cap: i32, greatest: i64) -> i64 {
+    if numerator >= limit(q, cap) {
+        i64::from(cap)
+    } else if numerator <= greatest * i64::from(q) {
+        greatest
+    } else {
+        ceil_div(numerator, q, cap)
+    }
+}
+
+/// The least allowed change for a row's N: the floor of (N − d)/q, clamped.
+#[inline]
+pub fn least_change(row: &Row, numerator: i64, cap: i32) -> i64 {
+    least_so_far(numerator - i64::from(row.d), row.q, cap, i64::from(cap))
+}
+
+/// The greatest allowed change for a row's N: the ceiling of (N + d)/q, clamped.
+#[inline]
+pub fn greatest_change(row: &Row, numerator: i64, cap: i32) -> i64 {
+    greatest_so_far(numerator + i64::from(row.d), row.q, cap, -i64::from(cap))
 }
 
 /// The number of the band that a value of the band variable lies in; below the first edge none.
@@ -56,13 +96,13 @@ pub fn bands_met(sheet: &Sheet, least: i64, greatest: i64) -> Range<usize> {
 pub fn allowed_change(sheet: &Sheet, state: &State, command: i32, i: usize) -> Option<(i64, i64)> {
     let band = band_of(sheet, state[sheet.band_variable as usize])?;
     let row = &sheet.bands[band].rows[i];
-    let cap = i64::from(sheet.caps[i]);
+    let cap = sheet.caps[i];
     let mut numerator = i64::from(row.b) * i64::from(command) + i64::from(row.c);
     for (&a, &x) in row.a.iter().zip(state).take(sheet.n()) {
         numerator += i64::from(a) * x;
     }
     Some((
-        least_change(row, numerator).clamp(-cap, cap),
-        greatest_change(row, numerator).clamp(-cap, cap),
+        least_change(row, numerator, cap),
+        greatest_change(row, numerator, cap),
     ))
 }

@@ -2,7 +2,9 @@
 //! The engine is generic over a `Watch`, which sees each step and may stop the reach.
 
 use crate::boxes::{State, StateBox};
-use crate::machine::{greatest_change, least_change};
+use crate::changes::Change;
+use crate::machine::{greatest_so_far, least_so_far};
+use crate::neighborhoods::Face;
 use crate::sheet::{Band, Refusal, Row, Sheet, START_LIMIT, TICKS_LIMIT};
 use crate::whole;
 use std::ops::ControlFlow;
@@ -47,9 +49,9 @@ pub trait Watch {
     #[inline]
     fn round(&mut self, _sheet: &Sheet, _start: &StateBox, _enclosure: &StateBox, _ticks: u32) {}
 
-    /// A band's bound on the change, before and after the clamp.
+    /// A face looks at a band's change.
     #[inline]
-    fn bound(&mut self, _before: i64, _after: i64) {}
+    fn change(&mut self, _change: Change) {}
 
     /// The step begins again with this number of ticks.
     #[inline]
@@ -194,23 +196,21 @@ fn bound_band<const N: usize, W: Watch>(
 ) {
     let commands = commands(law, band);
     for i in 0..N {
-        let cap = i64::from(sheet.caps[i]);
+        let cap = sheet.caps[i];
         let row = &band.rows[i];
         let (lower, upper) = (part.lower[i], part.upper[i]);
         if lower <= depths.upper[i] {
             part.upper[i] = upper.min(depths.upper[i]);
-            let change = least_change(row, least_numerator::<N>(row, part, commands));
-            let clamped = change.clamp(-cap, cap);
-            watch.bound(change, clamped);
-            rates.lower[i] = rates.lower[i].min(clamped);
+            let numerator = least_numerator::<N>(row, part, commands) - i64::from(row.d);
+            watch.change(Change::new(i, Face::Lower, numerator, row.q, cap));
+            rates.lower[i] = least_so_far(numerator, row.q, cap, rates.lower[i]);
             part.upper[i] = upper;
         }
         if depths.lower[i] <= upper {
             part.lower[i] = lower.max(depths.lower[i]);
-            let change = greatest_change(row, greatest_numerator::<N>(row, part, commands));
-            let clamped = change.clamp(-cap, cap);
-            watch.bound(change, clamped);
-            rates.upper[i] = rates.upper[i].max(clamped);
+            let numerator = greatest_numerator::<N>(row, part, commands) + i64::from(row.d);
+            watch.change(Change::new(i, Face::Upper, numerator, row.q, cap));
+            rates.upper[i] = greatest_so_far(numerator, row.q, cap, rates.upper[i]);
             part.lower[i] = lower;
         }
     }

@@ -25,24 +25,29 @@ pub(crate) fn round(
     let mut rates = Rates::default();
     for around in neighborhoods(sheet, start, enclosure, ticks) {
         let i = around.variable;
-        let cap = i64::from(sheet.caps[i]);
+        let cap = sheet.caps[i];
         let bands = &sheet.bands[around.bands.clone()];
-        let bounds = bands.iter().map(|band| bound(law, band, &around));
-        let clamped = bounds.map(|change| change.clamp(-cap, cap));
+        let changes = bands.iter().map(|band| bound(law, band, &around, cap));
         match around.face {
-            Face::Lower => rates.lower[i] = clamped.min().unwrap_or(cap),
-            Face::Upper => rates.upper[i] = clamped.max().unwrap_or(-cap),
+            Face::Lower => rates.lower[i] = changes.min().unwrap_or(cap.into()),
+            Face::Upper => rates.upper[i] = changes.max().unwrap_or((-cap).into()),
         }
     }
     rates
 }
 
-/// The least or the greatest change by one band's row over the whole neighborhood.
-fn bound(law: Law, band: &Band, around: &Neighborhood) -> i64 {
+/// The least or the greatest change by one band's row over the whole neighborhood, clamped.
+fn bound(law: Law, band: &Band, around: &Neighborhood, cap: i32) -> i64 {
     let row = &band.rows[around.variable];
     let (over, commands) = (&around.sides, commands(law, band));
     match around.face {
-        Face::Lower => least_change(row, least_numerator::<VARIABLES>(row, over, commands)),
-        Face::Upper => greatest_change(row, greatest_numerator::<VARIABLES>(row, over, commands)),
+        Face::Lower => {
+            let numerator = least_numerator::<VARIABLES>(row, over, commands);
+            least_change(row, numerator, cap)
+        }
+        Face::Upper => {
+            let numerator = greatest_numerator::<VARIABLES>(row, over, commands);
+            greatest_change(row, numerator, cap)
+        }
     }
 }

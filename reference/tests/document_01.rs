@@ -170,18 +170,25 @@ fn packed_answers() {
     assert_eq!(packed >> 32, (1 << 16) + 1);
 }
 
+/// Both quotients, under a cap that they are far from.
+fn quotients(numerator: i64, q: i32) -> (i64, i64) {
+    let cap = 1_000;
+    (floor_div(numerator, q, cap), ceil_div(numerator, q, cap))
+}
+
 #[test]
 fn floor_and_ceiling() {
-    assert_eq!((floor_div(-131, 20), ceil_div(-131, 20)), (-7, -6));
-    assert_eq!((floor_div(-7, 2), ceil_div(-7, 2)), (-4, -3));
-    assert_eq!((floor_div(7, 2), ceil_div(7, 2)), (3, 4));
-    assert_eq!((floor_div(-8, 2), ceil_div(-8, 2)), (-4, -4));
-    assert_eq!((floor_div(0, 7), ceil_div(0, 7)), (0, 0));
-    assert_eq!((floor_div(-1, 4_096), ceil_div(-1, 4_096)), (-1, 0));
-    assert_eq!((floor_div(1, 4_096), ceil_div(1, 4_096)), (0, 1));
+    assert_eq!(quotients(-131, 20), (-7, -6));
+    assert_eq!(quotients(-7, 2), (-4, -3));
+    assert_eq!(quotients(7, 2), (3, 4));
+    assert_eq!(quotients(-8, 2), (-4, -4));
+    assert_eq!(quotients(0, 7), (0, 0));
+    assert_eq!(quotients(-1, 4_096), (-1, 0));
+    assert_eq!(quotients(1, 4_096), (0, 1));
     for numerator in -50..=50_i64 {
-        for divisor in 1..=9_i64 {
-            let (floor, ceil) = (floor_div(numerator, divisor), ceil_div(numerator, divisor));
+        for q in 1..=9 {
+            let (floor, ceil) = quotients(numerator, q);
+            let divisor = i64::from(q);
             assert!(floor * divisor <= numerator && numerator < (floor + 1) * divisor);
             assert!((ceil - 1) * divisor < numerator && numerator <= ceil * divisor);
         }
@@ -192,10 +199,15 @@ fn floor_and_ceiling() {
 fn clamped_change() {
     let sheet = sheet_a();
     let row = &sheet.bands[0].rows[0];
-    assert_eq!(
-        (least_change(row, -131), greatest_change(row, -131)),
-        (-7, -6)
-    );
+    let changes = |cap| {
+        (
+            least_change(row, -131, cap),
+            greatest_change(row, -131, cap),
+        )
+    };
+    assert_eq!(changes(7), (-7, -6));
+    assert_eq!(changes(6), (-6, -6));
+    assert_eq!(changes(5), (-5, -5));
     assert_eq!(
         allowed_change(&sheet, &[131, 0, 0, 0], 0, 0),
         Some((-5, -5))

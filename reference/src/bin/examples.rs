@@ -2,6 +2,7 @@
 //! Each one names what it covers, and the program stops where it does not cover it.
 
 use second_guard::boxes::StateBox;
+use second_guard::changes::{Change, Place};
 use second_guard::decision::{
     check_recovery_watched, decide, decide_watched, read_question, Decision, Faults, Question,
     RecoveryCheck,
@@ -35,9 +36,9 @@ enum Covers {
     /// A row with a spread that a round used.
     Spread,
     NegativeCoefficient,
-    /// A bound that the cap cuts.
+    /// A change at its cap or beyond it.
     Clamped,
-    /// A bound that the cap leaves.
+    /// A change strictly between its caps.
     Unclamped,
     /// A step that begins again so often.
     Halvings(u32),
@@ -176,11 +177,10 @@ impl Watch for Counts {
         }
     }
 
-    fn bound(&mut self, before: i64, after: i64) {
-        if before == after {
-            self.unclamped += 1;
-        } else {
-            self.clamped += 1;
+    fn change(&mut self, change: Change) {
+        match change.place() {
+            Place::Between => self.unclamped += 1,
+            Place::Least | Place::Greatest => self.clamped += 1,
         }
     }
 

@@ -1,0 +1,55 @@
+//! The changes that a round looks at, for those who watch the engine: each band's row gives a face
+//! one numerator, which is compared with −q·cap and q·cap before it is divided.
+
+use crate::machine::limit;
+use crate::neighborhoods::Face;
+
+/// Where a numerator lies. Only one strictly between the two is divided.
+#[derive(Clone, Copy, Debug, PartialEq, Eq)]
+pub enum Place {
+    /// At −q·cap or below it.
+    Least,
+    /// Strictly between −q·cap and q·cap.
+    Between,
+    /// At q·cap or above it.
+    Greatest,
+}
+
+/// What a face of a variable looks at in one band.
+#[derive(Clone, Copy, Debug, PartialEq, Eq)]
+pub struct Change {
+    pub variable: usize,
+    pub face: Face,
+    /// N − d for a lower face, N + d for an upper one.
+    pub numerator: i64,
+    pub q: i32,
+    pub cap: i32,
+}
+
+impl Change {
+    #[inline]
+    pub fn new(variable: usize, face: Face, numerator: i64, q: i32, cap: i32) -> Change {
+        Change {
+            variable,
+            face,
+            numerator,
+            q,
+            cap,
+        }
+    }
+
+    /// q·cap.
+    pub fn limit(&self) -> i64 {
+        limit(self.q, self.cap)
+    }
+
+    pub fn place(&self) -> Place {
+        if self.numerator <= -self.limit() {
+            Place::Least
+        } else if self.numerator >= self.limit() {
+            Place::Greatest
+        } else {
+            Place::Between
+        }
+    }
+}
