@@ -1,4 +1,6 @@
-//! The machine on a sheet: bands, divisions and the allowed changes.
+//! The machine on a sheet: bands, divisions and the allowed changes. Every change is
+//! divided and then clamped, as document 01 says it; paper 6 of document 02, which
+//! compares first, changes no answer (READINGS.md, 13).
 
 use crate::sheet::Sheet;
 

@@ -518,6 +518,85 @@ fn another_variable_is_cut_by_the_band_variable() {
     assert_eq!(rates(&s, 0, &vec![(3, 3), (0, 9)], None), (0, 9));
 }
 
+// ---- Changes at their caps (document 02, paper 6) ----
+
+/// Least and greatest allowed change without spread.
+fn both_changes(big_n: i64, q: i64, cap: i64) -> (i64, i64) {
+    (
+        least_change(big_n, 0, q, cap),
+        greatest_change(big_n, 0, q, cap),
+    )
+}
+
+#[test]
+fn changes_at_and_around_zero_and_the_caps() {
+    for cap in [1, 5, 1_000] {
+        assert_eq!(both_changes(-1, 1, cap), (-1, -1));
+        assert_eq!(both_changes(0, 1, cap), (0, 0));
+        assert_eq!(both_changes(1, 1, cap), (1, 1));
+        for q in [7, 4_096] {
+            assert_eq!(both_changes(-q, q, cap), (-1, -1));
+            assert_eq!(both_changes(-1, q, cap), (-1, 0));
+            assert_eq!(both_changes(0, q, cap), (0, 0));
+            assert_eq!(both_changes(1, q, cap), (0, 1));
+            assert_eq!(both_changes(q, q, cap), (1, 1));
+        }
+        for q in [1, 7, 4_096] {
+            let full = q * cap;
+            // Inside a cap by 1: away from 0 it is the cap and toward 0 one less; with q 1
+            // nothing is rounded.
+            let (outward, inward) = if q == 1 {
+                (cap - 1, cap - 1)
+            } else {
+                (cap, cap - 1)
+            };
+            assert_eq!(both_changes(-full - 1, q, cap), (-cap, -cap));
+            assert_eq!(both_changes(-full, q, cap), (-cap, -cap));
+            assert_eq!(both_changes(-full + 1, q, cap), (-outward, -inward));
+            assert_eq!(both_changes(full - 1, q, cap), (inward, outward));
+            assert_eq!(both_changes(full, q, cap), (cap, cap));
+            assert_eq!(both_changes(full + 1, q, cap), (cap, cap));
+        }
+    }
+}
+
+#[test]
+fn the_spread_moves_a_change_to_its_cap() {
+    // q 7 and cap 5: the ends are at -35 and 35.
+    assert_eq!(least_change(-31, 3, 7, 5), -5);
+    assert_eq!(least_change(-28, 6, 7, 5), -5);
+    assert_eq!(least_change(-31, 4, 7, 5), -5);
+    assert_eq!(least_change(38, 3, 7, 5), 5);
+    assert_eq!(least_change(37, 3, 7, 5), 4);
+    assert_eq!(greatest_change(31, 3, 7, 5), 5);
+    assert_eq!(greatest_change(32, 3, 7, 5), 5);
+    assert_eq!(greatest_change(-38, 3, 7, 5), -5);
+    assert_eq!(greatest_change(-37, 3, 7, 5), -4);
+}
+
+/// Paper 6 of document 02: compared with ±q·cap first, divided only strictly between.
+fn compared_first(big_n: i64, q: i64, cap: i64) -> (i64, i64) {
+    if big_n <= -q * cap {
+        (-cap, -cap)
+    } else if big_n >= q * cap {
+        (cap, cap)
+    } else {
+        (floor_div(big_n, q), ceil_div(big_n, q))
+    }
+}
+
+#[test]
+fn comparing_first_changes_no_answer() {
+    for q in 1..=64 {
+        for cap in 1..=12 {
+            let end = q * (cap + 2);
+            for big_n in -end..=end {
+                assert_eq!(both_changes(big_n, q, cap), compared_first(big_n, q, cap));
+            }
+        }
+    }
+}
+
 // ---- The boxes hold every run of the machine ----
 
 struct Dice(u64);
