@@ -15,6 +15,33 @@ pub enum Place {
     Greatest,
 }
 
+/// Numerators at which a change is about to be clamped, or is rounded around zero.
+#[derive(Clone, Copy, Debug, PartialEq, Eq)]
+pub enum At {
+    MinusLimit,
+    AboveMinusLimit,
+    MinusDivisor,
+    MinusOne,
+    Zero,
+    One,
+    Divisor,
+    BelowLimit,
+    Limit,
+}
+
+/// Each with how it is written.
+pub const AT: [(At, &str); 9] = [
+    (At::MinusLimit, "-q*cap"),
+    (At::AboveMinusLimit, "-q*cap + 1"),
+    (At::MinusDivisor, "-q"),
+    (At::MinusOne, "-1"),
+    (At::Zero, "0"),
+    (At::One, "1"),
+    (At::Divisor, "q"),
+    (At::BelowLimit, "q*cap - 1"),
+    (At::Limit, "q*cap"),
+];
+
 /// What a face of a variable looks at in one band.
 #[derive(Clone, Copy, Debug, PartialEq, Eq)]
 pub struct Change {
@@ -51,5 +78,22 @@ impl Change {
         } else {
             Place::Between
         }
+    }
+
+    /// The numerator lies just there.
+    pub fn is_at(&self, at: At) -> bool {
+        let (q, limit) = (i64::from(self.q), self.limit());
+        let place = match at {
+            At::MinusLimit => -limit,
+            At::AboveMinusLimit => 1 - limit,
+            At::MinusDivisor => -q,
+            At::MinusOne => -1,
+            At::Zero => 0,
+            At::One => 1,
+            At::Divisor => q,
+            At::BelowLimit => limit - 1,
+            At::Limit => limit,
+        };
+        self.numerator == place
     }
 }

@@ -43,6 +43,15 @@ sheet5 = 83 ∷ 72 ∷ 1 ∷ 3 ∷ 1 ∷ 0 ∷ 0 ∷ 1 ∷ 0 ∷ 1 ∷ 0 ∷ 1 �
 unfoldable sheet6 : List ℕ
 sheet6 = 83 ∷ 72 ∷ 1 ∷ 3 ∷ 1 ∷ 0 ∷ 0 ∷ 1 ∷ 0 ∷ 1 ∷ 0 ∷ 1 ∷ 0 ∷ 0 ∷ 0 ∷ 0 ∷ 0 ∷ 0 ∷ 0 ∷ 0 ∷ 0 ∷ 5 ∷ 66 ∷ 68 ∷ 255 ∷ 225 ∷ 123 ∷ 128 ∷ 0 ∷ 0 ∷ 0 ∷ 0 ∷ 0 ∷ 0 ∷ 0 ∷ 0 ∷ 0 ∷ 0 ∷ 0 ∷ 0 ∷ 0 ∷ 0 ∷ 0 ∷ 0 ∷ 0 ∷ 0 ∷ 0 ∷ 0 ∷ 0 ∷ 1 ∷ 66 ∷ 68 ∷ 0 ∷ 0 ∷ 0 ∷ 11 ∷ 0 ∷ 0 ∷ 0 ∷ 0 ∷ 0 ∷ 0 ∷ 0 ∷ 0 ∷ 0 ∷ 1 ∷ 0 ∷ 0 ∷ 255 ∷ 255 ∷ 255 ∷ 236 ∷ 0 ∷ 0 ∷ 0 ∷ 0 ∷ 0 ∷ 5 ∷ 66 ∷ 68 ∷ 0 ∷ 0 ∷ 0 ∷ 30 ∷ 0 ∷ 0 ∷ 0 ∷ 0 ∷ 0 ∷ 0 ∷ 0 ∷ 0 ∷ 0 ∷ 0 ∷ 0 ∷ 0 ∷ 0 ∷ 0 ∷ 0 ∷ 0 ∷ 0 ∷ 0 ∷ 0 ∷ 0 ∷ 0 ∷ 1 ∷ 78 ∷ 71 ∷ 0 ∷ 0 ∷ 0 ∷ 100 ∷ 0 ∷ 0 ∷ 0 ∷ 200 ∷ 82 ∷ 67 ∷ 0 ∷ 0 ∷ 0 ∷ 0 ∷ 0 ∷ 0 ∷ 0 ∷ 40 ∷ []
 
+unfoldable sheet7 : List ℕ
+sheet7 = 83 ∷ 72 ∷ 4 ∷ 1 ∷ 1 ∷ 0 ∷ 0 ∷ 1 ∷ 0 ∷ 1 ∷ 0 ∷ 1 ∷ 255 ∷ 255 ∷ 255 ∷ 251 ∷ 0 ∷ 0 ∷ 0 ∷ 5 ∷ 0 ∷ 5 ∷ 0 ∷ 5 ∷ 0 ∷ 5 ∷ 0 ∷ 5 ∷ 66 ∷ 68 ∷ 255 ∷ 225 ∷ 123 ∷ 128 ∷ 255 ∷ 255 ∷ 255 ∷ 251 ∷ 0 ∷ 0 ∷ 0 ∷ 5 ∷ 0 ∷ 1 ∷ 0 ∷ 0 ∷ 0 ∷ 0 ∷ 0 ∷ 0 ∷ 0 ∷ 0 ∷ 0 ∷ 0 ∷ 0 ∷ 0 ∷ 0 ∷ 0 ∷ 0 ∷ 0 ∷ 0 ∷ 7 ∷ 0 ∷ 0 ∷ 0 ∷ 1 ∷ 0 ∷ 0 ∷ 0 ∷ 0 ∷ 0 ∷ 0 ∷ 0 ∷ 0 ∷ 0 ∷ 0 ∷ 0 ∷ 0 ∷ 0 ∷ 3 ∷ 0 ∷ 7 ∷ 0 ∷ 0 ∷ 0 ∷ 0 ∷ 255 ∷ 255 ∷ 0 ∷ 0 ∷ 0 ∷ 0 ∷ 0 ∷ 0 ∷ 0 ∷ 4 ∷ 0 ∷ 0 ∷ 0 ∷ 0 ∷ 0 ∷ 7 ∷ 0 ∷ 0 ∷ 0 ∷ 0 ∷ 0 ∷ 0 ∷ 0 ∷ 0 ∷ 0 ∷ 7 ∷ 0 ∷ 0 ∷ 0 ∷ 0 ∷ 0 ∷ 0 ∷ 0 ∷ 0 ∷ 0 ∷ 7 ∷ 78 ∷ 71 ∷ 0 ∷ 0 ∷ 1 ∷ 244 ∷ 0 ∷ 0 ∷ 1 ∷ 244 ∷ 0 ∷ 0 ∷ 1 ∷ 244 ∷ 0 ∷ 0 ∷ 1 ∷ 244 ∷ 0 ∷ 0 ∷ 1 ∷ 244 ∷ 0 ∷ 0 ∷ 1 ∷ 244 ∷ 0 ∷ 0 ∷ 1 ∷ 244 ∷ 0 ∷ 0 ∷ 1 ∷ 244 ∷ 82 ∷ 67 ∷ 255 ∷ 255 ∷ 255 ∷ 156 ∷ 0 ∷ 0 ∷ 0 ∷ 100 ∷ 255 ∷ 255 ∷ 255 ∷ 156 ∷ 0 ∷ 0 ∷ 0 ∷ 100 ∷ 255 ∷ 255 ∷ 255 ∷ 156 ∷ 0 ∷ 0 ∷ 0 ∷ 100 ∷ 255 ∷ 255 ∷ 255 ∷ 156 ∷ 0 ∷ 0 ∷ 0 ∷ 100 ∷ []
+
+unfoldable sheet8 : List ℕ
+sheet8 = 83 ∷ 72 ∷ 2 ∷ 3 ∷ 1 ∷ 1 ∷ 0 ∷ 1 ∷ 0 ∷ 1 ∷ 0 ∷ 1 ∷ 0 ∷ 0 ∷ 0 ∷ 0 ∷ 0 ∷ 0 ∷ 0 ∷ 0 ∷ 0 ∷ 5 ∷ 0 ∷ 5 ∷ 66 ∷ 68 ∷ 255 ∷ 225 ∷ 123 ∷ 128 ∷ 0 ∷ 0 ∷ 0 ∷ 0 ∷ 0 ∷ 0 ∷ 0 ∷ 0 ∷ 0 ∷ 0 ∷ 0 ∷ 0 ∷ 0 ∷ 0 ∷ 255 ∷ 255 ∷ 255 ∷ 222 ∷ 0 ∷ 0 ∷ 0 ∷ 0 ∷ 0 ∷ 7 ∷ 0 ∷ 0 ∷ 0 ∷ 0 ∷ 0 ∷ 0 ∷ 0 ∷ 0 ∷ 0 ∷ 0 ∷ 0 ∷ 0 ∷ 0 ∷ 0 ∷ 0 ∷ 1 ∷ 66 ∷ 68 ∷ 0 ∷ 0 ∷ 0 ∷ 4 ∷ 0 ∷ 0 ∷ 0 ∷ 0 ∷ 0 ∷ 0 ∷ 0 ∷ 0 ∷ 0 ∷ 0 ∷ 0 ∷ 0 ∷ 0 ∷ 0 ∷ 0 ∷ 0 ∷ 0 ∷ 4 ∷ 0 ∷ 0 ∷ 0 ∷ 0 ∷ 0 ∷ 1 ∷ 0 ∷ 0 ∷ 0 ∷ 0 ∷ 0 ∷ 0 ∷ 0 ∷ 0 ∷ 0 ∷ 0 ∷ 0 ∷ 0 ∷ 0 ∷ 0 ∷ 0 ∷ 1 ∷ 66 ∷ 68 ∷ 0 ∷ 0 ∷ 0 ∷ 8 ∷ 0 ∷ 0 ∷ 0 ∷ 0 ∷ 0 ∷ 0 ∷ 0 ∷ 0 ∷ 0 ∷ 0 ∷ 0 ∷ 0 ∷ 0 ∷ 0 ∷ 0 ∷ 0 ∷ 79 ∷ 255 ∷ 0 ∷ 0 ∷ 0 ∷ 0 ∷ 16 ∷ 0 ∷ 0 ∷ 0 ∷ 0 ∷ 0 ∷ 0 ∷ 0 ∷ 0 ∷ 0 ∷ 0 ∷ 0 ∷ 0 ∷ 0 ∷ 0 ∷ 0 ∷ 0 ∷ 1 ∷ 78 ∷ 71 ∷ 0 ∷ 0 ∷ 1 ∷ 244 ∷ 0 ∷ 0 ∷ 2 ∷ 88 ∷ 0 ∷ 0 ∷ 1 ∷ 244 ∷ 0 ∷ 0 ∷ 2 ∷ 88 ∷ 82 ∷ 67 ∷ 255 ∷ 255 ∷ 255 ∷ 156 ∷ 0 ∷ 0 ∷ 0 ∷ 100 ∷ 255 ∷ 255 ∷ 255 ∷ 156 ∷ 0 ∷ 0 ∷ 0 ∷ 100 ∷ []
+
+unfoldable sheet9 : List ℕ
+sheet9 = 83 ∷ 72 ∷ 2 ∷ 3 ∷ 1 ∷ 1 ∷ 0 ∷ 1 ∷ 0 ∷ 1 ∷ 0 ∷ 1 ∷ 0 ∷ 0 ∷ 0 ∷ 0 ∷ 0 ∷ 0 ∷ 0 ∷ 0 ∷ 0 ∷ 5 ∷ 0 ∷ 5 ∷ 66 ∷ 68 ∷ 255 ∷ 225 ∷ 123 ∷ 128 ∷ 0 ∷ 0 ∷ 0 ∷ 0 ∷ 0 ∷ 0 ∷ 0 ∷ 0 ∷ 0 ∷ 0 ∷ 0 ∷ 7 ∷ 0 ∷ 0 ∷ 255 ∷ 255 ∷ 255 ∷ 253 ∷ 0 ∷ 0 ∷ 0 ∷ 4 ∷ 0 ∷ 7 ∷ 0 ∷ 0 ∷ 0 ∷ 0 ∷ 0 ∷ 0 ∷ 0 ∷ 0 ∷ 0 ∷ 2 ∷ 0 ∷ 0 ∷ 0 ∷ 0 ∷ 0 ∷ 2 ∷ 66 ∷ 68 ∷ 255 ∷ 255 ∷ 255 ∷ 254 ∷ 0 ∷ 0 ∷ 0 ∷ 0 ∷ 0 ∷ 0 ∷ 0 ∷ 0 ∷ 0 ∷ 0 ∷ 0 ∷ 3 ∷ 0 ∷ 0 ∷ 0 ∷ 0 ∷ 0 ∷ 0 ∷ 0 ∷ 0 ∷ 0 ∷ 0 ∷ 0 ∷ 3 ∷ 0 ∷ 0 ∷ 0 ∷ 0 ∷ 0 ∷ 0 ∷ 0 ∷ 0 ∷ 0 ∷ 2 ∷ 0 ∷ 0 ∷ 0 ∷ 0 ∷ 0 ∷ 2 ∷ 66 ∷ 68 ∷ 0 ∷ 0 ∷ 0 ∷ 3 ∷ 0 ∷ 0 ∷ 0 ∷ 0 ∷ 0 ∷ 0 ∷ 0 ∷ 0 ∷ 0 ∷ 0 ∷ 0 ∷ 9 ∷ 0 ∷ 0 ∷ 255 ∷ 255 ∷ 255 ∷ 251 ∷ 0 ∷ 0 ∷ 0 ∷ 5 ∷ 0 ∷ 9 ∷ 0 ∷ 0 ∷ 0 ∷ 0 ∷ 0 ∷ 0 ∷ 0 ∷ 0 ∷ 0 ∷ 2 ∷ 0 ∷ 0 ∷ 0 ∷ 0 ∷ 0 ∷ 2 ∷ 78 ∷ 71 ∷ 0 ∷ 0 ∷ 1 ∷ 244 ∷ 0 ∷ 0 ∷ 2 ∷ 88 ∷ 0 ∷ 0 ∷ 1 ∷ 244 ∷ 0 ∷ 0 ∷ 2 ∷ 88 ∷ 82 ∷ 67 ∷ 255 ∷ 255 ∷ 255 ∷ 156 ∷ 0 ∷ 0 ∷ 0 ∷ 100 ∷ 255 ∷ 255 ∷ 255 ∷ 156 ∷ 0 ∷ 0 ∷ 0 ∷ 100 ∷ []
+
 reach-under-command : reachFile sheet0 9 4 (Command (negsuc 6)) (pos 36 ∷ negsuc 2 ∷ pos 0 ∷ pos 0 ∷ pos 41 ∷ pos 5 ∷ pos 0 ∷ pos 0 ∷ []) ≡ answered (negsuc 27 ∷ negsuc 45 ∷ pos 0 ∷ pos 0 ∷ pos 105 ∷ pos 27 ∷ pos 0 ∷ pos 0 ∷ []) (negsuc 27 ∷ negsuc 50 ∷ pos 0 ∷ pos 0 ∷ pos 105 ∷ pos 33 ∷ pos 0 ∷ pos 0 ∷ []) 9
 unfolding sheet0 everything
 reach-under-command = refl
@@ -86,6 +95,42 @@ reach-with-edges-beyond-its-depths = refl
 refused-reach : reachFile sheet3 1001 1 (Command (pos 6)) (pos 0 ∷ pos 0 ∷ pos 0 ∷ pos 0 ∷ pos 0 ∷ pos 0 ∷ pos 0 ∷ pos 0 ∷ []) ≡ refused 16
 unfolding sheet3 everything
 refused-reach = refl
+
+reach-at-its-caps : reachFile sheet7 1 1 Baseline (negsuc 34 ∷ negsuc 31 ∷ pos 29 ∷ pos 0 ∷ pos 35 ∷ pos 32 ∷ pos 39 ∷ pos 0 ∷ []) ≡ answered (negsuc 39 ∷ negsuc 36 ∷ pos 24 ∷ negsuc 4 ∷ pos 40 ∷ pos 37 ∷ pos 36 ∷ pos 5 ∷ []) (negsuc 39 ∷ negsuc 36 ∷ pos 24 ∷ negsuc 4 ∷ pos 40 ∷ pos 37 ∷ pos 39 ∷ pos 5 ∷ []) 1
+unfolding sheet7 everything
+reach-at-its-caps = refl
+
+reach-just-within-its-caps : reachFile sheet7 1 1 (Command (pos 1)) (negsuc 33 ∷ negsuc 30 ∷ pos 38 ∷ pos 0 ∷ pos 34 ∷ pos 31 ∷ pos 38 ∷ pos 0 ∷ []) ≡ answered (negsuc 38 ∷ negsuc 35 ∷ pos 33 ∷ pos 1 ∷ pos 39 ∷ pos 36 ∷ pos 34 ∷ pos 1 ∷ []) (negsuc 38 ∷ negsuc 35 ∷ pos 33 ∷ pos 0 ∷ pos 39 ∷ pos 36 ∷ pos 38 ∷ pos 1 ∷ []) 1
+unfolding sheet7 everything
+reach-just-within-its-caps = refl
+
+reach-beyond-its-caps : reachFile sheet7 1 1 (Command (pos 5)) (pos 34 ∷ pos 38 ∷ negsuc 30 ∷ pos 9 ∷ pos 35 ∷ pos 39 ∷ negsuc 30 ∷ pos 9 ∷ []) ≡ answered (pos 38 ∷ pos 43 ∷ negsuc 25 ∷ pos 14 ∷ pos 40 ∷ pos 44 ∷ negsuc 25 ∷ pos 14 ∷ []) (pos 34 ∷ pos 38 ∷ negsuc 30 ∷ pos 9 ∷ pos 40 ∷ pos 44 ∷ negsuc 25 ∷ pos 14 ∷ []) 1
+unfolding sheet7 everything
+reach-beyond-its-caps = refl
+
+reach-at-its-other-caps : reachFile sheet7 1 1 (Command (negsuc 4)) (negsuc 35 ∷ negsuc 37 ∷ pos 38 ∷ pos 9 ∷ negsuc 34 ∷ negsuc 37 ∷ pos 39 ∷ pos 9 ∷ []) ≡ answered (negsuc 40 ∷ negsuc 42 ∷ pos 33 ∷ pos 4 ∷ negsuc 39 ∷ negsuc 42 ∷ pos 35 ∷ pos 4 ∷ []) (negsuc 40 ∷ negsuc 42 ∷ pos 33 ∷ pos 4 ∷ negsuc 34 ∷ negsuc 37 ∷ pos 39 ∷ pos 9 ∷ []) 1
+unfolding sheet7 everything
+reach-at-its-other-caps = refl
+
+reach-around-zero : reachFile sheet7 1 1 (Command (pos 0)) (negsuc 0 ∷ pos 3 ∷ pos 4 ∷ pos 9 ∷ pos 1 ∷ pos 4 ∷ pos 4 ∷ pos 9 ∷ []) ≡ answered (negsuc 1 ∷ pos 3 ∷ pos 4 ∷ pos 9 ∷ pos 2 ∷ pos 5 ∷ pos 4 ∷ pos 9 ∷ []) (negsuc 1 ∷ pos 3 ∷ pos 4 ∷ pos 9 ∷ pos 2 ∷ pos 5 ∷ pos 4 ∷ pos 9 ∷ []) 1
+unfolding sheet7 everything
+reach-around-zero = refl
+
+reach-just-off-zero : reachFile sheet7 1 1 (Command (negsuc 0)) (pos 1 ∷ negsuc 3 ∷ pos 5 ∷ pos 9 ∷ pos 1 ∷ negsuc 3 ∷ pos 5 ∷ pos 9 ∷ []) ≡ answered (pos 1 ∷ negsuc 4 ∷ pos 4 ∷ pos 8 ∷ pos 2 ∷ negsuc 3 ∷ pos 5 ∷ pos 8 ∷ []) (pos 1 ∷ negsuc 4 ∷ pos 4 ∷ pos 8 ∷ pos 2 ∷ negsuc 3 ∷ pos 5 ∷ pos 9 ∷ []) 1
+unfolding sheet7 everything
+reach-just-off-zero = refl
+
+reach-within-caps-of-three-bands : reachFile sheet8 1 1 Baseline (pos 50 ∷ pos 0 ∷ pos 0 ∷ pos 0 ∷ pos 50 ∷ pos 10 ∷ pos 0 ∷ pos 0 ∷ []) ≡ answered (pos 45 ∷ pos 0 ∷ pos 0 ∷ pos 0 ∷ pos 55 ∷ pos 10 ∷ pos 0 ∷ pos 0 ∷ []) (pos 45 ∷ pos 0 ∷ pos 0 ∷ pos 0 ∷ pos 55 ∷ pos 10 ∷ pos 0 ∷ pos 0 ∷ []) 1
+unfolding sheet8 everything
+reach-within-caps-of-three-bands = refl
+
+reach-within-caps-of-two-bands : reachFile sheet8 1 1 Baseline (pos 50 ∷ pos 4 ∷ pos 0 ∷ pos 0 ∷ pos 50 ∷ pos 10 ∷ pos 0 ∷ pos 0 ∷ []) ≡ answered (pos 54 ∷ pos 4 ∷ pos 0 ∷ pos 0 ∷ pos 55 ∷ pos 10 ∷ pos 0 ∷ pos 0 ∷ []) (pos 50 ∷ pos 4 ∷ pos 0 ∷ pos 0 ∷ pos 55 ∷ pos 10 ∷ pos 0 ∷ pos 0 ∷ []) 1
+unfolding sheet8 everything
+reach-within-caps-of-two-bands = refl
+
+reach-from-cap-to-cap : reachFile sheet9 13 2 Baseline (pos 0 ∷ negsuc 5 ∷ pos 0 ∷ pos 0 ∷ pos 0 ∷ negsuc 4 ∷ pos 0 ∷ pos 0 ∷ []) ≡ answered (negsuc 13 ∷ pos 7 ∷ pos 0 ∷ pos 0 ∷ pos 17 ∷ pos 8 ∷ pos 0 ∷ pos 0 ∷ []) (negsuc 23 ∷ negsuc 5 ∷ pos 0 ∷ pos 0 ∷ pos 17 ∷ pos 8 ∷ pos 0 ∷ pos 0 ∷ []) 15
+unfolding sheet9 everything
+reach-from-cap-to-cap = refl
 
 ticks-0 : reachFile fileA 0 1 Baseline (pos 95 ∷ pos 0 ∷ pos 0 ∷ pos 0 ∷ pos 100 ∷ pos 0 ∷ pos 0 ∷ pos 0 ∷ []) ≡ answered (pos 95 ∷ pos 0 ∷ pos 0 ∷ pos 0 ∷ pos 100 ∷ pos 0 ∷ pos 0 ∷ pos 0 ∷ []) (pos 95 ∷ pos 0 ∷ pos 0 ∷ pos 0 ∷ pos 100 ∷ pos 0 ∷ pos 0 ∷ pos 0 ∷ []) 0
 unfolding everything
@@ -190,3 +235,39 @@ start-beyond-the-edge = refl
 start-from-the-edge : reachFile (sets (sets two-bands 64 (0 ∷ 20 ∷ [])) 68 (0 ∷ 0 ∷ 0 ∷ 40 ∷ [])) 1 1 Baseline (pos 0 ∷ pos 0 ∷ pos 0 ∷ pos 0 ∷ pos 1 ∷ pos 0 ∷ pos 0 ∷ pos 0 ∷ []) ≡ answered (pos 2 ∷ pos 0 ∷ pos 0 ∷ pos 0 ∷ pos 4 ∷ pos 0 ∷ pos 0 ∷ pos 0 ∷ []) (pos 0 ∷ pos 0 ∷ pos 0 ∷ pos 0 ∷ pos 4 ∷ pos 0 ∷ pos 0 ∷ pos 0 ∷ []) 1
 unfolding two-bands everything
 start-from-the-edge = refl
+
+numerator-minus-4096001 : reachFile (sets (sets (sets (sets fileA 20 (3 ∷ 232 ∷ [])) 36 (0 ∷ 0 ∷ [])) 40 (255 ∷ 193 ∷ 127 ∷ 255 ∷ 0 ∷ 0 ∷ 0 ∷ 0 ∷ [])) 48 (16 ∷ 0 ∷ [])) 1 1 Baseline (pos 0 ∷ pos 0 ∷ pos 0 ∷ pos 0 ∷ pos 0 ∷ pos 0 ∷ pos 0 ∷ pos 0 ∷ []) ≡ answered (negsuc 999 ∷ pos 0 ∷ pos 0 ∷ pos 0 ∷ negsuc 999 ∷ pos 0 ∷ pos 0 ∷ pos 0 ∷ []) (negsuc 999 ∷ pos 0 ∷ pos 0 ∷ pos 0 ∷ pos 0 ∷ pos 0 ∷ pos 0 ∷ pos 0 ∷ []) 1
+unfolding everything
+numerator-minus-4096001 = refl
+
+numerator-minus-4096000 : reachFile (sets (sets (sets (sets fileA 20 (3 ∷ 232 ∷ [])) 36 (0 ∷ 0 ∷ [])) 40 (255 ∷ 193 ∷ 128 ∷ 0 ∷ 0 ∷ 0 ∷ 0 ∷ 0 ∷ [])) 48 (16 ∷ 0 ∷ [])) 1 1 Baseline (pos 0 ∷ pos 0 ∷ pos 0 ∷ pos 0 ∷ pos 0 ∷ pos 0 ∷ pos 0 ∷ pos 0 ∷ []) ≡ answered (negsuc 999 ∷ pos 0 ∷ pos 0 ∷ pos 0 ∷ negsuc 999 ∷ pos 0 ∷ pos 0 ∷ pos 0 ∷ []) (negsuc 999 ∷ pos 0 ∷ pos 0 ∷ pos 0 ∷ pos 0 ∷ pos 0 ∷ pos 0 ∷ pos 0 ∷ []) 1
+unfolding everything
+numerator-minus-4096000 = refl
+
+numerator-minus-4095999 : reachFile (sets (sets (sets (sets fileA 20 (3 ∷ 232 ∷ [])) 36 (0 ∷ 0 ∷ [])) 40 (255 ∷ 193 ∷ 128 ∷ 1 ∷ 0 ∷ 0 ∷ 0 ∷ 0 ∷ [])) 48 (16 ∷ 0 ∷ [])) 1 1 Baseline (pos 0 ∷ pos 0 ∷ pos 0 ∷ pos 0 ∷ pos 0 ∷ pos 0 ∷ pos 0 ∷ pos 0 ∷ []) ≡ answered (negsuc 999 ∷ pos 0 ∷ pos 0 ∷ pos 0 ∷ negsuc 998 ∷ pos 0 ∷ pos 0 ∷ pos 0 ∷ []) (negsuc 999 ∷ pos 0 ∷ pos 0 ∷ pos 0 ∷ pos 0 ∷ pos 0 ∷ pos 0 ∷ pos 0 ∷ []) 1
+unfolding everything
+numerator-minus-4095999 = refl
+
+numerator-4095999 : reachFile (sets (sets (sets (sets fileA 20 (3 ∷ 232 ∷ [])) 36 (0 ∷ 0 ∷ [])) 40 (0 ∷ 62 ∷ 127 ∷ 255 ∷ 0 ∷ 0 ∷ 0 ∷ 0 ∷ [])) 48 (16 ∷ 0 ∷ [])) 1 1 Baseline (pos 0 ∷ pos 0 ∷ pos 0 ∷ pos 0 ∷ pos 0 ∷ pos 0 ∷ pos 0 ∷ pos 0 ∷ []) ≡ answered (pos 999 ∷ pos 0 ∷ pos 0 ∷ pos 0 ∷ pos 1000 ∷ pos 0 ∷ pos 0 ∷ pos 0 ∷ []) (pos 0 ∷ pos 0 ∷ pos 0 ∷ pos 0 ∷ pos 1000 ∷ pos 0 ∷ pos 0 ∷ pos 0 ∷ []) 1
+unfolding everything
+numerator-4095999 = refl
+
+numerator-4096000 : reachFile (sets (sets (sets (sets fileA 20 (3 ∷ 232 ∷ [])) 36 (0 ∷ 0 ∷ [])) 40 (0 ∷ 62 ∷ 128 ∷ 0 ∷ 0 ∷ 0 ∷ 0 ∷ 0 ∷ [])) 48 (16 ∷ 0 ∷ [])) 1 1 Baseline (pos 0 ∷ pos 0 ∷ pos 0 ∷ pos 0 ∷ pos 0 ∷ pos 0 ∷ pos 0 ∷ pos 0 ∷ []) ≡ answered (pos 1000 ∷ pos 0 ∷ pos 0 ∷ pos 0 ∷ pos 1000 ∷ pos 0 ∷ pos 0 ∷ pos 0 ∷ []) (pos 0 ∷ pos 0 ∷ pos 0 ∷ pos 0 ∷ pos 1000 ∷ pos 0 ∷ pos 0 ∷ pos 0 ∷ []) 1
+unfolding everything
+numerator-4096000 = refl
+
+numerator-4096001 : reachFile (sets (sets (sets (sets fileA 20 (3 ∷ 232 ∷ [])) 36 (0 ∷ 0 ∷ [])) 40 (0 ∷ 62 ∷ 128 ∷ 1 ∷ 0 ∷ 0 ∷ 0 ∷ 0 ∷ [])) 48 (16 ∷ 0 ∷ [])) 1 1 Baseline (pos 0 ∷ pos 0 ∷ pos 0 ∷ pos 0 ∷ pos 0 ∷ pos 0 ∷ pos 0 ∷ pos 0 ∷ []) ≡ answered (pos 1000 ∷ pos 0 ∷ pos 0 ∷ pos 0 ∷ pos 1000 ∷ pos 0 ∷ pos 0 ∷ pos 0 ∷ []) (pos 0 ∷ pos 0 ∷ pos 0 ∷ pos 0 ∷ pos 1000 ∷ pos 0 ∷ pos 0 ∷ pos 0 ∷ []) 1
+unfolding everything
+numerator-4096001 = refl
+
+spread-4095999 : reachFile (sets (sets (sets (sets fileA 20 (3 ∷ 232 ∷ [])) 36 (0 ∷ 0 ∷ [])) 40 (0 ∷ 0 ∷ 0 ∷ 0 ∷ 0 ∷ 62 ∷ 127 ∷ 255 ∷ [])) 48 (16 ∷ 0 ∷ [])) 1 1 Baseline (pos 0 ∷ pos 0 ∷ pos 0 ∷ pos 0 ∷ pos 0 ∷ pos 0 ∷ pos 0 ∷ pos 0 ∷ []) ≡ answered (negsuc 999 ∷ pos 0 ∷ pos 0 ∷ pos 0 ∷ pos 1000 ∷ pos 0 ∷ pos 0 ∷ pos 0 ∷ []) (negsuc 999 ∷ pos 0 ∷ pos 0 ∷ pos 0 ∷ pos 1000 ∷ pos 0 ∷ pos 0 ∷ pos 0 ∷ []) 1
+unfolding everything
+spread-4095999 = refl
+
+spread-4096000 : reachFile (sets (sets (sets (sets fileA 20 (3 ∷ 232 ∷ [])) 36 (0 ∷ 0 ∷ [])) 40 (0 ∷ 0 ∷ 0 ∷ 0 ∷ 0 ∷ 62 ∷ 128 ∷ 0 ∷ [])) 48 (16 ∷ 0 ∷ [])) 1 1 Baseline (pos 0 ∷ pos 0 ∷ pos 0 ∷ pos 0 ∷ pos 0 ∷ pos 0 ∷ pos 0 ∷ pos 0 ∷ []) ≡ answered (negsuc 999 ∷ pos 0 ∷ pos 0 ∷ pos 0 ∷ pos 1000 ∷ pos 0 ∷ pos 0 ∷ pos 0 ∷ []) (negsuc 999 ∷ pos 0 ∷ pos 0 ∷ pos 0 ∷ pos 1000 ∷ pos 0 ∷ pos 0 ∷ pos 0 ∷ []) 1
+unfolding everything
+spread-4096000 = refl
+
+spread-4096001 : reachFile (sets (sets (sets (sets fileA 20 (3 ∷ 232 ∷ [])) 36 (0 ∷ 0 ∷ [])) 40 (0 ∷ 0 ∷ 0 ∷ 0 ∷ 0 ∷ 62 ∷ 128 ∷ 1 ∷ [])) 48 (16 ∷ 0 ∷ [])) 1 1 Baseline (pos 0 ∷ pos 0 ∷ pos 0 ∷ pos 0 ∷ pos 0 ∷ pos 0 ∷ pos 0 ∷ pos 0 ∷ []) ≡ answered (negsuc 999 ∷ pos 0 ∷ pos 0 ∷ pos 0 ∷ pos 1000 ∷ pos 0 ∷ pos 0 ∷ pos 0 ∷ []) (negsuc 999 ∷ pos 0 ∷ pos 0 ∷ pos 0 ∷ pos 1000 ∷ pos 0 ∷ pos 0 ∷ pos 0 ∷ []) 1
+unfolding everything
+spread-4096001 = refl

@@ -2,7 +2,7 @@
 //! Each one names what it covers, and the program stops where it does not cover it.
 
 use second_guard::boxes::StateBox;
-use second_guard::changes::{Change, Place};
+use second_guard::changes::{At, Change, Place, AT};
 use second_guard::decision::{
     check_recovery_watched, decide, decide_watched, read_question, Decision, Faults, Question,
     RecoveryCheck,
@@ -40,6 +40,8 @@ enum Covers {
     Clamped,
     /// A change strictly between its caps.
     Unclamped,
+    /// Changes of such faces whose N - d or N + d lies just there.
+    Numerators(Face, &'static [At]),
     /// A step that begins again so often.
     Halvings(u32),
     Keep,
@@ -67,14 +69,14 @@ enum Covers {
     Refused(u8),
 }
 
+const CUT_TWICE: &str = "a neighborhood of the band variable cut by its depth and by an edge";
+
 impl Covers {
     fn text(self) -> String {
         match self {
             Covers::Variables(n) => format!("n = {n}"),
             Covers::BandsMet(bands) => format!("a neighborhood over {bands} bands"),
-            Covers::CutTwice => {
-                "a neighborhood of the band variable cut by its depth and by an edge".into()
-            }
+            Covers::CutTwice => CUT_TWICE.into(),
             Covers::EndsAtEdge => "a neighborhood up to an edge".into(),
             Covers::EndsBelowEdge => "a neighborhood up to just below an edge".into(),
             Covers::OtherBoxesBefore => "other boxes before paper 3".into(),
@@ -86,6 +88,7 @@ impl Covers {
             Covers::NegativeCoefficient => "negative coefficients".into(),
             Covers::Clamped => "clamped changes".into(),
             Covers::Unclamped => "unclamped changes".into(),
+            Covers::Numerators(face, places) => numerators_text(face, places),
             Covers::Halvings(times) => format!("a step that halves {times} times"),
             Covers::Keep => "keep".into(),
             Covers::Finest => "finest".into(),
@@ -110,7 +113,18 @@ impl Covers {
     }
 }
 
-/// What all examples together must show.
+/// Numerators as they are written.
+fn numerators_text(face: Face, places: &[At]) -> String {
+    let text = |place: &At| AT.iter().find(|(at, _)| at == place).map(|(_, text)| *text);
+    let texts: Vec<&str> = places.iter().filter_map(text).collect();
+    let sign = match face {
+        Face::Lower => "-",
+        Face::Upper => "+",
+    };
+    format!("N {sign} d at {}", texts.join(", "))
+}
+
+/// What all examples together must show, besides all numerators of `AT` on either face.
 const REQUIRED: &[Covers] = &[
     Covers::Variables(1),
     Covers::Variables(2),
@@ -162,9 +176,20 @@ struct Counts {
     ends_below_edge: bool,
     clamped: u64,
     unclamped: u64,
+    changes: Vec<Change>,
     halvings: u32,
     most_halvings: u32,
     steps: Vec<Step>,
+}
+
+impl Counts {
+    /// A face of this kind had its numerator at each of the places.
+    fn all_at(&self, face: Face, places: &[At]) -> bool {
+        let of_face = || self.changes.iter().filter(|change| change.face == face);
+        places
+            .iter()
+            .all(|&at| of_face().any(|change| change.is_at(at)))
+    }
 }
 
 impl Watch for Counts {
@@ -182,6 +207,7 @@ impl Watch for Counts {
             Place::Between => self.unclamped += 1,
             Place::Least | Place::Greatest => self.clamped += 1,
         }
+        self.changes.push(change);
     }
 
     fn halved(&mut self, _ticks: u32) {
@@ -766,6 +792,246 @@ fn examples() -> Vec<Example> {
     ]
 }
 
+/// Four variables with cap 5 and divisor 7, so that q*cap is 35: x/7, (x ± 3)/7, (4 - x)/7, and the
+/// command, of which the plain law has any.
+fn sevenths() -> Sheet {
+    with(
+        head(0, (1, 1, 1), (-5, 5), [5, 5, 5, 5]),
+        [band(
+            FIRST,
+            (-5, 5),
+            [
+                row([1, 0, 0, 0], 0, 0, 0, 7),
+                row([0, 1, 0, 0], 0, 0, 3, 7),
+                row([0, 0, -1, 0], 0, 4, 0, 7),
+                row([0, 0, 0, 0], 7, 0, 0, 7),
+            ],
+        )],
+        [sides([(500, 500), (500, 500), (500, 500), (500, 500)])],
+        sides([(-100, 100), (-100, 100), (-100, 100), (-100, 100)]),
+    )
+}
+
+/// A reach on that sheet: its name, the command or none for the plain law, the start box, and where
+/// N - d and N + d lie.
+type Seventh = (
+    &'static str,
+    Option<i32>,
+    [(i64, i64); 4],
+    &'static [At],
+    &'static [At],
+);
+
+const SEVENTHS: &[Seventh] = &[
+    (
+        "reach_at_its_caps",
+        None,
+        [(-35, 35), (-32, 32), (29, 39), (0, 0)],
+        &[At::MinusLimit],
+        &[At::Limit],
+    ),
+    (
+        "reach_just_within_its_caps",
+        Some(1),
+        [(-34, 34), (-31, 31), (38, 38), (0, 0)],
+        &[At::AboveMinusLimit, At::Divisor],
+        &[At::AboveMinusLimit, At::Divisor, At::BelowLimit],
+    ),
+    (
+        "reach_beyond_its_caps",
+        Some(5),
+        [(34, 35), (38, 39), (-31, -31), (9, 9)],
+        &[At::BelowLimit, At::Limit],
+        &[At::Limit],
+    ),
+    (
+        "reach_at_its_other_caps",
+        Some(-5),
+        [(-36, -35), (-38, -38), (38, 39), (9, 9)],
+        &[At::MinusLimit],
+        &[At::MinusLimit, At::AboveMinusLimit],
+    ),
+    (
+        "reach_around_zero",
+        Some(0),
+        [(-1, 1), (3, 4), (4, 4), (9, 9)],
+        &[At::MinusOne, At::Zero],
+        &[At::Zero, At::One],
+    ),
+    (
+        "reach_just_off_zero",
+        Some(-1),
+        [(1, 1), (-4, -4), (5, 5), (9, 9)],
+        &[At::MinusDivisor, At::MinusOne, At::One],
+        &[At::MinusDivisor, At::MinusOne, At::One],
+    ),
+];
+
+/// Changes at their caps, next to them and around zero, over one band.
+fn changes_at_places() -> Vec<Example> {
+    let example = |&(name, command, start, below, above): &Seventh| {
+        let (law, under) = match command {
+            Some(command) => (Law::Command(command), Covers::UnderCommand),
+            None => (Law::Baseline, Covers::UnderBaseline),
+        };
+        Example {
+            name,
+            sheet: sevenths(),
+            call: Call::Reach {
+                ticks: 1,
+                width: 1,
+                law,
+                start: sides(start),
+            },
+            covers: vec![
+                under,
+                Covers::Numerators(Face::Lower, below),
+                Covers::Numerators(Face::Upper, above),
+            ],
+        }
+    };
+    SEVENTHS.iter().map(example).collect()
+}
+
+/// x0 is pushed by a number of each band of x1, all of them just within their caps: -34 of 35, 4 of
+/// 5 and 20,479 of 20,480. x1 is still.
+fn pushes() -> Sheet {
+    let still = row([0, 0], 0, 0, 0, 1);
+    let push = |edge, c, q| band(edge, (0, 0), [row([0, 0], 0, c, 0, q), still]);
+    with(
+        head(1, (1, 1, 1), (0, 0), [5, 5]),
+        [push(FIRST, -34, 7), push(4, 4, 1), push(8, 20_479, 4_096)],
+        [sides([(500, 600), (500, 600)])],
+        sides([(-100, 100), (-100, 100)]),
+    )
+}
+
+/// x1 grows by 1 in a tick, and x0 by about x1, with cap 5. Each band has another divisor.
+fn passing() -> Sheet {
+    let grow = row([0, 0], 0, 2, 0, 2);
+    let follow = |edge, a, c, d, q| band(edge, (0, 0), [row([0, a], 0, c, d, q), grow]);
+    with(
+        head(1, (1, 1, 1), (0, 0), [5, 5]),
+        [
+            follow(FIRST, 7, -3, 4, 7),
+            follow(-2, 3, 0, 0, 3),
+            follow(3, 9, -5, 5, 9),
+        ],
+        [sides([(500, 600), (500, 600)])],
+        sides([(-100, 100), (-100, 100)]),
+    )
+}
+
+/// A reach over bands: its name, ticks and width, the start box, the bands met, and where N - d and
+/// N + d lie.
+type OverBands = (
+    &'static str,
+    (u32, u32),
+    [(i64, i64); 2],
+    usize,
+    &'static [At],
+    &'static [At],
+);
+
+const PUSHES: &[OverBands] = &[
+    (
+        "reach_within_caps_of_three_bands",
+        (1, 1),
+        [(50, 50), (0, 10)],
+        3,
+        &[At::AboveMinusLimit, At::Zero, At::BelowLimit],
+        &[At::AboveMinusLimit, At::Zero, At::BelowLimit],
+    ),
+    (
+        "reach_within_caps_of_two_bands",
+        (1, 1),
+        [(50, 50), (4, 10)],
+        2,
+        &[At::BelowLimit],
+        &[At::BelowLimit],
+    ),
+];
+
+const PASSING: OverBands = (
+    "reach_from_cap_to_cap",
+    (13, 2),
+    [(0, 0), (-6, -5)],
+    2,
+    &[At::MinusLimit, At::Zero, At::BelowLimit],
+    &[At::AboveMinusLimit, At::MinusDivisor, At::Zero, At::Limit],
+);
+
+/// The same over several bands.
+fn changes_over_bands() -> Vec<Example> {
+    let example =
+        |sheet, &(name, (ticks, width), start, bands, below, above): &OverBands| Example {
+            name,
+            sheet,
+            call: Call::Reach {
+                ticks,
+                width,
+                law: Law::Baseline,
+                start: sides(start),
+            },
+            covers: vec![
+                Covers::BandsMet(bands),
+                Covers::Numerators(Face::Lower, below),
+                Covers::Numerators(Face::Upper, above),
+            ],
+        };
+    let pushed = PUSHES.iter().map(|reach| example(pushes(), reach));
+    pushed.chain([example(passing(), &PASSING)]).collect()
+}
+
+/// x/7 or the like, one variable, with cap 5.
+fn one_row(row: Row, recovery: (i64, i64)) -> Sheet {
+    with(
+        head(0, (1, 1, 1), (0, 0), [5]),
+        [band(FIRST, (0, 0), [row])],
+        [sides([(100, 200)])],
+        sides([recovery]),
+    )
+}
+
+/// Decisions that such a change decides: 30 grows by 4 to 34 and by 4 to 38, 31 by 5 to 36 and by 5
+/// to 41.
+fn decisions_at_places() -> Vec<Example> {
+    let asked = |name, recovery, answer| Example {
+        name,
+        sheet: one_row(row([1], 0, 0, 0, 7), recovery),
+        call: Call::Decide {
+            allowance: 10,
+            command: 0,
+            measured: sides([(30, 31)]),
+        },
+        covers: vec![answer, Covers::Numerators(Face::Lower, &[At::BelowLimit])],
+    };
+    vec![
+        asked("kept_just_within_the_caps", (38, 41), Covers::Keep),
+        asked("handed_over_just_within_the_caps", (39, 41), Covers::Finest),
+    ]
+}
+
+/// Recovery checks likewise: -x/7, which at a depth of 10 is 0, and the same with a spread of 1.
+fn checks_at_places() -> Vec<Example> {
+    let checked = |name, d, answer, below, above| Example {
+        name,
+        sheet: one_row(row([-1], 0, 0, d, 7), (-10, 10)),
+        call: Call::Check,
+        covers: vec![
+            answer,
+            Covers::Numerators(Face::Lower, below),
+            Covers::Numerators(Face::Upper, above),
+        ],
+    };
+    let (zero, below, above) = (&[At::Zero], &[At::MinusOne], &[At::One]);
+    let (passes, fails) = (Covers::CheckPasses, Covers::CheckFails);
+    vec![
+        checked("check_passes_at_zero", 0, passes, zero, zero),
+        checked("check_fails_just_off_zero", 1, fails, below, above),
+    ]
+}
+
 fn hex(bytes: &[u8]) -> String {
     bytes.iter().fold(String::new(), |mut text, byte| {
         let _ = write!(text, "{byte:02x}");
@@ -1010,6 +1276,7 @@ fn shows(covers: Covers, example: &Example, answer: &Answer) -> bool {
         }
         Covers::Clamped => counts.clamped > 0,
         Covers::Unclamped => counts.unclamped > 0,
+        Covers::Numerators(face, places) => counts.all_at(face, places),
         Covers::Halvings(times) => counts.most_halvings == times,
         Covers::Keep => decided(0),
         Covers::Finest => decided(1),
@@ -1108,34 +1375,32 @@ fn line(example: &Example, bytes: &[u8], answer: &Answer) -> String {
     line
 }
 
-fn main() {
-    println!("# Worked examples, as printed by the program `print_examples`. A line has a name, the call,");
-    println!("# its bytes in hex, and the answer. Law 0 is the plain law, law 1 the command.");
-    println!("# Codes: 0 keep or pass, 1 finest or fail, 2 spent.");
-    let mut covered = Vec::new();
-    for example in examples() {
-        let bytes = sheet_bytes(&example.sheet);
-        let answer = answer(&bytes, &example.call, example.sheet.n());
+/// Prints an example; the program stops where it does not show what it names.
+fn print(example: &Example) {
+    let bytes = sheet_bytes(&example.sheet);
+    let answer = answer(&bytes, &example.call, example.sheet.n());
+    assert!(
+        answer.rounds <= ROUNDS,
+        "{} takes {} rounds",
+        example.name,
+        answer.rounds
+    );
+    for &covers in &example.covers {
         assert!(
-            answer.rounds <= ROUNDS,
-            "{} takes {} rounds",
+            shows(covers, example, &answer),
+            "{} does not show: {}",
             example.name,
-            answer.rounds
+            covers.text()
         );
-        let texts: Vec<String> = example.covers.iter().map(|covers| covers.text()).collect();
-        for &covers in &example.covers {
-            assert!(
-                shows(covers, &example, &answer),
-                "{} does not show: {}",
-                example.name,
-                covers.text()
-            );
-            covered.push(covers);
-        }
-        println!();
-        println!("# {}", texts.join("; "));
-        println!("{}", line(&example, &bytes, &answer));
     }
+    let texts: Vec<String> = example.covers.iter().map(|covers| covers.text()).collect();
+    println!();
+    println!("# {}", texts.join("; "));
+    println!("{}", line(example, &bytes, &answer));
+}
+
+/// Stops where all examples together leave something out.
+fn require(covered: &[Covers]) {
     for covers in REQUIRED {
         assert!(
             covered.contains(covers),
@@ -1143,4 +1408,31 @@ fn main() {
             covers.text()
         );
     }
+    for face in [Face::Lower, Face::Upper] {
+        for (at, _) in AT {
+            let shown = covered.iter().any(
+                |c| matches!(c, Covers::Numerators(f, places) if *f == face && places.contains(&at)),
+            );
+            assert!(shown, "no example shows {}", numerators_text(face, &[at]));
+        }
+    }
+}
+
+fn main() {
+    println!("# Worked examples, as printed by the program `print_examples`. A line has a name, the call,");
+    println!("# its bytes in hex, and the answer. Law 0 is the plain law, law 1 the command.");
+    println!("# Codes: 0 keep or pass, 1 finest or fail, 2 spent.");
+    let all = [
+        examples(),
+        changes_at_places(),
+        changes_over_bands(),
+        decisions_at_places(),
+        checks_at_places(),
+    ];
+    let mut covered = Vec::new();
+    for example in all.iter().flatten() {
+        print(example);
+        covered.extend(&example.covers);
+    }
+    require(&covered);
 }

@@ -1,9 +1,9 @@
 //! Prints `limits.txt`: numbers at each of document 01's bounds and one past it, the first of two refusals, and listings,
 //! with the answers of the second guard. Each line says by which number it is refused, and the program stops where it is not.
 
+use second_guard::boxes::StateBox;
 use second_guard::decision::{decide, Decision};
 use second_guard::listing::listing;
-use second_guard::boxes::StateBox;
 use second_guard::reach::{reach, Law};
 use second_guard::sheet::{self, Refusal, Sheet};
 use std::fmt::Write;
@@ -379,6 +379,35 @@ fn reaches() -> Vec<Reach> {
     ]
 }
 
+/// A tick in which x changes by c / 4,096, give or take the spread, with cap 1,000: the largest numerators that are divided, and
+/// the least that are not.
+fn largest_changes() -> Vec<Reach> {
+    let by = |name, c, d| Reach {
+        name,
+        sheet: a()
+            .number(20, 2, 1_000)
+            .number(36, 2, 0)
+            .with(40, &numbers(&[c, d]))
+            .number(48, 2, 4_096),
+        ticks: 1,
+        width: 1,
+        law: Law::Baseline,
+        start: (0, 0),
+        refusal: 0,
+    };
+    vec![
+        by("numerator_minus_4096001", -4_096_001, 0),
+        by("numerator_minus_4096000", -4_096_000, 0),
+        by("numerator_minus_4095999", -4_095_999, 0),
+        by("numerator_4095999", 4_095_999, 0),
+        by("numerator_4096000", 4_096_000, 0),
+        by("numerator_4096001", 4_096_001, 0),
+        by("spread_4095999", 0, 4_095_999),
+        by("spread_4096000", 0, 4_096_000),
+        by("spread_4096001", 0, 4_096_001),
+    ]
+}
+
 /// The box of one variable.
 fn interval(sides: (i32, i32)) -> StateBox {
     StateBox {
@@ -388,7 +417,7 @@ fn interval(sides: (i32, i32)) -> StateBox {
 }
 
 fn print_reaches() {
-    for example in reaches() {
+    for example in reaches().into_iter().chain(largest_changes()) {
         let Reach {
             name,
             sheet,
