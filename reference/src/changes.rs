@@ -29,18 +29,50 @@ pub enum At {
     Limit,
 }
 
-/// Each with how it is written.
-pub const AT: [(At, &str); 9] = [
-    (At::MinusLimit, "-q*cap"),
-    (At::AboveMinusLimit, "-q*cap + 1"),
-    (At::MinusDivisor, "-q"),
-    (At::MinusOne, "-1"),
-    (At::Zero, "0"),
-    (At::One, "1"),
-    (At::Divisor, "q"),
-    (At::BelowLimit, "q*cap - 1"),
-    (At::Limit, "q*cap"),
+/// All of them.
+pub const ALL_AT: [At; 9] = [
+    At::MinusLimit,
+    At::AboveMinusLimit,
+    At::MinusDivisor,
+    At::MinusOne,
+    At::Zero,
+    At::One,
+    At::Divisor,
+    At::BelowLimit,
+    At::Limit,
 ];
+
+impl At {
+    pub fn numerator(self, q: i32, cap: i32) -> i64 {
+        let (divisor, limit) = (i64::from(q), limit(q, cap));
+        match self {
+            At::MinusLimit => -limit,
+            At::AboveMinusLimit => 1 - limit,
+            At::MinusDivisor => -divisor,
+            At::MinusOne => -1,
+            At::Zero => 0,
+            At::One => 1,
+            At::Divisor => divisor,
+            At::BelowLimit => limit - 1,
+            At::Limit => limit,
+        }
+    }
+
+    /// The numerator as it is written.
+    pub fn text(self) -> &'static str {
+        match self {
+            At::MinusLimit => "-q*cap",
+            At::AboveMinusLimit => "-q*cap + 1",
+            At::MinusDivisor => "-q",
+            At::MinusOne => "-1",
+            At::Zero => "0",
+            At::One => "1",
+            At::Divisor => "q",
+            At::BelowLimit => "q*cap - 1",
+            At::Limit => "q*cap",
+        }
+    }
+}
 
 /// What a face of a variable looks at in one band.
 #[derive(Clone, Copy, Debug, PartialEq, Eq)]
@@ -82,18 +114,6 @@ impl Change {
 
     /// The numerator lies just there.
     pub fn is_at(&self, at: At) -> bool {
-        let (q, limit) = (i64::from(self.q), self.limit());
-        let place = match at {
-            At::MinusLimit => -limit,
-            At::AboveMinusLimit => 1 - limit,
-            At::MinusDivisor => -q,
-            At::MinusOne => -1,
-            At::Zero => 0,
-            At::One => 1,
-            At::Divisor => q,
-            At::BelowLimit => limit - 1,
-            At::Limit => limit,
-        };
-        self.numerator == place
+        self.numerator == at.numerator(self.q, self.cap)
     }
 }

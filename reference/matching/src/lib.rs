@@ -3,6 +3,7 @@
 
 pub use guard_bindings as archive;
 
+pub mod aim;
 pub mod expected;
 pub mod fences;
 pub mod generate;

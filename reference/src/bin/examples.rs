@@ -2,7 +2,7 @@
 //! Each one names what it covers, and the program stops where it does not cover it.
 
 use second_guard::boxes::StateBox;
-use second_guard::changes::{At, Change, Place, AT};
+use second_guard::changes::{At, Change, Place, ALL_AT};
 use second_guard::decision::{
     check_recovery_watched, decide, decide_watched, read_question, Decision, Faults, Question,
     RecoveryCheck,
@@ -115,8 +115,7 @@ impl Covers {
 
 /// Numerators as they are written.
 fn numerators_text(face: Face, places: &[At]) -> String {
-    let text = |place: &At| AT.iter().find(|(at, _)| at == place).map(|(_, text)| *text);
-    let texts: Vec<&str> = places.iter().filter_map(text).collect();
+    let texts: Vec<&str> = places.iter().map(|at| at.text()).collect();
     let sign = match face {
         Face::Lower => "-",
         Face::Upper => "+",
@@ -124,7 +123,7 @@ fn numerators_text(face: Face, places: &[At]) -> String {
     format!("N {sign} d at {}", texts.join(", "))
 }
 
-/// What all examples together must show, besides all numerators of `AT` on either face.
+/// What all examples together must show, besides all numerators of `ALL_AT` on either face.
 const REQUIRED: &[Covers] = &[
     Covers::Variables(1),
     Covers::Variables(2),
@@ -1409,7 +1408,7 @@ fn require(covered: &[Covers]) {
         );
     }
     for face in [Face::Lower, Face::Upper] {
-        for (at, _) in AT {
+        for at in ALL_AT {
             let shown = covered.iter().any(
                 |c| matches!(c, Covers::Numerators(f, places) if *f == face && places.contains(&at)),
             );

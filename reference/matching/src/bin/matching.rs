@@ -2,6 +2,7 @@
 //! bytes written, recovery checks, decisions and reach boxes. It fails where an answer differs
 //! or a kind of case is too rare.
 
+use matching::aim::{aimed, PLACES};
 use matching::archive::format::{
     reach_length, slot_band, slot_unsafe, LONGEST_SHEET, NUMBERS, SLOT_BAND, SLOT_CAPS,
     SLOT_RECOVERY,
@@ -17,6 +18,7 @@ use matching::random::Random;
 use matching::spoil::{damage, damage_number, number_fault, question_fault, sheet_fault, Fault};
 use matching::tally::{hex, KindId, Tally};
 use second_guard::boxes::StateBox;
+use second_guard::changes::Change;
 use second_guard::decision::{
     check_recovery_watched, decide_watched, read_question, trace, Decision, Faults, Question,
     RecoveryCheck,
@@ -28,10 +30,11 @@ use std::collections::HashMap;
 use std::ops::ControlFlow;
 use std::time::Instant;
 
-/// How many sheets of everyday times, of long times at most, and of slow growth.
+/// How many sheets of everyday times, of long times at most, of slow growth, and aimed at caps.
 const SHEETS: usize = 30_000;
 const LONG_SHEETS: usize = 20_000;
 const SLOW_SHEETS: usize = 3_000;
+const AIMED_SHEETS: usize = 16_000;
 /// Long sheets go on until each number of halvings has so many keeps.
 const LONG_KEEPS: u64 = 400;
 /// So many of each pair of faults and of each damage.
@@ -49,6 +52,14 @@ const EDGE_AT: [(Face, i64, &str); EDGES] = [
     (Face::Upper, 1, "neighborhood up to just below an edge"),
 ];
 
+/// A numerator is counted where q·cap is at least this, so that few are met by chance; and once more
+/// where q·cap is the greatest that there is.
+const LEAST_LIMIT: i64 = 1_000;
+const GREATEST_LIMIT: i64 = 4_096_000;
+
+/// What a lower and an upper face look at.
+const LOOKS_AT: [&str; 2] = ["N - d", "N + d"];
+
 /// What a decision did on the way.
 #[derive(Default)]
 struct Sight {
@@ -56,11 +67,28 @@ struct Sight {
     cut_twice: bool,
     /// A neighborhood has an edge on its lower or upper side, or just above it.
     edge_at: [bool; EDGES],
+    /// A face has its numerator just there; also with the greatest q·cap.
+    numerator_at: [[bool; PLACES.len()]; 2],
+    greatest_at: [bool; PLACES.len()],
     halvings: u32,
     most_halvings: u32,
 }
 
 impl Watch for Sight {
+    fn change(&mut self, change: Change) {
+        let (size, limit) = (change.numerator.abs(), change.limit());
+        let off = size > 1 && !(limit - 1..=limit).contains(&size);
+        if limit < LEAST_LIMIT || off {
+            return;
+        }
+        let face = usize::from(change.face == Face::Upper);
+        for (place, at) in PLACES.into_iter().enumerate() {
+            let seen = change.is_at(at);
+            self.numerator_at[face][place] |= seen;
+            self.greatest_at[place] |= seen && limit == GREATEST_LIMIT;
+        }
+    }
+
     fn round(&mut self, sheet: &Sheet, start: &StateBox, enclosure: &StateBox, ticks: u32) {
         for around in neighborhoods(sheet, start, enclosure, ticks) {
             self.most_bands = self.most_bands.max(around.bands.len());
@@ -95,6 +123,8 @@ struct Kinds {
     three_bands: KindId,
     cut_twice: KindId,
     edge_at: [KindId; EDGES],
+    numerator_at: [[KindId; PLACES.len()]; 2],
+    greatest_at: [KindId; PLACES.len()],
     other_before: KindId,
     halved_twice: KindId,
     many_rounds: KindId,
@@ -140,6 +170,13 @@ impl Kinds {
             three_bands: tally.kind("neighborhood over three bands or more", 200),
             cut_twice: tally.kind("band variable's neighborhood cut by depth and edge", 2_000),
             edge_at: EDGE_AT.map(|(_, _, name)| tally.kind(name, 2_000)),
+            numerator_at: LOOKS_AT.map(|looks_at| {
+                PLACES.map(|at| tally.kind(format!("{looks_at} at {}", at.text()), 2_000))
+            }),
+            greatest_at: PLACES.map(|at| {
+                let name = format!("q*cap 4,096,000: N - d or N + d at {}", at.text());
+                tally.kind(name, 1_000)
+            }),
             other_before: tally.kind("another answer before paper 3 of document 02", 2_000),
             halved_twice: tally.kind("a step halves twice or more", 200),
             many_rounds: tally.kind("decisions of over 100,000 rounds", 3),
@@ -172,6 +209,45 @@ impl Kinds {
                 .collect(),
             pairs: HashMap::new(),
         }
+    }
+
+    /// The kinds of an answer on a sheet.
+    fn of_answer(&self, sheet: &Sheet, decision: Decision) -> Vec<KindId> {
+        let (mut kinds, rounds) = match decision {
+            Decision::Keep { width, rounds } => {
+                let turn = widths(sheet).iter().position(|&w| w == width);
+                let turn = turn.expect("a width of the sheet");
+                (vec![self.keep, self.keep_after[turn]], rounds)
+            }
+            Decision::Finest { rounds, .. } => (vec![self.finest], rounds),
+            Decision::Spent { width, rounds } if width < widths(sheet)[0] => {
+                (vec![self.spent, self.spent_lower], rounds)
+            }
+            Decision::Spent { rounds, .. } => (vec![self.spent], rounds),
+            Decision::Refused(_) => unreachable!("sheet and question are in range"),
+        };
+        if rounds > 100_000 {
+            kinds.push(self.many_rounds);
+        }
+        kinds
+    }
+
+    /// The kinds of what a decision did on the way.
+    fn of_sight(&self, sight: &Sight) -> Vec<KindId> {
+        let places = sight.numerator_at.iter().flatten();
+        let greatest = sight.greatest_at.iter().zip(&self.greatest_at);
+        let seen = [
+            (&(sight.most_bands == 2), &self.two_bands),
+            (&(sight.most_bands > 2), &self.three_bands),
+            (&sight.cut_twice, &self.cut_twice),
+            (&(sight.most_halvings >= 2), &self.halved_twice),
+        ];
+        seen.into_iter()
+            .chain(sight.edge_at.iter().zip(&self.edge_at))
+            .chain(places.zip(self.numerator_at.iter().flatten()))
+            .chain(greatest)
+            .filter_map(|(&seen, &kind)| seen.then_some(kind))
+            .collect()
     }
 }
 
@@ -357,51 +433,10 @@ impl Matching {
         let decision = decide_watched(sheet, question, Faults::default(), &mut sight);
         debug_assert_eq!(read_question(sheet, &question_bytes), Ok(*question));
         let mut kinds = vec![self.kinds.decisions, self.kinds.by_variables[sheet.n() - 1]];
-        let first = sheet.delta.max(sheet.alpha) as u32;
-        match decision {
-            Decision::Keep { width, rounds } => {
-                kinds.push(self.kinds.keep);
-                let turn = widths(sheet).iter().position(|&w| w == width);
-                kinds.push(self.kinds.keep_after[turn.expect("a width of the sheet")]);
-                if rounds > 100_000 {
-                    kinds.push(self.kinds.many_rounds);
-                }
-            }
-            Decision::Finest { rounds, .. } => {
-                kinds.push(self.kinds.finest);
-                if rounds > 100_000 {
-                    kinds.push(self.kinds.many_rounds);
-                }
-            }
-            Decision::Spent { width, rounds } => {
-                kinds.push(self.kinds.spent);
-                if width < first {
-                    kinds.push(self.kinds.spent_lower);
-                }
-                if rounds > 100_000 {
-                    kinds.push(self.kinds.many_rounds);
-                }
-            }
-            Decision::Refused(_) => unreachable!("sheet and question are in range"),
-        }
-        if sight.most_bands == 2 {
-            kinds.push(self.kinds.two_bands);
-        } else if sight.most_bands > 2 {
-            kinds.push(self.kinds.three_bands);
-        }
-        if sight.cut_twice {
-            kinds.push(self.kinds.cut_twice);
-        }
-        for (&seen, &kind) in sight.edge_at.iter().zip(&self.kinds.edge_at) {
-            if seen {
-                kinds.push(kind);
-            }
-        }
+        kinds.extend(self.kinds.of_answer(sheet, decision));
+        kinds.extend(self.kinds.of_sight(&sight));
         if expected::decide_before(bytes, &question_bytes) != Answer(decision.pack()) {
             kinds.push(self.kinds.other_before);
-        }
-        if sight.most_halvings >= 2 {
-            kinds.push(self.kinds.halved_twice);
         }
         if question.allowance == 0 {
             kinds.push(self.kinds.allowance_zero);
@@ -610,6 +645,17 @@ impl Matching {
             let case = slow_growth(&mut self.random);
             let bytes = sheet_bytes(&case.sheet);
             self.decisions_around(&case, &bytes, 1);
+        }
+    }
+
+    /// Sheets whose changes lie at their caps, next to them or around zero.
+    fn aimed(&mut self) {
+        for _ in 0..AIMED_SHEETS {
+            let case = aimed(&mut self.random);
+            let bytes = sheet_bytes(&case.sheet);
+            self.sheet_calls(&case, &bytes);
+            self.decisions_around(&case, &bytes, 1);
+            self.recovery_check(&case.sheet, &bytes);
         }
     }
 
@@ -989,7 +1035,7 @@ type Part = (&'static str, fn(&mut Matching));
 
 fn main() {
     let mut matching = Matching::new();
-    let parts: [Part; 8] = [
+    let parts: [Part; 9] = [
         ("numbers", Matching::sizes),
         ("values at their bounds", Matching::bounds),
         ("pairs of faults", Matching::faults),
@@ -998,6 +1044,7 @@ fn main() {
         ("slow growth", Matching::slow),
         ("many rounds", Matching::worst),
         ("long times", Matching::long),
+        ("changes at their caps", Matching::aimed),
     ];
     for (name, part) in parts {
         let start = Instant::now();

@@ -1,6 +1,7 @@
 //! The archive against the plain guard, which was written from document 01 and paper 3 of document
 //! 02 alone: a check of the readings, on sheets and questions from fixed seeds.
 
+use matching::aim::aimed;
 use matching::archive::format::reach_length;
 use matching::archive::{self, Answer, ReachCall};
 use matching::expected::{decide_before, pairs};
@@ -13,6 +14,7 @@ use matching::tally::{hex, KindId, Tally};
 use second_guard::boxes::StateBox;
 
 const SHEETS: usize = 20_000;
+const AIMED_SHEETS: usize = 10_000;
 const TICKS: i64 = 200;
 const REFUSED: u64 = 3 << 48;
 
@@ -29,6 +31,7 @@ struct Kinds {
     reach: KindId,
     damaged: KindId,
     listing: KindId,
+    aimed: KindId,
 }
 
 impl Kinds {
@@ -49,6 +52,7 @@ impl Kinds {
             reach: tally.kind("reaches", SHEETS as u64),
             damaged: tally.kind("damaged bytes", SHEETS as u64),
             listing: tally.kind("listings of a sheet that passed", 1_000),
+            aimed: tally.kind("sheets with changes at their caps or around zero", 10_000),
         }
     }
 
@@ -141,6 +145,22 @@ fn faults(
     decide(tally, kinds, &sheet, &question);
 }
 
+/// Sheets whose changes lie at their caps, next to them or around zero. The plain guard divides each
+/// of these changes and then clamps it.
+fn aimed_sheets(tally: &mut Tally, kinds: &Kinds) {
+    let random = &mut Random::new(6);
+    for _ in 0..AIMED_SHEETS {
+        let case = aimed(random);
+        let sheet = sheet_bytes(&case.sheet);
+        let n = case.sheet.n();
+        let question = question_bytes(730_000, case.command, &case.measured, n);
+        decide(tally, kinds, &sheet, &question);
+        reach(tally, kinds, random, &case, &sheet);
+        let same = archive::recovery(&sheet) == Answer(plain_guard::recovery(&sheet));
+        tally.check(kinds.aimed, same, || hex(&sheet));
+    }
+}
+
 fn main() {
     let mut tally = Tally::new();
     let kinds = Kinds::new(&mut tally);
@@ -191,5 +211,6 @@ fn main() {
             tally.check(kinds.write, same, || hex(&damaged));
         }
     }
+    aimed_sheets(&mut tally, &kinds);
     std::process::exit(tally.finish());
 }
