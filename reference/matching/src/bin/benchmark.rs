@@ -2,10 +2,9 @@
 //! processor times are compared, and a table in markdown is printed. A second table has the
 //! instructions of a round and of reading a sheet, which callgrind counts over this program itself.
 //! Times are told and not judged, since they vary with the machine. What is judged is that the two
-//! answer alike and how many instructions the guard takes: for a round with several bands at most 1.1
-//! times the second guard's or no more than before paper 6 of document 02, with one band no more than
-//! before paper 3, for reading a sheet at most 1.25 times the second guard's. The last line is
-//! `N passed, M failed`.
+//! answer alike and how many instructions the guard takes: for a round no more than before a change was
+//! compared with its cap first, for reading a sheet at most 1.25 times the second guard's. The last
+//! line is `N passed, M failed`.
 
 use matching::archive::format::question_length;
 use matching::archive::{self, sheet_archive::SheetArchive};
@@ -242,10 +241,10 @@ fn many_rounds(n: usize, bands: usize) -> (Vec<u8>, Vec<u8>) {
 /// Sheets and questions that are asked one after another.
 type Asked = Vec<(Vec<u8>, Vec<u8>)>;
 
-/// Groups of questions, in which changes are often clamped, and the most instructions of a round.
+/// Groups of questions, in which changes are often clamped, and the most instructions of a round, as below.
 const GROUPS: [(&str, fn() -> Asked, f64); 2] = [
-    ("leg press", leg_press, 700.0),
-    ("random sheets", random_sheets, 910.0),
+    ("leg press", leg_press, 698.0),
+    ("random sheets", random_sheets, 905.0),
 ];
 
 /// The leg press of examples/ with those of its questions that are not refused.
@@ -295,9 +294,6 @@ fn rounds_of_all(asked: &Asked) -> f64 {
         .sum()
 }
 
-/// So many times the second guard's instructions are little more.
-const LITTLE_MORE: f64 = 1.1;
-
 /// How many instructions the guard may take.
 #[derive(Clone, Copy)]
 enum Most {
@@ -305,25 +301,21 @@ enum Most {
     Times(f64),
     /// So many.
     Instructions(f64),
-    /// So many, or little more than the second guard.
-    Either(f64),
 }
 
-/// Of a round: with one band as many as before a neighborhood was cut into parts, with several bands
-/// little more than the second guard, or as many as before the second guard compared a change with
-/// its cap first.
+/// Of a round: what it took before a change was compared with its cap first, and 5 more at n 4 with one band.
 fn most_of_round(n: usize, bands: usize) -> Most {
-    match (n, bands) {
-        (1, 1) => Most::Instructions(299.0),
-        (2, 1) => Most::Instructions(532.0),
-        (4, 1) => Most::Instructions(1143.0),
-        (1, 3) => Most::Either(385.0),
-        (1, _) => Most::Either(572.0),
-        (2, 3) => Most::Either(726.0),
-        (2, _) => Most::Either(1337.0),
-        (_, 3) => Most::Either(1894.0),
-        _ => Most::Either(4060.0),
-    }
+    Most::Instructions(match (n, bands) {
+        (1, 1) => 255.0,
+        (1, 3) => 385.0,
+        (1, _) => 572.0,
+        (2, 1) => 440.0,
+        (2, 3) => 726.0,
+        (2, _) => 1337.0,
+        (_, 1) => 950.0,
+        (_, 3) => 1894.0,
+        _ => 4060.0,
+    })
 }
 
 /// Of reading a sheet.
@@ -430,7 +422,6 @@ fn count_line(name: &str, work: Work, per: f64, most: Most) -> bool {
     match most {
         Most::Times(most) => ratio <= most,
         Most::Instructions(most) => guard.round() <= most,
-        Most::Either(most) => ratio <= LITTLE_MORE || guard.round() <= most,
     }
 }
 
@@ -450,7 +441,7 @@ fn count_instructions() -> (usize, usize) {
     for (group, (name, asked, most)) in GROUPS.into_iter().enumerate() {
         let name = format!("one round, {name}");
         let count = rounds_of_all(&asked());
-        let most = Most::Either(most);
+        let most = Most::Instructions(most);
         fine.push(count_line(&name, Work::Ask(group), count, most));
     }
     for (size, (name, _)) in SIZES.iter().enumerate() {
