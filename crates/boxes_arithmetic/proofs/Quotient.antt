@@ -10,15 +10,14 @@ use lib.Signed.{nonNeg, yes-nonNeg, _≤ℤ_, _<ℤ_}
 use mir.Syntax.{w32}
 use mir.Val.{Fits}
 use Rattle.integers.specs.Bound.{Bound}
-use Rattle.integers.specs.Order.{minZ, maxZ}
-use Rattle.integers.specs.Division.{floorDiv, ceilDiv}
+use Rattle.integers.specs.Order.{minZ}
+use Rattle.integers.specs.Division.{floorDiv}
 use Rattle.integers.proofs.Z.{ints, flat, le-true, le-false, neg, mul-mono, mul-neg, min-is, max-is, bound-in, bound-mul}
 use Rattle.integers.proofs.Rounding.{Close, floor-moved, floor-close, ceil-close, close-most, close-least}
 use Rattle.sheet_spec.specs.Limits.{maxCap, maxDivisor}
 use Rattle.sheet_spec.specs.Valid.{Between}
 use Rattle.machine_spec.specs.Machine.{clamp}
 use Rattle.machine_spec.specs.Rate.{outer}
-use Rattle.machine_spec.proofs.Clamped.{clamped-by-comparison}
 use Rattle.boxes_arithmetic.specs.Limits.{CapAsked, Capped, DivisionAsked}
 use Rattle.boxes_arithmetic.specs.Outward.{noFurther, outwardDiv}
 
@@ -90,7 +89,7 @@ outward-close true x q h = ceil-close x q h
 turned : (z q : ℤ) → z *ℤ q ≡ q *ℤ z
 turned z q = simp flat (omega ints)
 
--- ---- z, the outermost so far, lies within the cap: what z·q says of ±q·cap
+-- ---- z, the outermost so far, lies within the cap: what z·q says of ±q·cap, and z of a clamped number
 
 module _ {cap z : ℤ} (capped : Capped cap z) where
   pub cap-asked : {q : ℤ} → Between (pos 1) (pos maxDivisor) q → CapAsked cap q
@@ -107,52 +106,38 @@ module _ {cap z : ℤ} (capped : Capped cap z) where
       let far = mul-mono q (negℤ cap) z (omega (ints, one)) (capped .between .low) in
       omega (ints, far, mul-neg q cap, turned z q)
 
+  clamp-least : (y : ℤ) → z ≤ℤ y → z ≤ℤ clamp cap y
+  unfolding clamp
+  clamp-least y h = omega (ints, capped .between .low, capped .between .high, max-is (negℤ cap) (minZ y cap), min-is y cap)
+
+  clamp-most : (y : ℤ) → y ≤ℤ z → clamp cap y ≤ℤ z
+  unfolding clamp
+  clamp-most y h = omega (ints, capped .between .low, capped .between .high, max-is (negℤ cap) (minZ y cap), min-is y cap)
+
 -- ---- the outer one of z and of the clamped quotient
 
 -- it is z where x is no further out than z·q
 pub outer-stays : (up : Bool) (cap z x q : ℤ) → Capped cap z → pos 1 ≤ℤ q → noFurther up (z *ℤ q) x ≡ true → z ≡ outer up z (clamp cap (outwardDiv up x (natAbs q)))
-unfolding outer noFurther clamp
+unfolding outer noFurther
 outer-stays up cap z x (negsuc b) capped one h = absurd (one .le)
 outer-stays false cap z x (pos b) capped one h =
     let y = outwardDiv false x b in
-    let inner = close-least (omega ints) (outward-close false x b (omega ints)) z (omega (ints, le-true (z *ℤ pos b) x h, turned z (pos b))) in
-    omega (ints, capped .between .low, capped .between .high, min-is z (maxZ (negℤ cap) (minZ y cap)), max-is (negℤ cap) (minZ y cap), min-is y cap)
+    let inner = clamp-least capped y (close-least (omega ints) (outward-close false x b (omega ints)) z (omega (ints, le-true (z *ℤ pos b) x h, turned z (pos b)))) in
+    omega (ints, min-is z (clamp cap y))
 outer-stays true cap z x (pos b) capped one h =
     let y = outwardDiv true x b in
-    let inner = close-most (omega ints) (outward-close true x b (omega ints)) z (omega (ints, le-true x (z *ℤ pos b) h, turned z (pos b))) in
-    omega (ints, capped .between .low, capped .between .high, max-is z (maxZ (negℤ cap) (minZ y cap)), max-is (negℤ cap) (minZ y cap), min-is y cap)
+    let inner = clamp-most capped y (close-most (omega ints) (outward-close true x b (omega ints)) z (omega (ints, le-true x (z *ℤ pos b) h, turned z (pos b)))) in
+    omega (ints, max-is z (clamp cap y))
 
 -- elsewhere it is the clamped quotient
 pub outer-moves : (up : Bool) (cap z x q : ℤ) → Capped cap z → pos 1 ≤ℤ q → noFurther up (z *ℤ q) x ≡ false → clamp cap (outwardDiv up x (natAbs q)) ≡ outer up z (clamp cap (outwardDiv up x (natAbs q)))
-unfolding outer noFurther clamp
+unfolding outer noFurther
 outer-moves up cap z x (negsuc b) capped one h = absurd (one .le)
 outer-moves false cap z x (pos b) capped one h =
     let y = outwardDiv false x b in
-    let further = close-most (omega ints) (outward-close false x b (omega ints)) z (omega (ints, le-false (z *ℤ pos b) x h, turned z (pos b))) in
-    omega (ints, capped .between .low, capped .between .high, min-is z (maxZ (negℤ cap) (minZ y cap)), max-is (negℤ cap) (minZ y cap), min-is y cap)
+    let further = clamp-most capped y (close-most (omega ints) (outward-close false x b (omega ints)) z (omega (ints, le-false (z *ℤ pos b) x h, turned z (pos b)))) in
+    omega (ints, min-is z (clamp cap y))
 outer-moves true cap z x (pos b) capped one h =
     let y = outwardDiv true x b in
-    let further = close-least (omega ints) (outward-close true x b (omega ints)) z (omega (ints, le-false x (z *ℤ pos b) h, turned z (pos b))) in
-    omega (ints, capped .between .low, capped .between .high, max-is z (maxZ (negℤ cap) (minZ y cap)), max-is (negℤ cap) (minZ y cap), min-is y cap)
-
--- ---- the clamp by comparisons, with the code's divisor
-
-pub floor-clamped : (cap x q : ℤ) → CapAsked cap q → x ≤ℤ negℤ (q *ℤ cap) → clamp cap (floorDiv x (natAbs q)) ≡ negℤ cap
-floor-clamped cap x (negsuc b) asked h = absurd (asked .divisor .low .le)
-floor-clamped cap x (pos b) asked h = clamped-by-comparison cap x b (asked .room .low) (positive-size (pos b) (asked .divisor .low)) .0 .low h
-
-pub ceil-clamped : (cap x q : ℤ) → CapAsked cap q → (q *ℤ cap) ≤ℤ x → clamp cap (ceilDiv x (natAbs q)) ≡ cap
-ceil-clamped cap x (negsuc b) asked h = absurd (asked .divisor .low .le)
-ceil-clamped cap x (pos b) asked h = clamped-by-comparison cap x b (asked .room .low) (positive-size (pos b) (asked .divisor .low)) .1 .high h
-
-pub floor-unclamped : {cap x : ℤ} (q : ℤ) → DivisionAsked cap x q → clamp cap (floorDiv x (natAbs q)) ≡ floorDiv x (natAbs q)
-floor-unclamped (negsuc b) asked = absurd (asked .sheet .divisor .low .le)
-floor-unclamped {cap} {x} (pos b) asked =
-    let sheet = asked .sheet in
-    clamped-by-comparison cap x b (sheet .room .low) (positive-size (pos b) (sheet .divisor .low)) .0 .between (asked .above) (asked .below)
-
-pub ceil-unclamped : {cap x : ℤ} (q : ℤ) → DivisionAsked cap x q → clamp cap (ceilDiv x (natAbs q)) ≡ ceilDiv x (natAbs q)
-ceil-unclamped (negsuc b) asked = absurd (asked .sheet .divisor .low .le)
-ceil-unclamped {cap} {x} (pos b) asked =
-    let sheet = asked .sheet in
-    clamped-by-comparison cap x b (sheet .room .low) (positive-size (pos b) (sheet .divisor .low)) .1 .between (asked .above) (asked .below)
+    let further = clamp-least capped y (close-least (omega ints) (outward-close true x b (omega ints)) z (omega (ints, le-false x (z *ℤ pos b) h, turned z (pos b)))) in
+    omega (ints, max-is z (clamp cap y))

@@ -1,11 +1,11 @@
 -- The clamp by comparisons, for any y that is less than one off x / q, and so for the floor and the ceiling. Assumes nothing.
 use mathlib.Core.Path.{_≡_, refl}
 use Prim.Native.Nat.{ℕ, _<_}
-use lib.IntN.{ℤ, pos, negsuc, negℤ, _*ℤ_}
-use lib.Signed.{_≤ℤ_, _<ℤ_}
+use lib.IntN.{ℤ, pos, negsuc, negℤ}
+use lib.Signed.{_≤ℤ_}
 use Rattle.integers.specs.Order.{minZ}
 use Rattle.integers.specs.Division.{floorDiv, ceilDiv}
-use Rattle.integers.proofs.Z.{ints, flat, min-is, max-is, neg}
+use Rattle.integers.proofs.Z.{ints, min-is, max-is, neg, mul-neg}
 use Rattle.integers.proofs.Rounding.{Close, floor-close, ceil-close, close-most, close-least}
 use Rattle.machine_spec.specs.Machine.{clamp}
 use Rattle.machine_spec.specs.Clamped.{ByComparison, ClampedByComparison}
@@ -26,13 +26,11 @@ module _ (cap y : ℤ) (room : pos 0 ≤ℤ cap) where
   unfolding clamp
   as-it-is h k = omega (ints, neg cap, max-is (negℤ cap) (minZ y cap), min-is y cap)
 
--- −q·cap is q·(−cap)
-turned : (cap : ℤ) (q : ℕ) → negℤ (pos q *ℤ cap) ≡ pos q *ℤ negℤ cap
-turned cap q = simp flat (omega ints)
+-- ---- by where x lies
 
-pub by-comparison : (cap x y : ℤ) (q : ℕ) → pos 0 ≤ℤ cap → 0 < q → Close x q y → ByComparison cap x q y
+by-comparison : (cap x y : ℤ) (q : ℕ) → pos 0 ≤ℤ cap → 0 < q → Close x q y → ByComparison cap x (pos q) y
 by-comparison cap x y q room positive near =
-    let least = turned cap q in
+    let least = mul-neg (pos q) cap in
     record {
       low = λ h. down cap y room (close-most positive near (negℤ cap) (omega ints));
       high = λ h. top cap y room (close-least positive near cap h);
@@ -40,8 +38,10 @@ by-comparison cap x y q room positive near =
     }
 
 pub clamped-by-comparison : ClampedByComparison
-clamped-by-comparison cap x q room positive =
-    (by-comparison cap x (floorDiv x q) q room positive (floor-close x q positive), by-comparison cap x (ceilDiv x q) q room positive (ceil-close x q positive))
+clamped-by-comparison cap x (negsuc b) room one = absurd (one .le)
+clamped-by-comparison cap x (pos b) room one =
+    let positive : 0 < b = omega ints in
+    (by-comparison cap x (floorDiv x b) b room positive (floor-close x b positive), by-comparison cap x (ceilDiv x b) b room positive (ceil-close x b positive))
 
 -- ---- computed, by 20 with the cap 5: at −100 and 100, and one beside them
 

@@ -4,11 +4,14 @@ use mathlib.Core.Path.{_≡_, _∙_}
 use mir.Facts.{toZ-ofZ}
 use mir.Syntax.{w64}
 use mir.Val.{SFits}
-use lib.IntN.{ℤ, _*ℤ_}
+use lib.IntN.{ℤ, natAbs, _*ℤ_}
 use borrow.Author.Needs.{needs}
+use Rattle.integers.specs.Division.{ceilDiv}
 use Rattle.integers.proofs.Z.{ints, lt-false, fits64}
+use Rattle.machine_spec.specs.Clamped.{ByComparison}
+use Rattle.machine_spec.proofs.Clamped.{clamped-by-comparison}
 use Rattle.boxes_arithmetic.specs.Limits.{CapAsked, DivisionAsked}
-use Rattle.boxes_arithmetic.proofs.Quotient.{most-bound, ceil-clamped, ceil-unclamped}
+use Rattle.boxes_arithmetic.proofs.Quotient.{most-bound}
 use Rattle.boxes_arithmetic.proofs.clamped_ceil.Statement.{statement}
 use Rattle.boxes_arithmetic.proofs.clamped_ceil.Tie as tie
 
@@ -24,6 +27,9 @@ module _ (at-start : tie.Start) where
 
   asked : CapAsked cap q
   asked = at-start .pre .0
+
+  compared : ByComparison cap x q (ceilDiv x (natAbs q))
+  compared = clamped-by-comparison cap x q (asked .room .low) (asked .divisor .low) .1
 
   most-fits : SFits w64 (q *ℤ cap)
   most-fits = fits64 (most-bound asked) tt
@@ -50,7 +56,8 @@ returns at-return =
     let at-then = at-return .before in
     let fits = at-then .before .fits in
     let quotient-fits : SFits w64 (at-return .ceil-div .result) = search needs in
-    rw (ceil-unclamped (q (at-then .before)) (division at-then)) (toZ-ofZ quotient-fits ∙ (at-return .ceil-div .ensures ∙ simp (toZ-ofZ, fits .dividend, fits .divisor)))
+    rw (compared (at-then .before) .between (division at-then .above) (division at-then .below))
+    (toZ-ofZ quotient-fits ∙ (at-return .ceil-div .ensures ∙ simp (toZ-ofZ, fits .dividend, fits .divisor)))
 
 -- the cap
 returns-2 : tie.Need-returns-2
@@ -58,7 +65,7 @@ returns-2 at-else =
     let at-start = at-else .before in
     let fits = at-start .fits in
     let high = simp (toZ-ofZ, fits .dividend, fits .divisor, fits .cap, most-fits at-start) at (at-else .if1 .left) in
-    rw (ceil-clamped (cap at-start) (x at-start) (q at-start) (asked at-start) (lt-false _ _ high)) (toZ-ofZ (fits .cap))
+    rw (compared at-start .high (lt-false _ _ high)) (toZ-ofZ (fits .cap))
 
 pub clamped-ceil-spec : {M : Type 1} → statement M
 clamped-ceil-spec = tie.close (tie.spec mul-most ceil-div-requires returns returns-2)

@@ -3,12 +3,15 @@ use mathlib.Core.Path.{_≡_, _∙_}
 use mir.Facts.{toZ-ofZ}
 use mir.Syntax.{w64}
 use mir.Val.{SFits}
-use lib.IntN.{ℤ, negℤ, _*ℤ_}
+use lib.IntN.{ℤ, negℤ, natAbs, _*ℤ_}
 use borrow.Author.Needs.{needs}
+use Rattle.integers.specs.Division.{floorDiv}
 use Rattle.integers.proofs.Z.{ints, lt-false, bound-neg, fits64}
+use Rattle.machine_spec.specs.Clamped.{ByComparison}
+use Rattle.machine_spec.proofs.Clamped.{clamped-by-comparison}
 use Rattle.boxes_arithmetic.specs.Limits.{CapAsked, DivisionAsked}
 use Rattle.boxes_arithmetic.proofs.Bounds.{zero-less}
-use Rattle.boxes_arithmetic.proofs.Quotient.{cap-bound, most-bound, floor-clamped, floor-unclamped}
+use Rattle.boxes_arithmetic.proofs.Quotient.{cap-bound, most-bound}
 use Rattle.boxes_arithmetic.proofs.clamped_floor.Statement.{statement}
 use Rattle.boxes_arithmetic.proofs.clamped_floor.Tie as tie
 
@@ -24,6 +27,9 @@ module _ (at-start : tie.Start) where
 
   asked : CapAsked cap q
   asked = at-start .pre .0
+
+  compared : ByComparison cap x q (floorDiv x (natAbs q))
+  compared = clamped-by-comparison cap x q (asked .room .low) (asked .divisor .low) .0
 
   most-fits : SFits w64 (q *ℤ cap)
   most-fits = fits64 (most-bound asked) tt
@@ -62,7 +68,8 @@ returns at-return =
     let at-then = at-return .before in
     let fits = at-then .before .fits in
     let quotient-fits : SFits w64 (at-return .floor-div .result) = search needs in
-    rw (floor-unclamped (q (at-then .before)) (division at-then)) (toZ-ofZ quotient-fits ∙ (at-return .floor-div .ensures ∙ simp (toZ-ofZ, fits .dividend, fits .divisor)))
+    rw (compared (at-then .before) .between (division at-then .above) (division at-then .below))
+    (toZ-ofZ quotient-fits ∙ (at-return .floor-div .ensures ∙ simp (toZ-ofZ, fits .dividend, fits .divisor)))
 
 -- −cap
 returns-2 : tie.Need-returns-2
@@ -70,7 +77,7 @@ returns-2 at-else =
     let at-start = at-else .before in
     let fits = at-start .fits in
     let low = simp (toZ-ofZ, fits .dividend, fits .divisor, fits .cap, most-fits at-start, zero-less, least-fits at-start) at (at-else .if1 .left) in
-    rw (floor-clamped (cap at-start) (x at-start) (q at-start) (asked at-start) (lt-false _ _ low)) (simp (toZ-ofZ, fits .cap, zero-less, neg-fits at-start))
+    rw (compared at-start .low (lt-false _ _ low)) (simp (toZ-ofZ, fits .cap, zero-less, neg-fits at-start))
 
 pub clamped-floor-spec : {M : Type 1} → statement M
 clamped-floor-spec = tie.close (tie.spec mul-least sub-least floor-div-requires sub-result returns returns-2)
