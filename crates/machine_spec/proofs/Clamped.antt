@@ -14,13 +14,13 @@ use Rattle.machine_spec.proofs.Everything.{everything}
 -- ---- the clamp by where y lies
 
 module _ (cap y : ℤ) (room : pos 0 ≤ℤ cap) where
-  down : y ≤ℤ negℤ cap → clamp cap y ≡ negℤ cap
-  unfolding clamp
-  down h = omega (ints, neg cap, max-is (negℤ cap) (minZ y cap), min-is y cap)
-
   top : cap ≤ℤ y → clamp cap y ≡ cap
   unfolding clamp
   top h = omega (ints, neg cap, max-is (negℤ cap) (minZ y cap), min-is y cap)
+
+  down : y ≤ℤ negℤ cap → clamp cap y ≡ negℤ cap
+  unfolding clamp
+  down h = omega (ints, neg cap, max-is (negℤ cap) (minZ y cap), min-is y cap)
 
   as-it-is : negℤ cap ≤ℤ y → y ≤ℤ cap → clamp cap y ≡ y
   unfolding clamp

@@ -1,5 +1,4 @@
 -- `no_further` compares by the face's direction. Assumes nothing.
-use Rattle.integers.proofs.Z.{ints}
 use mir.Facts.{toZ-ofZ}
 use Rattle.boxes_arithmetic.specs.Outward.{noFurther}
 use Rattle.boxes_arithmetic.proofs.no_further.Statement.{statement}
