@@ -93,7 +93,7 @@ pub fn outer_quotient(up: bool, cap: i64, dividend: i64, divisor: i64, outermost
     if no_further(up, outermost * divisor, dividend) {
         return outermost;
     }
-    // The outermost so far lies within the cap. So the dividend is also beyond the cap that does not clamp this face.
+    // The outermost so far lies within the cap: so an upper face's dividend is above −divisor·cap, a lower face's below divisor·cap.
     if up {
         clamped_ceil(cap, dividend, divisor)
     } else {

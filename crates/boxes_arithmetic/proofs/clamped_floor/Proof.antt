@@ -6,7 +6,7 @@ use mir.Val.{SFits}
 use lib.IntN.{ℤ, negℤ, natAbs, _*ℤ_}
 use borrow.Author.Needs.{needs}
 use Rattle.integers.specs.Division.{floorDiv}
-use Rattle.integers.proofs.Z.{ints, lt-false, bound-neg, fits64}
+use Rattle.integers.proofs.Z.{ints, flat, lt-false, bound-neg, fits64}
 use Rattle.machine_spec.specs.Clamped.{ByComparison}
 use Rattle.machine_spec.proofs.Clamped.{clamped-by-comparison}
 use Rattle.boxes_arithmetic.specs.Limits.{CapAsked, DivisionAsked}
@@ -60,7 +60,7 @@ floor-div-requires at-then κs =
     simp (toZ-ofZ, fits .cap, fits .dividend, fits .divisor) (division at-then)
 
 sub-result : tie.Need-sub-result
-sub-result at-else = simp (toZ-ofZ, at-else .before .fits .cap, zero-less) (neg-fits (at-else .before))
+sub-result at-else = simp (toZ-ofZ, at-else .before .fits .cap) (simp flat (omega (ints, cap-bound (asked (at-else .before)) .at-most)))
 
 -- the quotient
 returns : tie.Need-returns
