@@ -1,5 +1,7 @@
 //! States and boxes of states.
 
+use std::cmp::Ordering;
+
 /// The most variables that a sheet has.
 pub const VARIABLES: usize = 4;
 
@@ -19,6 +21,17 @@ impl StateBox {
         (0..n).all(|i| {
             -limit <= self.lower[i] && self.lower[i] <= self.upper[i] && self.upper[i] <= limit
         })
+    }
+
+    /// Lower and upper side of each of n variables.
+    fn pairs(&self, n: usize) -> impl Iterator<Item = (i64, i64)> + '_ {
+        self.lower[..n].iter().copied().zip(self.upper[..n].iter().copied())
+    }
+
+    /// Compares two boxes by first lower side, first upper side, second lower side and so on, over
+    /// n variables.
+    pub fn compare(&self, other: &StateBox, n: usize) -> Ordering {
+        self.pairs(n).cmp(other.pairs(n))
     }
 
     /// The box holds the state.

@@ -98,8 +98,8 @@ fn sheet_of_two() -> Sheet {
         lower: [lower, lower, 0, 0],
         upper: [upper, upper, 0, 0],
     };
-    sheet.unsafe_boxes[0] = sides(130, 2_000_000);
-    sheet.unsafe_boxes[1] = sides(-2_000_000, -130);
+    sheet.unsafe_boxes[0] = sides(-2_000_000, -130);
+    sheet.unsafe_boxes[1] = sides(130, 2_000_000);
     sheet.recovery = sides(-100, 100);
     sheet
 }
@@ -676,10 +676,10 @@ fn bounds_of_the_values() {
         (RECOVERY + 2, 7, 0),
         (RECOVERY + 5, 1_000_000, 0),
         (RECOVERY + 5, 1_000_001, 11),
-        (BOX_1, 2_000_000, 0),
-        (BOX_1, 2_000_001, 11),
-        (BOX_1 + 8, -2_000_001, 11),
-        (BOX_1 + 8 + 4, -2_000_000, 0),
+        (BOX_1, -2_000_001, 11),
+        (BOX_1 + 4, -2_000_000, 0),
+        (BOX_1 + 8, 2_000_000, 0),
+        (BOX_1 + 8, 2_000_001, 11),
         (BOX_1 + 8 + 5, 2_000_001, 11),
         (BOX_1 + 16, i32::MIN, 0),
     ];

@@ -1,5 +1,6 @@
 //! Random sheets and questions that are accepted,
 //! and boxes placed so that a decision ends at a wanted width.
+//! The unsafe boxes are in the order of paper 2 of document 02.
 
 use crate::random::Random;
 use second_guard::boxes::{StateBox, VARIABLES};
@@ -430,10 +431,40 @@ pub fn shape(random: &mut Random, case: &mut Case, halvings: usize) -> Shape {
             }
         }
     }
-    let count = case.sheet.unsafe_count as usize;
-    let swap = random.below(count);
-    case.sheet.unsafe_boxes.swap(0, swap);
+    add_twin(random, &mut case.sheet);
+    set_in_order(&mut case.sheet);
     shape
+}
+
+/// Adds a twin of an unsafe box in every second case, where there is room. It differs in one side
+/// alone and lies in that box, so that no answer changes.
+fn add_twin(random: &mut Random, sheet: &mut Sheet) {
+    let (n, count) = (sheet.n(), sheet.unsafe_count as usize);
+    let drawn = random.below(2 * count * 2 * n);
+    let (j, side) = (drawn / (2 * n), drawn % (2 * n));
+    if j >= count || count == UNSAFE_BOXES {
+        return;
+    }
+    let (mut twin, i) = (sheet.unsafe_boxes[j], side / 2);
+    match side % 2 {
+        0 => twin.lower[i] += 1,
+        _ => twin.upper[i] -= 1,
+    }
+    if twin.lower[i] <= twin.upper[i] {
+        sheet.unsafe_boxes[count] = twin;
+        sheet.unsafe_count += 1;
+    }
+}
+
+/// Puts a sheet's unsafe boxes in order, equal ones once.
+pub fn set_in_order(sheet: &mut Sheet) {
+    let n = sheet.n();
+    let mut boxes = sheet.unsafe_boxes().to_vec();
+    boxes.sort_by(|x, y| x.compare(y, n));
+    boxes.dedup_by(|x, y| x.compare(y, n).is_eq());
+    sheet.unsafe_count = boxes.len() as i32;
+    sheet.unsafe_boxes = [StateBox::default(); UNSAFE_BOXES];
+    sheet.unsafe_boxes[..boxes.len()].copy_from_slice(&boxes);
 }
 
 /// A case of everyday times, and how it was shaped: for so many halvings of the width.
@@ -616,6 +647,7 @@ pub const BOUNDS: [Bound; 14] = [
         let i = random.below(n);
         sheet.unsafe_boxes[j].lower[i] = side;
         sheet.unsafe_boxes[j].upper[i] = side;
+        set_in_order(sheet);
     }),
     ("recovery sides at their bounds", |random, sheet| {
         for i in 0..sheet.n() {

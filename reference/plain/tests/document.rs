@@ -6,7 +6,7 @@ use plain_guard::machine::{
     allowed_change, band_of, ceil_div, floor_div, greatest_change, least_change,
 };
 use plain_guard::reach::{lies_in, rates, shares_a_state, step, Count};
-use plain_guard::sheet::{question_length, sheet_length};
+use plain_guard::sheet::{question_length, sheet_length, Sides};
 use plain_guard::*;
 
 /// Sheet A.
@@ -654,7 +654,18 @@ fn random_sheet(dice: &mut Dice) -> Sheet {
             s.no_go_box[k][i] = (lower, lower + dice.from_to(0, 100) as i32);
         }
     }
+    put_in_order(&mut s);
     s
+}
+
+/// The no-go boxes in ascending order, each once. Places behind n and the count are 0.
+fn put_in_order(s: &mut Sheet) {
+    let mut boxes = s.no_go_box[..s.no_go as usize].to_vec();
+    boxes.sort();
+    boxes.dedup();
+    s.no_go = boxes.len() as u8;
+    s.no_go_box = [Sides::default(); 8];
+    s.no_go_box[..boxes.len()].copy_from_slice(&boxes);
 }
 
 #[test]

@@ -69,7 +69,8 @@ fn numbers(values: &[i32]) -> Vec<u8> {
 
 // ---- the files that the others start from
 
-/// A sheet like document 01's sheet A: n variables with A's row, bands with these edges, and this number of no-go boxes.
+/// A sheet like document 01's sheet A: n variables with A's row, bands with these edges, and this number of no-go boxes. A's box
+/// is the first one, and each begins one later than the one before.
 fn like_a(n: u8, edges: &[i32], boxes: u8) -> Vec<u8> {
     let sides = |mark: &[u8], pair: [i32; 2]| [mark, &numbers(&pair).repeat(n.into())].concat();
     let mut bytes = [b'S', b'H', n, edges.len() as u8, boxes, 0, 0, 4, 0, 4, 0, 4].to_vec();
@@ -82,7 +83,9 @@ fn like_a(n: u8, edges: &[i32], boxes: u8) -> Vec<u8> {
             bytes.extend([&[0, 4], &numbers(&[0, 0])[..], &[0, 20]].concat());
         }
     }
-    bytes.extend(sides(b"NG", [130, 2_000_000]).repeat(boxes.into()));
+    for box_from in (130..).take(boxes.into()) {
+        bytes.extend(sides(b"NG", [box_from, 2_000_000]));
+    }
     bytes.extend(sides(b"RC", [-100, 100]));
     bytes
 }

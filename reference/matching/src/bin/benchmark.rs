@@ -191,9 +191,9 @@ fn model(n: usize, bands: usize, unsafe_boxes: usize) -> (Sheet, StateBox) {
         band.rows[..n].fill(row);
         sheet.bands[k] = band;
     }
-    for unsafe_box in &mut sheet.unsafe_boxes[..unsafe_boxes] {
+    for (from, unsafe_box) in (1_999_990..).zip(&mut sheet.unsafe_boxes[..unsafe_boxes]) {
         *unsafe_box = everywhere(n);
-        unsafe_box.lower[0] = 1_999_999;
+        unsafe_box.lower[0] = from;
     }
     let mut measured = StateBox::default();
     measured.lower[..n].fill(-45);

@@ -4,7 +4,7 @@
 
 use matching::archive::{self, Answer};
 use matching::expected::decide_before;
-use matching::generate::{everywhere, question_bytes, sheet_bytes};
+use matching::generate::{everywhere, question_bytes, set_in_order, sheet_bytes};
 use matching::random::Random;
 use matching::tally::{hex, KindId, Tally};
 use second_guard::boxes::{State, StateBox, VARIABLES};
@@ -248,6 +248,7 @@ fn scene(random: &mut Random, guard: Guard) -> Option<Scene> {
         sheet.unsafe_boxes[j] = wall;
         sheet.unsafe_count = j as i32 + 1;
     }
+    set_in_order(&mut sheet);
     let bytes = sheet_bytes(&sheet);
     guard.passes(&bytes).then_some(Scene { sheet, bytes })
 }
