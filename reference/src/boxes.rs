@@ -25,7 +25,10 @@ impl StateBox {
 
     /// Lower and upper side of each of n variables.
     fn pairs(&self, n: usize) -> impl Iterator<Item = (i64, i64)> + '_ {
-        self.lower[..n].iter().copied().zip(self.upper[..n].iter().copied())
+        self.lower[..n]
+            .iter()
+            .copied()
+            .zip(self.upper[..n].iter().copied())
     }
 
     /// Compares two boxes by first lower side, first upper side, second lower side and so on, over

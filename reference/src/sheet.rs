@@ -29,9 +29,9 @@ const BANDS_AT: usize = CAPS_AT + VARIABLES;
 const ROW_NUMBERS: usize = VARIABLES + 4;
 const BAND_NUMBERS: usize = 3 + VARIABLES * ROW_NUMBERS;
 const RECOVERY_AT: usize = BANDS_AT + BANDS * BAND_NUMBERS;
-const UNSAFE_AT: usize = RECOVERY_AT + 2 * VARIABLES;
+pub const UNSAFE_AT: usize = RECOVERY_AT + 2 * VARIABLES;
 
-/// Why a call is refused; the value is document 01's number.
+/// Why a call is refused; the value is the number of document 01 or 02.
 #[derive(Clone, Copy, Debug, PartialEq, Eq)]
 #[repr(u8)]
 pub enum Refusal {
@@ -52,6 +52,7 @@ pub enum Refusal {
     Start = 15,
     Reach = 16,
     Room = 17,
+    Order = 20,
 }
 
 impl Refusal {
@@ -203,6 +204,19 @@ impl Sheet {
         require(sides.ordered_within(self.n(), limit), Refusal::Side)
     }
 
+    /// The sides of unsafe box j, and that it is greater than the one before.
+    fn test_unsafe_box(&self, j: usize) -> Result<(), Refusal> {
+        self.test_sides(&self.unsafe_boxes[j], SIDE_LIMIT)?;
+        let greater = match j {
+            0 => true,
+            _ => {
+                let (before, this) = (&self.unsafe_boxes[j - 1], &self.unsafe_boxes[j]);
+                before.compare(this, self.n()).is_lt()
+            }
+        };
+        require(greater, Refusal::Order)
+    }
+
     /// All tests of the values, in the order of the file.
     fn test(&self) -> Result<(), Refusal> {
         self.test_head()?;
@@ -210,8 +224,8 @@ impl Sheet {
         for k in 0..self.bands().len() {
             self.test_band(k)?;
         }
-        for unsafe_box in self.unsafe_boxes() {
-            self.test_sides(unsafe_box, SIDE_LIMIT)?;
+        for j in 0..self.unsafe_boxes().len() {
+            self.test_unsafe_box(j)?;
         }
         self.test_sides(&self.recovery, START_LIMIT)
     }
@@ -442,7 +456,7 @@ pub fn read(bytes: &[u8]) -> Result<Sheet, Refusal> {
     for j in 0..sheet.unsafe_count as usize {
         require(fields.mark(b"NG"), Refusal::Mark)?;
         sheet.unsafe_boxes[j] = fields.sides(n);
-        sheet.test_sides(&sheet.unsafe_boxes[j], SIDE_LIMIT)?;
+        sheet.test_unsafe_box(j)?;
     }
     require(fields.mark(b"RC"), Refusal::Mark)?;
     sheet.recovery = fields.sides(n);

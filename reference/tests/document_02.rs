@@ -1,17 +1,21 @@
 //! Cases of document 02 worked by hand.
+//! Paper 2: no-go records ascend strictly, and their order changes no answer.
 //! Paper 3: each band's row is bounded over the part of the neighborhood that lies in that band.
 //! Paper 6: a change is compared with its cap first and divided only strictly between.
 
 use second_guard::boxes::StateBox;
 use second_guard::changes::{Change, Place};
-use second_guard::decision::{decide, Decision};
+use second_guard::decision::{
+    check_recovery_watched, decide, decide_watched, Decision, Faults, Question, RecoveryCheck,
+};
 use second_guard::machine::{
     ceil_div, floor_div, greatest_change, greatest_so_far, least_change, least_so_far,
 };
 use second_guard::neighborhoods::Face;
-use second_guard::reach::{advance, reach, Budget, Law, Reach, Watch};
-use second_guard::sheet::{self, Band, CommandRange, Row, Sheet, FIRST_EDGE};
+use second_guard::reach::{advance, reach, Budget, Law, Reach, Step, Watch};
+use second_guard::sheet::{self, Band, CommandRange, Refusal, Row, Sheet, FIRST_EDGE};
 use second_guard::whole::WholeNeighborhoods;
+use std::ops::ControlFlow;
 
 /// The box of two variables.
 fn sides(x: (i64, i64), z: (i64, i64)) -> StateBox {
@@ -56,6 +60,483 @@ fn machine(bands: &[(i32, Row, Row)]) -> Sheet {
     sheet.unsafe_boxes[0] = sides((1_000, 1_000), (1_000, 1_000));
     sheet
 }
+
+// ---- Paper 2
+
+/// The box with these sides.
+fn box_of(pairs: &[(i64, i64)]) -> StateBox {
+    let mut sides = StateBox::default();
+    for (i, &(lower, upper)) in pairs.iter().enumerate() {
+        (sides.lower[i], sides.upper[i]) = (lower, upper);
+    }
+    sides
+}
+
+/// A machine of n variables that do not move, with these no-go boxes.
+fn still(n: usize, boxes: &[StateBox]) -> Sheet {
+    let mut sheet = machine(&[(FIRST_EDGE, STILL, STILL)]);
+    sheet.variables = n as i32;
+    sheet.band_variable = 0;
+    sheet.caps = [5; 4];
+    sheet.bands[0].rows = [STILL; 4];
+    sheet.recovery = box_of(&[(-10, 100); 4]);
+    sheet.unsafe_count = boxes.len() as i32;
+    sheet.unsafe_boxes[..boxes.len()].copy_from_slice(boxes);
+    sheet
+}
+
+/// Where no-go record j begins, and after the last one the recovery record.
+fn record(sheet: &Sheet, j: usize) -> usize {
+    let records = sheet.unsafe_boxes().len() + 1;
+    sheet.length() - (2 + 8 * sheet.n()) * (records - j)
+}
+
+/// The sheet's bytes, with the no-go boxes as they are.
+fn bytes_of(sheet: &Sheet) -> Vec<u8> {
+    let (n, mut ascending) = (sheet.n(), *sheet);
+    for (j, sides) in (0..).zip(&mut ascending.unsafe_boxes) {
+        *sides = box_of(&[(j, j); 4]);
+    }
+    let mut bytes = vec![0; sheet.length()];
+    sheet::write(&ascending, &mut bytes, 0).expect("ascending boxes");
+    for (j, sides) in sheet.unsafe_boxes().iter().enumerate() {
+        let pairs = (0..n).flat_map(|i| [sides.lower[i] as i32, sides.upper[i] as i32]);
+        let pairs: Vec<u8> = pairs.flat_map(i32::to_be_bytes).collect();
+        let at = record(sheet, j) + 2;
+        bytes[at..at + 8 * n].copy_from_slice(&pairs);
+    }
+    bytes
+}
+
+/// By which number reader and writer refuse the sheet; 0 is none.
+fn refusal(sheet: &Sheet) -> u8 {
+    let number = |refusal: Option<Refusal>| refusal.map_or(0, Refusal::number);
+    let bytes = bytes_of(sheet);
+    let mut buffer = vec![7; bytes.len() + 2];
+    let read = number(sheet::read(&bytes).err());
+    let written = number(sheet::write(sheet, &mut buffer, 1).err());
+    assert_eq!(read, written);
+    let whole = [&[7], &bytes[..], &[7]].concat();
+    let left = vec![7; bytes.len() + 2];
+    assert_eq!(buffer, if written == 0 { whole } else { left });
+    read
+}
+
+#[test]
+fn ascending_boxes_are_accepted() {
+    let of = |pairs: &[(i64, i64)]| pairs.iter().map(|&pair| box_of(&[pair])).collect();
+    let ascending: [Vec<StateBox>; 4] = [
+        of(&[(2_000_000, 2_000_000)]),
+        of(&[(-2_000_000, -2_000_000), (2_000_000, 2_000_000)]),
+        of(&[(1, 1), (1, 2), (1, 9), (2, 2), (2, 5), (3, 3)]),
+        (0..8).map(|j| box_of(&[(0, 9), (0, 9 + j)])).collect(),
+    ];
+    for (boxes, n) in ascending.iter().zip([1, 1, 1, 2]) {
+        assert_eq!(refusal(&still(n, boxes)), 0);
+    }
+}
+
+#[test]
+fn equal_boxes_are_refused() {
+    for n in 1..=4 {
+        let (low, high) = (box_of(&[(1, 2); 4][..n]), box_of(&[(3, 3); 4][..n]));
+        for boxes in [vec![low, low], vec![low, high, high], vec![high; 8]] {
+            assert_eq!(refusal(&still(n, &boxes)), 20);
+        }
+    }
+}
+
+/// The box with a number added to one side: lower and upper side of each variable in turn.
+fn with_side(mut sides: StateBox, side: usize, more: i64) -> StateBox {
+    let (i, upper) = (side / 2, side % 2 == 1);
+    let of = if upper {
+        &mut sides.upper
+    } else {
+        &mut sides.lower
+    };
+    of[i] += more;
+    sides
+}
+
+#[test]
+fn one_side_decides() {
+    for n in 1..=4 {
+        let base = box_of(&[(10, 20); 4][..n]);
+        for side in 0..2 * n {
+            let greater = with_side(base, side, 1);
+            assert_eq!(refusal(&still(n, &[base, greater])), 0);
+            assert_eq!(refusal(&still(n, &[greater, base])), 20);
+        }
+    }
+}
+
+#[test]
+fn the_first_differing_side_decides() {
+    for n in 1..=4 {
+        let base = box_of(&[(10, 20); 4][..n]);
+        for side in 0..2 * n {
+            // All sides after it are less.
+            let later = side + 1..2 * n;
+            let greater = later.fold(with_side(base, side, 1), |sides, s| with_side(sides, s, -5));
+            assert_eq!(refusal(&still(n, &[base, greater])), 0);
+            assert_eq!(refusal(&still(n, &[greater, base])), 20);
+        }
+    }
+}
+
+#[test]
+fn every_record_is_compared_with_the_one_before() {
+    let of = |numbers: &[i64]| {
+        let boxes: Vec<StateBox> = numbers.iter().map(|&x| box_of(&[(x, 50)])).collect();
+        refusal(&still(1, &boxes))
+    };
+    assert_eq!(of(&[1, 2, 3]), 0);
+    assert_eq!(of(&[1, 3, 2]), 20);
+    assert_eq!(of(&[2, 1, 3]), 20);
+    assert_eq!(of(&[2, 3, 1]), 20);
+    for j in 1..8 {
+        // The one at j is less than the one before, and greater than all others before.
+        let mut numbers = [0, 4, 8, 12, 16, 20, 24, 28];
+        numbers[j] = numbers[j - 1] - 1;
+        assert_eq!(of(&numbers), 20);
+    }
+}
+
+#[test]
+fn sides_beyond_n_are_not_looked_at() {
+    let sheet = |n, boxes: &[[(i64, i64); 4]]| {
+        let boxes: Vec<StateBox> = boxes.iter().map(|pairs| box_of(pairs)).collect();
+        let sheet = still(n, &boxes);
+        let mut bytes = vec![0; sheet.length()];
+        sheet::write(&sheet, &mut bytes, 0).map_err(Refusal::number)
+    };
+    let (far, near) = ((i64::from(i32::MAX), i64::from(i32::MIN)), (0, 0));
+    let less = [(1, 2), (3, 4), far, far];
+    let more = [(1, 2), (3, 5), near, near];
+    assert!(sheet(2, &[less, more]).is_ok());
+    assert_eq!(sheet(2, &[more, less]), Err(20));
+    // Equal up to n.
+    let same = [(1, 2), (3, 4), near, near];
+    assert_eq!(sheet(2, &[same, less]), Err(20));
+    assert_eq!(sheet(2, &[less, same]), Err(20));
+    // The fourth variable counts where n is 4.
+    let (third, fourth) = (
+        [(1, 2), (3, 4), (5, 6), (7, 8)],
+        [(1, 2), (3, 4), (5, 6), (7, 9)],
+    );
+    assert!(sheet(4, &[third, fourth]).is_ok());
+    assert_eq!(sheet(3, &[third, fourth]), Err(20));
+}
+
+/// Three ascending boxes of two variables.
+fn sheet_of_three() -> Sheet {
+    still(2, &[10, 20, 30].map(|x| box_of(&[(x, 50), (0, 9)])))
+}
+
+/// Other bytes at a place, and the refusal.
+type Damage = (u8, usize, Vec<u8>);
+
+/// Damages of that sheet in the order in which they are found. One of 5 adds a byte. One of 20 is a
+/// first lower side below all others.
+fn damages() -> Vec<Damage> {
+    let sheet = sheet_of_three();
+    let int = |value: i32| value.to_be_bytes().to_vec();
+    let band = record(&sheet, 0) - 46;
+    let mut list = vec![
+        (1, 0, b"XH".to_vec()),
+        (2, 5, vec![2]),
+        (3, 10, vec![0, 0]),
+        (4, 16, int(10_001)),
+        (5, 0, Vec::new()),
+        (6, 22, vec![3, 233]),
+        (7, band, b"NG".to_vec()),
+        (8, band + 2, int(0)),
+        (9, band + 6, int(1)),
+        (10, band + 14 + 16 + 2, vec![3, 233]),
+    ];
+    for j in 0..4 {
+        let at = record(&sheet, j);
+        list.push((7, at, b"XX".to_vec()));
+        list.push((11, at + 14, int(2_000_001)));
+        if (1..3).contains(&j) {
+            list.push((20, at + 2, int(-100 - j as i32)));
+        }
+    }
+    list
+}
+
+fn damaged(damages: &[&Damage]) -> u8 {
+    let mut bytes = bytes_of(&sheet_of_three());
+    for (_, at, new) in damages {
+        bytes[*at..at + new.len()].copy_from_slice(new);
+    }
+    if damages.iter().any(|damage| damage.0 == 5) {
+        bytes.push(0);
+    }
+    sheet::read(&bytes).err().map_or(0, Refusal::number)
+}
+
+#[test]
+fn the_readers_order_of_refusals() {
+    let damages = damages();
+    assert_eq!(damaged(&[]), 0);
+    let mut pairs = 0;
+    for (i, first) in damages.iter().enumerate() {
+        assert_eq!(damaged(&[first]), first.0);
+        for second in &damages[i + 1..] {
+            assert_eq!(damaged(&[first, second]), first.0, "{first:?} {second:?}");
+            pairs += usize::from(first.0 == 20 || second.0 == 20);
+        }
+    }
+    // Each of the two of 20 with each of the 18 others, and the two together.
+    assert_eq!((damages.len(), pairs), (20, 2 * 18 + 1));
+}
+
+#[test]
+fn marks_and_sides_around_20() {
+    // Records 2 and 3 and the recovery record: mark, sides, order.
+    let all = damages();
+    let of = |j: usize, number: u8| {
+        let from = record(&sheet_of_three(), j);
+        let mut records = all
+            .iter()
+            .filter(|(_, at, _)| (from..from + 18).contains(at));
+        records.find(|damage| damage.0 == number).expect("a damage")
+    };
+    assert_eq!(damaged(&[of(1, 7), of(1, 20)]), 7);
+    assert_eq!(damaged(&[of(1, 11), of(1, 20)]), 11);
+    assert_eq!(damaged(&[of(1, 20), of(2, 7)]), 20);
+    assert_eq!(damaged(&[of(1, 20), of(2, 11)]), 20);
+    assert_eq!(damaged(&[of(2, 20), of(3, 7)]), 20);
+    assert_eq!(damaged(&[of(2, 20), of(3, 11)]), 20);
+    assert_eq!(damaged(&[of(0, 11), of(1, 20)]), 11);
+    assert_eq!(damaged(&[of(1, 11), of(2, 20)]), 11);
+}
+
+/// A number put into a slot of the values, and the refusal, in the order in which they are found.
+fn wrong_numbers() -> Vec<(u8, usize, i32)> {
+    const BAND: usize = 13;
+    const RECOVERY: usize = 293;
+    const BOXES: usize = 301;
+    let mut list = vec![
+        (2, 3, 2),
+        (3, 6, 0),
+        (4, 8, 10_001),
+        (6, 10, 1_001),
+        (8, BAND, 0),
+        (9, BAND + 1, 1),
+        (10, BAND + 3, 1_001),
+    ];
+    for j in 0..3 {
+        list.push((11, BOXES + 8 * j + 5, 2_000_001));
+        if j > 0 {
+            list.push((20, BOXES + 8 * j, -100 - j as i32));
+        }
+    }
+    list.push((11, RECOVERY + 5, 1_000_001));
+    list
+}
+
+/// The writer's refusal, with room or without.
+fn writers_refusal(wrong: &[&(u8, usize, i32)], room: usize) -> u8 {
+    let mut numbers = sheet_of_three().numbers();
+    for &&(_, slot, number) in wrong {
+        numbers[slot] = number;
+    }
+    let mut buffer = vec![7; room];
+    let written = sheet::write(&Sheet::from_numbers(&numbers), &mut buffer, 0);
+    assert!(written.is_ok() || buffer == vec![7; room]);
+    written.err().map_or(0, Refusal::number)
+}
+
+#[test]
+fn the_writers_order_of_refusals() {
+    let wrong = wrong_numbers();
+    let length = sheet_of_three().length();
+    assert_eq!(writers_refusal(&[], length), 0);
+    assert_eq!(writers_refusal(&[], length - 1), 17);
+    for (i, first) in wrong.iter().enumerate() {
+        for room in [length, length - 1, 0] {
+            assert_eq!(writers_refusal(&[first], room), first.0);
+            for second in &wrong[i + 1..] {
+                assert_eq!(writers_refusal(&[first, second], room), first.0);
+            }
+        }
+    }
+}
+
+/// Numbers that only look random.
+struct Numbers(u64);
+
+impl Numbers {
+    fn between(&mut self, least: i32, greatest: i32) -> i32 {
+        let step = self.0.wrapping_mul(6_364_136_223_846_793_005);
+        self.0 = step.wrapping_add(1_442_695_040_888_963_407);
+        least + ((self.0 >> 33) % (greatest - least + 1) as u64) as i32
+    }
+
+    /// A pair with its lower side and its length from these ranges.
+    fn pair(&mut self, lower: (i32, i32), length: i32) -> (i64, i64) {
+        let lower = self.between(lower.0, lower.1);
+        (lower.into(), (lower + self.between(0, length)).into())
+    }
+}
+
+/// A machine of two variables and two bands that its plain law draws to 0, with these many no-go
+/// boxes around, in any order.
+fn among_boxes(numbers: &mut Numbers, boxes: usize) -> Sheet {
+    let mut pull = |own: usize| {
+        let mut row = row([numbers.between(-2, 2), numbers.between(-2, 2)], 0, 8);
+        row.a[own] = numbers.between(-6, -1);
+        (row.b, row.d) = (numbers.between(-9, 9), numbers.between(0, 3));
+        row
+    };
+    let mut sheet = machine(&[(FIRST_EDGE, pull(0), pull(1)), (5, pull(0), pull(1))]);
+    sheet.delta = numbers.between(1, 6);
+    sheet.alpha = numbers.between(1, 8);
+    sheet.rho = numbers.between(1, 8);
+    (sheet.commands.least, sheet.commands.greatest) = (-9, 9);
+    sheet.recovery = sides((-40, 40), (-30, 30));
+    sheet.unsafe_count = boxes as i32;
+    for unsafe_box in &mut sheet.unsafe_boxes[..boxes] {
+        let far = [(-70, -40), (25, 55)][numbers.between(0, 1) as usize];
+        *unsafe_box = sides(numbers.pair(far, 15), numbers.pair((-50, 30), 25));
+    }
+    sheet
+}
+
+/// All orders of so many things.
+fn orders(count: usize) -> Vec<Vec<usize>> {
+    if count == 0 {
+        return vec![Vec::new()];
+    }
+    let longer = |order: Vec<usize>| {
+        (0..count).map(move |at| {
+            let mut order = order.clone();
+            order.insert(at, count - 1);
+            order
+        })
+    };
+    orders(count - 1).into_iter().flat_map(longer).collect()
+}
+
+/// Some orders of eight.
+fn orders_of_eight(numbers: &mut Numbers) -> Vec<Vec<usize>> {
+    let mut order: Vec<usize> = (0..8).collect();
+    let mut next = || {
+        for at in (1..8).rev() {
+            order.swap(at, numbers.between(0, at as i32) as usize);
+        }
+        order.clone()
+    };
+    (0..24).map(|_| next()).collect()
+}
+
+/// The sheet's values with the boxes in this order.
+fn in_order(sheet: &Sheet, order: &[usize]) -> Sheet {
+    let mut other = *sheet;
+    for (at, &from) in order.iter().enumerate() {
+        other.unsafe_boxes[at] = sheet.unsafe_boxes[from];
+    }
+    other
+}
+
+/// The last step that settled.
+#[derive(Default)]
+struct LastStep(Option<Step>);
+
+impl Watch for LastStep {
+    fn settled(&mut self, step: &Step) -> ControlFlow<()> {
+        self.0 = Some(*step);
+        ControlFlow::Continue(())
+    }
+}
+
+/// How often each answer was seen: keep, finest at a no-go box, other finest, spent; pass, fail at a
+/// no-go box, other fail.
+#[derive(Default)]
+struct Answers {
+    decisions: [u32; 4],
+    checks: [u32; 3],
+}
+
+impl Answers {
+    fn decision(&mut self, sheet: &Sheet, question: &Question) -> Decision {
+        let mut last = LastStep::default();
+        let decision = decide_watched(sheet, question, Faults::default(), &mut last);
+        let kind = match decision {
+            Decision::Keep { .. } => 0,
+            Decision::Finest { .. } if ended_at_a_box(sheet, &last) => 1,
+            Decision::Finest { .. } => 2,
+            _ => 3,
+        };
+        self.decisions[kind] += 1;
+        decision
+    }
+
+    fn check(&mut self, sheet: &Sheet) -> RecoveryCheck {
+        let mut last = LastStep::default();
+        let check = check_recovery_watched(sheet, &mut last);
+        let kind = match check {
+            RecoveryCheck::Pass { .. } => 0,
+            _ if ended_at_a_box(sheet, &last) => 1,
+            _ => 2,
+        };
+        self.checks[kind] += 1;
+        check
+    }
+}
+
+fn ended_at_a_box(sheet: &Sheet, last: &LastStep) -> bool {
+    let swept = last.0.expect("a step").swept;
+    sheet.unsafe_boxes().iter().any(|u| u.meets(&swept))
+}
+
+/// All orders give the same recovery check and decisions as the first.
+fn compare_orders(numbers: &mut Numbers, sheet: &Sheet, orders: &[Vec<usize>], seen: &mut Answers) {
+    let check = seen.check(sheet);
+    for order in orders {
+        assert_eq!(seen.check(&in_order(sheet, order)), check, "{order:?}");
+    }
+    for allowance in [1_000_000, numbers.between(0, 30) as u32] {
+        let question = Question {
+            allowance,
+            command: numbers.between(-9, 9),
+            measured: sides(numbers.pair((-45, 40), 6), numbers.pair((-35, 30), 6)),
+        };
+        let decision = seen.decision(sheet, &question);
+        for order in orders {
+            let other = seen.decision(&in_order(sheet, order), &question);
+            assert_eq!(other, decision, "{order:?}");
+        }
+    }
+}
+
+#[test]
+fn the_order_of_the_boxes_changes_no_answer() {
+    let (mut numbers, mut seen) = (Numbers(2), Answers::default());
+    for boxes in 1..=4 {
+        for _ in 0..100 {
+            let sheet = among_boxes(&mut numbers, boxes);
+            compare_orders(&mut numbers, &sheet, &orders(boxes), &mut seen);
+        }
+    }
+    for _ in 0..100 {
+        let sheet = among_boxes(&mut numbers, 8);
+        let orders = orders_of_eight(&mut numbers);
+        compare_orders(&mut numbers, &sheet, &orders, &mut seen);
+    }
+    assert_eq!(orders(4).len(), 24);
+    let least = seen.decisions.iter().chain(&seen.checks).min();
+    assert!(
+        least >= Some(&100),
+        "{:?} {:?}",
+        seen.decisions,
+        seen.checks
+    );
+}
+
+// ---- Paper 3
 
 /// One tick, which one round settles: the start box moved by the rates.
 fn moved(sheet: &Sheet, start: StateBox) -> StateBox {

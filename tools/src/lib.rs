@@ -5,6 +5,7 @@
 pub mod archive;
 pub mod asks_text;
 pub mod attempts;
+pub mod box_order;
 pub mod causes;
 pub mod listing;
 pub mod names;

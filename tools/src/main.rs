@@ -4,6 +4,7 @@ use second_guard::decision::Question;
 use sheet_tool::archive;
 use sheet_tool::asks_text::{self, Ask, Asked, AsksText};
 use sheet_tool::attempts::{attempts, Attempt, Attempts, Subject};
+use sheet_tool::box_order;
 use sheet_tool::listing::{listing, recovery_sentence, sentence};
 use sheet_tool::picture::picture;
 use sheet_tool::sheet_parser;
@@ -23,6 +24,7 @@ sheet picture SHEET [ASKS NUMBER]         draw the recovery check, or one decisi
       [--width WIDTH]                     at this width, not the last one
 
 SHEET and ASKS are text, or bytes where the name ends in .bin.
+A text may have its no-go boxes in any order; the file has them in ascending order.
 ";
 
 fn main() -> ExitCode {
@@ -52,7 +54,7 @@ fn run(words: &[String]) -> Result<String, String> {
         ("pack", [sheet, asks @ ..], Some(("--to", [folder]))) if asks.len() < 2 => {
             pack(sheet, asks.first(), folder)
         }
-        ("text", [sheet], None) => Ok(load_sheet(sheet)?.text.text()),
+        ("text", [sheet], None) => Ok(load_sheet(sheet)?.text.in_file_order().text()),
         ("text", [sheet], Some(("--like", [like]))) => text_like(sheet, like),
         ("text", [sheet, asks], None) => Ok(load_both(sheet, asks)?.1.text()),
         ("text", [sheet, asks], Some(("--like", [like, asks_like]))) => {
@@ -89,16 +91,24 @@ fn read_text(path: &str) -> Result<String, String> {
     std::fs::read_to_string(path).map_err(|error| format!("{path}: {error}"))
 }
 
+/// The fault of bytes that are no sheet.
+fn refused_bytes(number: u8, bytes: &[u8]) -> Fault {
+    let record = match number {
+        20 => box_order::record_at_fault(bytes),
+        _ => None,
+    };
+    Fault {
+        line: None,
+        refusal: Some(number),
+        what: record.unwrap_or_else(|| format!("{} bytes", bytes.len())),
+    }
+}
+
 fn load_sheet(path: &str) -> Result<Loaded, String> {
     if path.ends_with(".bin") {
         let bytes = read_bytes(path)?;
-        let sheet = archive::read(&bytes).map_err(|number| {
-            in_file(path)(Fault {
-                line: None,
-                refusal: Some(number),
-                what: format!("{} bytes", bytes.len()),
-            })
-        })?;
+        let sheet =
+            archive::read(&bytes).map_err(|number| in_file(path)(refused_bytes(number, &bytes)))?;
         let text = sheet_text::from_sheet(&sheet);
         return Ok(Loaded { text, bytes });
     }
@@ -133,7 +143,18 @@ fn pack(sheet: &str, asks: Option<&String>, folder: &str) -> Result<String, Stri
     if let Some(asks) = asks {
         write_bytes(folder, "asks.bin", &asks.bytes(&loaded.text.sheet))?;
     }
-    Ok(String::new())
+    Ok(said_order(sheet, &loaded.text))
+}
+
+/// A line that says how the no-go boxes are put in order; nothing where the text has them so.
+fn said_order(path: &str, text: &SheetText) -> String {
+    let lines = text.unsafe_lines();
+    if lines.is_sorted() {
+        return String::new();
+    }
+    let lines: Vec<String> = lines.iter().map(usize::to_string).collect();
+    let lines = lines.join(", ");
+    format!("{path}: no-go boxes put in order: sheet.bin has them in the order of lines {lines}\n")
 }
 
 fn write_bytes(folder: &str, name: &str, bytes: &[u8]) -> Result<(), String> {

@@ -1,6 +1,8 @@
 //! Which number of a sheet or a question is at fault, in words.
-//! Every test of a value is a range whose ends are constants or earlier values.
+//! Every test of a value is a range whose ends are constants or earlier values; a no-go box is compared with
+//! the one before it, too.
 
+use crate::box_order;
 use crate::names::{Item, Names};
 use guard_bindings::format::{BANDS, UNSAFE_BOXES, VARIABLES};
 use second_guard::boxes::StateBox;
@@ -15,15 +17,16 @@ const OFFSET_LIMIT: i32 = 100_000_000;
 const DIVISOR_LIMIT: i32 = 4_096;
 const ALLOWANCE_LIMIT: i64 = 1_000_000;
 
-/// A value that has to lie within two ends.
+/// A value that has to lie within two ends, or a box that has to be greater than another one.
 pub struct Test<P> {
     pub refusal: u8,
-    /// Where the value stands.
+    /// Where the value or the box stands.
     pub place: P,
-    pub what: String,
-    value: i64,
-    least: i64,
-    greatest: i64,
+    /// Where the other box stands; the words end on it.
+    pub other: Option<P>,
+    fails: bool,
+    /// What is wrong if the test fails.
+    pub words: String,
 }
 
 impl<P> Test<P> {
@@ -34,33 +37,19 @@ impl<P> Test<P> {
         value: impl Into<i64>,
         ends: (impl Into<i64>, impl Into<i64>),
     ) -> Test<P> {
-        Test {
-            refusal,
-            place,
-            what: what.into(),
-            value: value.into(),
-            least: ends.0.into(),
-            greatest: ends.1.into(),
-        }
-    }
-
-    fn fails(&self) -> bool {
-        self.value < self.least || self.value > self.greatest
-    }
-
-    /// What is wrong, in words.
-    pub fn words(&self) -> String {
-        let Test {
-            what,
-            value,
-            least,
-            greatest,
-            ..
-        } = self;
-        if least == greatest {
+        let (what, value) = (what.into(), value.into());
+        let (least, greatest) = (ends.0.into(), ends.1.into());
+        let words = if least == greatest {
             format!("{what} is {value}, it has to be {least}")
         } else {
             format!("{what} is {value}, it has to lie within {least}..{greatest}")
+        };
+        Test {
+            refusal,
+            place,
+            other: None,
+            fails: value < least || value > greatest,
+            words,
         }
     }
 }
@@ -184,8 +173,27 @@ fn sides<P: Copy>(
     tests
 }
 
+/// No-go box j has to be greater than the one before it, if there is one.
+fn order(sheet: &Sheet, names: &Names, j: usize) -> Option<Test<Item>> {
+    let before = j.checked_sub(1)?;
+    let boxes = sheet.unsafe_boxes();
+    let found = box_order::compare(&boxes[j], &boxes[before], sheet.n());
+    let named = |j: usize, unnamed: &str| match &names.unsafe_boxes[j] {
+        Some(name) => format!("no-go box \"{name}\""),
+        None => unnamed.into(),
+    };
+    let (this, other) = (named(j, "this no-go box"), named(before, "the one"));
+    Some(Test {
+        refusal: 20,
+        place: Item::Unsafe(j),
+        other: Some(Item::Unsafe(before)),
+        fails: found.is_le(),
+        words: format!("{this} {} {other}", box_order::words(found)),
+    })
+}
+
 fn first_failing<P>(tests: Vec<Test<P>>) -> Option<Test<P>> {
-    tests.into_iter().find(Test::fails)
+    tests.into_iter().find(|test| test.fails)
 }
 
 /// The first number of a sheet that is at fault, in the order of the file.
@@ -201,6 +209,7 @@ pub fn sheet_fault(sheet: &Sheet, names: &Names) -> Option<Test<Item>> {
     }
     for (j, unsafe_box) in sheet.unsafe_boxes().iter().enumerate() {
         tests.extend(sides(11, Item::Unsafe(j), unsafe_box, n, SIDE_LIMIT, names));
+        tests.extend(order(sheet, names, j));
     }
     let recovery = &sheet.recovery;
     tests.extend(sides(11, Item::Recovery, recovery, n, START_LIMIT, names));

@@ -17,7 +17,8 @@ const RESERVED: [&str; 8] = [
     "unit",
 ];
 
-/// Reads all lines. Values are not tested here: `SheetText::bytes` does that.
+/// Reads all lines and numbers the no-go boxes as the file has them, in whatever order they stand. Values are
+/// not tested here: `SheetText::bytes` does that.
 pub fn parse(text: &str) -> Result<SheetText, Fault> {
     let mut parser = Parser::new();
     for (index, line) in text.lines().enumerate() {
@@ -302,7 +303,7 @@ impl Parser {
     }
 
     /// Every line that a sheet needs is there. What is counted may be missing: the guard refuses it.
-    fn complete(self) -> Result<SheetText, Fault> {
+    fn complete(mut self) -> Result<SheetText, Fault> {
         let needed = [
             (Item::Command, "command"),
             (Item::Times, "times"),
@@ -315,6 +316,7 @@ impl Parser {
             }
         }
         self.rows_complete()?;
+        self.text.sort_boxes();
         Ok(self.text)
     }
 }

@@ -1,8 +1,9 @@
 //! A sheet as text: what its lines say, and the one form in which the tool writes each of them.
 
 use crate::archive;
+use crate::box_order::{ascending, counterparts};
 use crate::names::{Item, Named, Names};
-use crate::refusal::sheet_fault;
+use crate::refusal::{sheet_fault, Test};
 use crate::tokens::{split_comment, Fault, Unit};
 use second_guard::boxes::StateBox;
 use second_guard::sheet::{Band, Row, Sheet, FIRST_EDGE, SIDE_LIMIT};
@@ -69,6 +70,58 @@ impl SheetText {
         Some(at + 1)
     }
 
+    /// The lines of the no-go boxes, in the order of the file.
+    pub fn unsafe_lines(&self) -> Vec<usize> {
+        (0..self.names.unsafe_boxes.len())
+            .filter_map(|j| self.line_of(Item::Unsafe(j)))
+            .collect()
+    }
+
+    /// Box j becomes the no-go box that has number `order[j]`, with its name. No line is moved.
+    fn renumber(&mut self, order: &[usize]) {
+        let (boxes, names) = (self.sheet.unsafe_boxes, self.names.unsafe_boxes.clone());
+        self.names.unsafe_boxes = order.iter().map(|&k| names[k].clone()).collect();
+        for (slot, &k) in self.sheet.unsafe_boxes.iter_mut().zip(order) {
+            *slot = boxes[k];
+        }
+        self.renumber_lines(order);
+    }
+
+    fn renumber_lines(&mut self, order: &[usize]) {
+        for line in &mut self.lines {
+            if let Some(Item::Unsafe(k)) = line.item {
+                line.item = order.iter().position(|&old| old == k).map(Item::Unsafe);
+            }
+        }
+    }
+
+    /// Numbers the no-go boxes as the file has them. No line is moved.
+    pub fn sort_boxes(&mut self) {
+        let order = ascending(self.sheet.unsafe_boxes(), self.sheet.n());
+        self.renumber(&order);
+    }
+
+    /// This text with the lines of its no-go boxes in the order of the file. They share the places that they
+    /// have, and every other line stays.
+    pub fn in_file_order(&self) -> SheetText {
+        let lines = self.unsafe_lines();
+        let mut places = lines.clone();
+        places.sort_unstable();
+        let mut text = self.clone();
+        for (place, line) in places.into_iter().zip(lines) {
+            text.lines[place - 1] = self.lines[line - 1].clone();
+        }
+        text
+    }
+
+    /// What a failed test says, with the line of the other box if it speaks of one.
+    fn words(&self, test: &Test<Item>) -> String {
+        match test.other.and_then(|item| self.line_of(item)) {
+            Some(line) => format!("{} on line {line}", test.words),
+            None => test.words.clone(),
+        }
+    }
+
     /// The sheet's bytes, by the archive's writer. What it refuses is a fault with its line.
     pub fn bytes(&self) -> Result<Vec<u8>, Fault> {
         let found = sheet_fault(&self.sheet, &self.names);
@@ -77,7 +130,7 @@ impl SheetText {
             (Err(number), Some(test)) if number == test.refusal => Err(Fault {
                 line: self.line_of(test.place),
                 refusal: Some(number),
-                what: test.words(),
+                what: self.words(&test),
             }),
             (answer, found) => Err(Fault::general(format!(
                 "the archive's writer and this tool differ: {:?} and {:?}",
@@ -87,7 +140,8 @@ impl SheetText {
         }
     }
 
-    /// This text with another sheet's values: lines whose values are the same stay as they are.
+    /// This text with another sheet's values: lines whose values are the same stay as they are. The no-go
+    /// boxes stand in the order of that sheet; one that is equal to a box of this text keeps its line.
     pub fn with_values(&self, sheet: &Sheet) -> Result<SheetText, Fault> {
         let counts = |s: &Sheet| (s.variables, s.band_count, s.unsafe_count);
         if counts(sheet) != counts(&self.sheet) {
@@ -95,17 +149,21 @@ impl SheetText {
                 "the sheets differ in their number of variables, bands or no-go boxes",
             ));
         }
-        let lines = self
+        let mut like = self.clone();
+        let (new, old) = (sheet.unsafe_boxes(), self.sheet.unsafe_boxes());
+        like.renumber(&counterparts(new, old, sheet.n()));
+        let like = like.in_file_order();
+        let lines = like
             .lines
             .iter()
             .map(|old| SourceLine {
-                text: self.line_with(old, sheet),
+                text: like.line_with(old, sheet),
                 item: old.item,
             })
             .collect();
         Ok(SheetText {
             sheet: *sheet,
-            names: self.names.clone(),
+            names: like.names,
             lines,
         })
     }

@@ -8,7 +8,8 @@ use second_guard::sheet::{self, Sheet, FIRST_EDGE};
 use second_guard::{boxes, decision};
 use sheet_tool::archive;
 
-/// A sheet with every count at its greatest; each number that a test looks for stands there once.
+/// A sheet with every count at its greatest; each number that a test looks for stands there once, and the
+/// no-go boxes ascend.
 fn largest() -> Sheet {
     let mut sheet = Sheet {
         variables: VARIABLES as i32,

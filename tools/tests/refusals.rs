@@ -2,8 +2,11 @@
 
 mod common;
 
-use common::{example_text, shell, Folder, Numbers};
-use sheet_tool::{asks_text, sheet_parser};
+use common::{example_text, load, shell, Folder, Numbers};
+use second_guard::boxes::StateBox;
+use sheet_tool::sheet_text::{self, SheetText};
+use sheet_tool::{archive, asks_text, sheet_parser};
+use std::collections::BTreeMap;
 
 /// Sheet A with one line replaced, and the fault that follows.
 fn fault(line: &str, instead: &str) -> String {
@@ -92,6 +95,156 @@ fn too_many_of_a_kind() {
     let expected = "line 8: refused 2 (n, a count or band variable out of range): \
                     the number of variables is 5, it has to lie within 1..4";
     assert_eq!(fault("variable x  cap 5\n", variables), expected);
+}
+
+/// Sheet A's no-go box, in line 12.
+const THE_END: &str = "no-go \"the end\"  x 130..\n";
+const ORDER: &str = "refused 20 (no-go record not greater than the one before)";
+
+/// The fault of sheet A with other no-go boxes.
+fn boxes_fault(boxes: &str) -> String {
+    fault(THE_END, boxes)
+}
+
+#[test]
+fn equal_no_go_boxes() {
+    let cases = [
+        (
+            "no-go \"the end\"  x 130..\nno-go \"stop\"  x 130..2000000\n",
+            "line 13: ORDER: no-go box \"stop\" is equal to no-go box \"the end\" on line 12",
+        ),
+        (
+            "no-go  x 130..\nno-go  x 7\n# between\nno-go  x 130..\n",
+            "line 15: ORDER: this no-go box is equal to the one on line 12",
+        ),
+        (
+            "no-go  x 7\nno-go \"stop\"  x 5..6\nno-go  x 5..6\n",
+            "line 14: ORDER: this no-go box is equal to no-go box \"stop\" on line 13",
+        ),
+        (
+            "no-go  x 7..7\nno-go \"stop\"  x 7\n",
+            "line 13: ORDER: no-go box \"stop\" is equal to the one on line 12",
+        ),
+        // The first two of three.
+        (
+            "no-go  x any\nno-go  x any\nno-go  x any\n",
+            "line 13: ORDER: this no-go box is equal to the one on line 12",
+        ),
+    ];
+    for (boxes, expected) in cases {
+        assert_eq!(boxes_fault(boxes), expected.replace("ORDER", ORDER));
+    }
+}
+
+#[test]
+fn no_go_boxes_in_another_order_are_accepted() {
+    let boxes = [
+        "no-go  x 130..\nno-go  x -200..-150\n",
+        "no-go  x 130..140\nno-go  x 130..139\n",
+        "no-go  x 130..\nno-go  x any\nno-go  x ..-150\n",
+    ];
+    for boxes in boxes {
+        assert_eq!(boxes_fault(boxes), "accepted");
+    }
+}
+
+/// In the order of the file: a box's sides, then whether it is greater than the one before, then the next.
+#[test]
+fn equal_boxes_beside_other_faults() {
+    let side = "refused 11 (no-go or recovery side): the upper side of x is";
+    let cases = [
+        (
+            "no-go  x 130..\nno-go  x 130..\nno-go  x 5..4\n",
+            format!("line 14: {side} 4, it has to lie within 5..2000000"),
+        ),
+        (
+            "no-go  x 130..\nno-go  x 130..\nno-go  x 140..139\n",
+            format!("line 13: {ORDER}: this no-go box is equal to the one on line 12"),
+        ),
+        (
+            "no-go  x 130..129\nno-go  x 5\nno-go  x 130..129\n",
+            format!("line 12: {side} 129, it has to lie within 130..2000000"),
+        ),
+        (
+            "no-go  x 130\nno-go  x 130..2000001\n",
+            format!("line 13: {side} 2000001, it has to lie within 130..2000000"),
+        ),
+    ];
+    for (boxes, expected) in cases {
+        assert_eq!(boxes_fault(boxes), expected);
+    }
+    let rest = format!("{THE_END}recovery  x -100..100\n");
+    let found = fault(&rest, "no-go  x 7\nno-go  x 7\nrecovery  x 5..4\n");
+    assert!(found.contains(ORDER), "{found}");
+}
+
+/// How often each refusal occurred; `None` stands for a sheet that is accepted.
+#[derive(Debug, Default)]
+struct Tally(BTreeMap<Option<u8>, usize>);
+
+impl Tally {
+    /// A difference of the archive and the tool is a fault without a number.
+    fn count(&mut self, text: &SheetText) {
+        let refusal = match text.bytes() {
+            Ok(_) => None,
+            Err(fault) => Some(fault.refusal.unwrap_or_else(|| panic!("{fault}"))),
+        };
+        *self.0.entry(refusal).or_default() += 1;
+    }
+
+    fn has_all(&self, refusals: &[Option<u8>]) {
+        for refusal in refusals {
+            let count = self.0.get(refusal).copied().unwrap_or_default();
+            assert!(count > 100, "{refusal:?} in {self:?}");
+        }
+    }
+}
+
+/// A box whose sides are 0, 1 or 2, so that two are often equal in their first sides or in all. Now and
+/// then a pair is reversed.
+fn small_box(numbers: &mut Numbers) -> StateBox {
+    let mut sides = StateBox {
+        lower: std::array::from_fn(|_| numbers.whole(0, 8) / 8),
+        upper: std::array::from_fn(|_| numbers.whole(8, 16) / 8),
+    };
+    if numbers.whole(0, 9) == 0 {
+        sides.lower[numbers.whole(0, 3) as usize] = 3;
+    }
+    sides
+}
+
+/// Values in another order than the file's, which no text gives.
+#[test]
+fn the_archive_and_the_tool_agree_on_the_order() {
+    let mut numbers = Numbers(10);
+    let mut tally = Tally::default();
+    let (sheet, _, _) = load("pendulum");
+    for _ in 0..4_000 {
+        let mut sheet = sheet;
+        sheet.unsafe_count = numbers.whole(1, 3) as i32;
+        sheet.unsafe_boxes = std::array::from_fn(|_| small_box(&mut numbers));
+        if numbers.whole(0, 9) == 0 {
+            sheet.recovery.lower[0] = sheet.recovery.upper[0] + 1;
+        }
+        tally.count(&sheet_text::from_sheet(&sheet));
+    }
+    tally.has_all(&[None, Some(11), Some(20)]);
+}
+
+/// Texts with boxes of a few small sides, some of them reversed, in any order.
+#[test]
+fn random_boxes_are_accepted_or_refused() {
+    let mut numbers = Numbers(11);
+    let mut tally = Tally::default();
+    for _ in 0..2_000 {
+        let boxes: String = (0..numbers.whole(1, 5))
+            .map(|_| (numbers.whole(-2, 2), numbers.whole(1, 4)))
+            .map(|(lower, upper)| format!("no-go  x {lower}..{upper}\n"))
+            .collect();
+        let text = example_text("sheet_a.txt").replace(THE_END, &boxes);
+        tally.count(&sheet_parser::parse(&text).expect("a sheet's text"));
+    }
+    tally.has_all(&[None, Some(11), Some(20)]);
 }
 
 /// What is no sheet's text at all has no number of document 01, but a line.
@@ -255,6 +408,70 @@ fn bytes_that_are_no_sheet_are_refused_by_number() {
         message.contains("refused 1 (under 20 bytes, or mark not SH): 2 bytes"),
         "{message}"
     );
+}
+
+/// Sheet A with three no-go boxes as bytes, their records in this order.
+fn records_in_order(order: [usize; 3]) -> Vec<u8> {
+    let boxes = "no-go  x -300..-200\nno-go  x 130..140\nno-go  x 130..\n";
+    let text = example_text("sheet_a.txt").replace(THE_END, boxes);
+    let text = sheet_parser::parse(&text).expect("a sheet");
+    let bytes = text.bytes().expect("an accepted sheet");
+    let (record, from) = (10, bytes.len() - 40);
+    let mut moved = bytes.clone();
+    for (j, k) in order.into_iter().enumerate() {
+        let taken = &bytes[from + record * k..][..record];
+        moved[from + record * j..][..record].copy_from_slice(taken);
+    }
+    moved
+}
+
+#[test]
+fn bytes_with_boxes_out_of_order_are_refused_by_record() {
+    let hint = "(sheet pack puts them in order: pack the sheet's text again)";
+    let cases = [
+        (
+            [1, 0, 2],
+            format!("no-go record 2 has to stand before no-go record 1 {hint}"),
+        ),
+        (
+            [0, 2, 1],
+            format!("no-go record 3 has to stand before no-go record 2 {hint}"),
+        ),
+        (
+            [0, 0, 2],
+            "no-go record 2 is equal to no-go record 1".into(),
+        ),
+        (
+            [0, 1, 1],
+            "no-go record 3 is equal to no-go record 2".into(),
+        ),
+    ];
+    let folder = Folder::new("records");
+    let path = folder.file("sheet.bin");
+    for (order, expected) in cases {
+        let bytes = records_in_order(order);
+        assert_eq!(archive::read(&bytes).err(), Some(20));
+        std::fs::write(&path, bytes).expect("the file is written");
+        for verb in ["text", "list", "show", "picture", "pack"] {
+            let (success, out, message) = shell(&[verb, &path]);
+            assert!(!success && out.is_empty());
+            assert_eq!(message, format!("{path}: {ORDER}: {expected}\n"));
+        }
+    }
+    assert!(archive::read(&records_in_order([0, 1, 2])).is_ok());
+}
+
+#[test]
+fn pack_writes_nothing_for_equal_boxes() {
+    let folder = Folder::new("equal");
+    let path = folder.file("equal.txt");
+    let text = example_text("sheet_a.txt").replace("recovery", "no-go  x 130..\nrecovery");
+    std::fs::write(&path, text).expect("the file is written");
+    let to = folder.0.to_str().expect("a plain path");
+    let (success, out, message) = shell(&["pack", &path, "--to", to]);
+    assert!(!success && out.is_empty() && !folder.0.join("sheet.bin").exists());
+    let words = "this no-go box is equal to no-go box \"the end\" on line 12";
+    assert_eq!(message, format!("{path}: line 13: {ORDER}: {words}\n"));
 }
 
 /// Puts other letters into a text, each taken from somewhere else in it.

@@ -2,10 +2,11 @@
 
 mod common;
 
-use common::{example, example_text, load, sheet, Folder, Numbers};
+use common::{example, example_text, load, sheet, shuffled, Folder, Numbers};
 use second_guard::boxes::StateBox;
 use second_guard::sheet::{self as second, Band, CommandRange, Row, Sheet};
 use sheet_tool::{archive, asks_text, sheet_parser, sheet_text};
+use std::collections::BTreeMap;
 
 const NAMES: [&str; 4] = ["sheet_a", "leg_press", "motor", "pendulum"];
 
@@ -78,6 +79,21 @@ fn random_box(numbers: &mut Numbers, n: usize, limit: i64) -> StateBox {
     sides
 }
 
+/// No-go boxes that differ, in ascending order; now and then with most of their sides equal.
+fn random_boxes(numbers: &mut Numbers, n: usize, count: usize) -> Vec<StateBox> {
+    let limit = match numbers.whole(0, 1) {
+        0 => 3,
+        _ => 2_000_000,
+    };
+    let mut boxes = BTreeMap::new();
+    while boxes.len() < count {
+        let sides = random_box(numbers, n, limit);
+        let pairs = sides.lower.into_iter().zip(sides.upper);
+        boxes.insert(pairs.collect::<Vec<(i64, i64)>>(), sides);
+    }
+    boxes.into_values().collect()
+}
+
 fn random_row(numbers: &mut Numbers, n: usize) -> Row {
     let mut row = Row::default();
     for a in &mut row.a[..n] {
@@ -123,9 +139,8 @@ fn random_sheet(numbers: &mut Numbers) -> Sheet {
             }),
         };
     }
-    for j in 0..sheet.unsafe_count as usize {
-        sheet.unsafe_boxes[j] = random_box(numbers, n, 2_000_000);
-    }
+    let count = sheet.unsafe_count as usize;
+    sheet.unsafe_boxes[..count].copy_from_slice(&random_boxes(numbers, n, count));
     sheet
 }
 
@@ -182,4 +197,162 @@ fn other_counts_cannot_be_shown_in_the_same_lines() {
     let text = sheet_parser::parse(&example_text("leg_press.txt")).expect("a sheet");
     let motor = sheet_parser::parse(&example_text("motor.txt")).expect("a sheet");
     assert!(text.with_values(&motor.sheet).is_err());
+}
+
+/// A sheet's text with a name and a comment for each no-go box.
+fn named_boxes(sheet: &Sheet) -> String {
+    let plain = sheet_text::from_sheet(sheet).text();
+    let named = plain
+        .lines()
+        .enumerate()
+        .map(|(at, line)| match line.strip_prefix("no-go") {
+            Some(sides) => format!("no-go \"box {at}\"{sides}  # comment {at}\n"),
+            None => format!("{line}\n"),
+        });
+    named.collect()
+}
+
+/// The same sheet with some no-go boxes replaced.
+fn with_other_boxes(sheet: &Sheet, numbers: &mut Numbers) -> Sheet {
+    let count = sheet.unsafe_count as usize;
+    let mut boxes = random_boxes(numbers, sheet.n(), count);
+    boxes.extend(sheet.unsafe_boxes());
+    let pairs = |b: &StateBox| -> Vec<(i64, i64)> { b.lower.into_iter().zip(b.upper).collect() };
+    boxes.sort_by_key(pairs);
+    boxes.dedup();
+    while boxes.len() > count {
+        boxes.remove(numbers.whole(0, boxes.len() as i64 - 1) as usize);
+    }
+    let mut other = *sheet;
+    other.unsafe_boxes[..count].copy_from_slice(&boxes);
+    other
+}
+
+#[test]
+fn no_go_boxes_may_stand_in_any_order() {
+    let mut numbers = Numbers(8);
+    let mut moved = 0;
+    for _ in 0..300 {
+        let sheet = random_sheet(&mut numbers);
+        let ordered = named_boxes(&sheet);
+        let other_order = shuffled(&ordered, &mut numbers);
+        moved += usize::from(other_order != ordered);
+        let text = sheet_parser::parse(&other_order).expect("a sheet");
+        assert_eq!(text.text(), other_order);
+        assert_eq!(text.bytes(), Ok(archive::write(&sheet).expect("a sheet")));
+        assert_eq!(text.in_file_order().text(), ordered);
+        let named = sheet_parser::parse(&ordered).expect("a sheet").names;
+        assert_eq!(text.names, named);
+    }
+    assert!(moved > 200);
+}
+
+/// Names and comments go with their boxes, whatever the order in the text that they are taken from.
+#[test]
+fn two_prints_of_one_machine_are_equal() {
+    let mut numbers = Numbers(9);
+    let mut changed = 0;
+    for _ in 0..300 {
+        let sheet = random_sheet(&mut numbers);
+        let ordered = named_boxes(&sheet);
+        let other_order = shuffled(&ordered, &mut numbers);
+        let like = |text: &str, values: &Sheet| {
+            let text = sheet_parser::parse(text).expect("a sheet");
+            text.with_values(values).expect("the same counts").text()
+        };
+        assert_eq!(like(&other_order, &sheet), ordered);
+        let other = with_other_boxes(&sheet, &mut numbers);
+        let print = like(&other_order, &other);
+        assert_eq!(print, like(&ordered, &other));
+        changed += usize::from(print != ordered);
+        let back = sheet_parser::parse(&print).expect("a sheet");
+        assert!(back.unsafe_lines().is_sorted() && back.sheet == other);
+    }
+    assert!(changed > 200);
+}
+
+/// An equal box keeps its name and comment. The others are taken in order.
+#[test]
+fn a_changed_box_moves_to_its_place() {
+    let text = sheet_parser::parse(&example_text("motor.txt")).expect("a sheet");
+    let mut other = text.sheet;
+    other.unsafe_boxes[0] = text.sheet.unsafe_boxes[1];
+    other.unsafe_boxes[1] = text.sheet.unsafe_boxes[1];
+    other.unsafe_boxes[1].lower[0] = 4_300;
+    let print = text.with_values(&other).expect("the same counts").text();
+    let boxes = "no-go \"overspeed\"  speed 4200..    ramp any\n\
+                 no-go \"resonance\"  speed 4300..  ramp any\n";
+    assert!(print.contains(boxes), "{print}");
+}
+
+/// The leg press with its no-go boxes in another order, and other lines between them.
+fn leg_press_in_another_order() -> String {
+    let text = example_text("leg_press.txt");
+    let mut boxes: Vec<&str> = text.lines().filter(|l| l.starts_with("no-go")).collect();
+    let all = format!("{}\n", boxes.join("\n"));
+    boxes.rotate_left(1);
+    let other = format!(
+        "{}  # one\n\n# between\n{}\n{}\n",
+        boxes[0], boxes[1], boxes[2]
+    );
+    assert!(text.contains(&all));
+    text.replace(&all, &other)
+}
+
+#[test]
+fn pack_says_that_it_puts_boxes_in_order() {
+    let (folder, other) = (Folder::new("order"), Folder::new("other-order"));
+    let (text, asks) = (example("leg_press.txt"), example("leg_press.asks.txt"));
+    let to = |folder: &Folder| folder.0.to_str().expect("a plain path").to_string();
+    assert_eq!(sheet(&["pack", &text, &asks, "--to", &to(&folder)]), "");
+    let path = other.file("shuffled.txt");
+    std::fs::write(&path, leg_press_in_another_order()).expect("the file is written");
+    let said = sheet(&["pack", &path, &asks, "--to", &to(&other)]);
+    let words = "no-go boxes put in order: sheet.bin has them in the order of lines 76, 72, 75";
+    assert_eq!(said, format!("{path}: {words}\n"));
+    let read = |folder: &Folder, name| std::fs::read(folder.file(name)).expect("a file");
+    assert_eq!(read(&folder, "sheet.bin"), read(&other, "sheet.bin"));
+    assert_eq!(read(&folder, "asks.bin"), read(&other, "asks.bin"));
+}
+
+/// Every other use numbers the boxes as the file does, and says nothing of the order.
+#[test]
+fn boxes_have_the_numbers_of_the_file() {
+    let folder = Folder::new("numbers");
+    let path = folder.file("shuffled.txt");
+    std::fs::write(&path, leg_press_in_another_order()).expect("the file is written");
+    let (text, asks) = (example("leg_press.txt"), example("leg_press.asks.txt"));
+    let uses: [&[&str]; 4] = [&["list"], &["show"], &["show", "6"], &["picture", "6"]];
+    for words in uses {
+        let made = |path: &str| {
+            let mut all = vec![words[0], path, &asks];
+            all.extend(&words[1..]);
+            sheet(&all)
+        };
+        assert_eq!(made(&path), made(&text));
+    }
+    assert!(sheet(&["show", &path, &asks, "6"]).contains("meet no-go 2 \"too fast near the seat\""));
+}
+
+/// The lines of boxes change places and take their comments along; the lines between them stay.
+#[test]
+fn a_text_is_printed_in_the_order_of_the_file() {
+    let folder = Folder::new("print");
+    let path = folder.file("shuffled.txt");
+    std::fs::write(&path, leg_press_in_another_order()).expect("the file is written");
+    let bin = folder.file("sheet.bin");
+    sheet(&[
+        "pack",
+        &path,
+        "--to",
+        folder.0.to_str().expect("a plain path"),
+    ]);
+    let print = sheet(&["text", &path]);
+    let lines = "no-go \"rear buffer\"             position ..200   coasting any\n\
+                 \n\
+                 # between\n\
+                 no-go \"too fast near the seat\"  position ..800   coasting ..300  # one\n\
+                 no-go \"front buffer\"            position 5800..  coasting any\n";
+    assert!(print.contains(lines), "{print}");
+    assert_eq!(sheet(&["text", &bin, "--like", &path]), print);
 }

@@ -6,7 +6,7 @@ use Prim.Native.Nat.{ℕ, _≤_, _<_}
 use lib.IntN.{ℤ}
 use Rattle.sheet_spec.specs.Limits.{maxTicks, maxWidth, maxSide}
 use Rattle.sheet_spec.specs.Slots.{vars}
-use Rattle.sheet_spec.specs.Valid.{Valid}
+use Rattle.sheet_spec.specs.Valid.{ValidNumbers}
 use Rattle.sheet_spec.proofs.FirstRefusal.{found-stops, found-none}
 use Rattle.machine_spec.specs.Box.{Sized, trim}
 use Rattle.machine_spec.specs.declared.Law.{Law}
@@ -34,7 +34,7 @@ pub record Reachable (v : List ℤ) (T w : ℕ) (k : Law) (S : List ℤ) : Type 
   pub law : Lawful v k
   pub start : Sized (vars v) maxSide S
 
-module _ {v : List ℤ} (wf : Valid v) {ticks w : ℕ} {l : Law} {B : List ℤ} {a : ℕ} (r : Refusal v ticks w l B a) where
+module _ {v : List ℤ} (wf : ValidNumbers v) {ticks w : ℕ} {l : Law} {B : List ℤ} {a : ℕ} (r : Refusal v ticks w l B a) where
   pub reach-refused : (a ≡ 0 → ⊥) → refused a ≡ reachOf v ticks w l B
   unfolding reachOf
   reach-refused n = found-stops refused _ (r .is) n

@@ -2,7 +2,7 @@
 // a start box, under a law. `reach` is the public operation on any bytes. The definitions are in boxes_spec/specs/Reach.
 // What may be asked is tested in `boxes_refusals`.
 ghost use mathlib.Core.Path.{_≡_};
-ghost use Rattle.sheet_spec.specs.Valid.{Valid};
+ghost use Rattle.sheet_spec.specs.Valid.{ValidNumbers};
 ghost use Rattle.boxes_spec.specs.Reach as spec;
 ghost use Rattle.boxes.specs.ReachAnswer.{answerOf};
 
@@ -46,7 +46,7 @@ pub fn reach_of(
     law: Law,
     start: &[i64; BOX_SIZE],
 ) -> ReachAnswer
-    requires { ⌜ Valid (now sheet) ⌝ }
+    requires { ⌜ ValidNumbers (now sheet) ⌝ }
     ensures { λ r. ⌜ answerOf r ≡ spec.reachOf (now (sheet .entry)) ticks width law (now (start .entry)) ⌝ }
 {
     let p = plant(sheet, law);

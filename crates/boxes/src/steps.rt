@@ -3,7 +3,7 @@
 // boxes_spec/specs/Reach; specs/ReachPlan and specs/ReachResult say what is asked and answered in their terms.
 ghost use Prim.Native.Nat.{min};
 ghost use mathlib.Core.Path.{_≡_};
-ghost use Rattle.sheet_spec.specs.Valid.{Valid};
+ghost use Rattle.sheet_spec.specs.Valid.{ValidNumbers};
 ghost use Rattle.boxes_rates.specs.Plant.{Describes};
 ghost use Rattle.boxes.specs.Limits.{ReachAsked, TestedAsked};
 ghost use Rattle.boxes.specs.ReachResult.{ReachDone, TestedDone};
@@ -23,7 +23,7 @@ use sheet_spec::slots::VARS;
 
 // The machine of an accepted sheet's value under a law.
 pub fn plant(sheet: &[i32; SLOTS], law: Law) -> Plant
-    requires { ⌜ Valid (now sheet) ⌝ }
+    requires { ⌜ ValidNumbers (now sheet) ⌝ }
     ensures { λ r. ⌜ (r .law ≡ law) × Describes r (now (sheet .entry)) ⌝ }
 {
     let n = sheet[VARS] as usize;

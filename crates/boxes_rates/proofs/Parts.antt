@@ -16,7 +16,7 @@ use borrow.Author.Tests.{lt-leb}
 use Rattle.integers.proofs.Z.{ints, le-true, le-false}
 use Rattle.sheet_spec.specs.Slots.{_!_, N, bandSlot, bands, edge}
 use Rattle.sheet_spec.specs.Box.{lo, hi}
-use Rattle.sheet_spec.specs.Valid.{Valid}
+use Rattle.sheet_spec.specs.Valid.{ValidNumbers}
 use Rattle.machine_spec.specs.Machine.{Machine, bandsOf, bandVarOf, cap, rowOf, change}
 use Rattle.machine_spec.specs.Rate.{outermost, bandMet, cutToBand, part, rowOver, neutral, bandRate}
 use Rattle.sheet_spec.proofs.Box.{differ}
@@ -58,14 +58,14 @@ module _ {v : List ℤ} {l : ℤ} {at : ℕ} (f : FirstBand v l at) (low : edge 
   first-met o = record { above = omega (ints, first-starts, o); below = f .next }
 
 -- the one after a band that is met is met too if it starts at or below h
-pub next-met : {v : List ℤ} {k : ℕ} {l h : ℤ} → Valid v → Meets v (bands v) k l h → k + 1 < bands v → edge v (k + 1) ≤ℤ h → Meets v (bands v) (k + 1) l h
+pub next-met : {v : List ℤ} {k : ℕ} {l h : ℤ} → ValidNumbers v → Meets v (bands v) k l h → k + 1 < bands v → edge v (k + 1) ≤ℤ h → Meets v (bands v) (k + 1) l h
 next-met {k} wf s g e = record { above = e; below = λ u. omega (ints, s .below g, edge-below wf (k + 1) u) }
 
 -- none before the first is met, and none from one on that starts above h
 pub unmet-before : {v : List ℤ} {l h : ℤ} {at : ℕ} (f : FirstBand v l at) (j : ℕ) → j < f .from .band → Meets v (bands v) j l h → ⊥
 unmet-before f j g s = omega (ints, f .from .before j g, s .below (omega (arith, f .from .among)))
 
-pub unmet-behind : {v : List ℤ} {l h : ℤ} → Valid v → (k d : ℕ) → (k < bands v → h <ℤ edge v k) → k + d < bands v → Meets v (bands v) (k + d) l h → ⊥
+pub unmet-behind : {v : List ℤ} {l h : ℤ} → ValidNumbers v → (k d : ℕ) → (k < bands v → h <ℤ edge v k) → k + d < bands v → Meets v (bands v) (k + d) l h → ⊥
 unmet-behind wf k d e g s = omega (ints, e (omega arith), edges-ascend wf k d g, s .above)
 
 -- ---- their shares in a rate

@@ -7,12 +7,12 @@ use lib.Dec.{leb}
 use lib.IntN.{ℤ}
 use lib.Signed.{leZ, _≤ℤ_, _<ℤ_}
 use Rattle.sheet_spec.specs.Slots.{_!_, N, bandSlot, vars, bands, bandVar, edge}
-use Rattle.sheet_spec.specs.Valid.{Valid}
+use Rattle.sheet_spec.specs.Valid.{ValidNumbers}
 use Rattle.boxes_rates.specs.declared.Plant.{Plant}
 
 -- the plant has the numbers of v, the value of an accepted sheet: with its law it describes the machine of v under that law
 pub record Describes (p : Plant) (v : List ℤ) : Type 0 where
-  pub sheet : Valid v
+  pub sheet : ValidNumbers v
   pub n : p .n ≡ vars v
   pub bands : p .bands ≡ bands v
   pub var : p .var ≡ bandVar v

@@ -4,7 +4,7 @@ ghost use Prim.Native.Nat.{_+_, _≤_, _<_};
 ghost use Rattle.integers.specs.Bound.{Bound};
 ghost use Rattle.sheet_spec.specs.Limits.{maxCap};
 ghost use Rattle.sheet_spec.specs.Slots as slots;
-ghost use Rattle.sheet_spec.specs.Valid.{Valid};
+ghost use Rattle.sheet_spec.specs.Valid.{ValidNumbers};
 ghost use Rattle.machine_spec.specs.Machine.{machine};
 ghost use Rattle.machine_spec.specs.Rate.{faceRate, neighborhood, neutral, rate, rates};
 ghost use Rattle.boxes_rates.specs.Limits.{BandAsked, CommandTerm, NarrowAsked, RateAsked, RatesAsked, RowRated};
@@ -42,7 +42,7 @@ fn starts_by(sheet: &[i32; SLOTS], end: usize, at: usize, x: i64) -> bool
 
 // The slot of the first band that has a number from `low` on. The bands end at the slot `end`.
 fn first_band(sheet: &[i32; SLOTS], end: usize, low: i64) -> usize
-    requires { ⌜ Valid (now sheet) × (end ≡ slots.bandSlot (slots.bands (now sheet))) ⌝ }
+    requires { ⌜ ValidNumbers (now sheet) × (end ≡ slots.bandSlot (slots.bands (now sheet))) ⌝ }
     ensures { λ r. ⌜ FirstBand (now (sheet .entry)) low r ⌝ }
 {
     let mut at: usize = FIRST_BAND;

@@ -7,7 +7,7 @@ use native.Mathlib.Omega.{arith}
 use lib.IntN.{ℤ}
 use Rattle.sheet_spec.specs.Limits.{maxTicks, maxWidth}
 use Rattle.sheet_spec.specs.Slots.{N, vars}
-use Rattle.sheet_spec.specs.Valid.{Valid}
+use Rattle.sheet_spec.specs.Valid.{ValidNumbers}
 use Rattle.sheet_spec.specs.Box.{any}
 use Rattle.machine_spec.specs.Box.{trim}
 use Rattle.machine_spec.specs.declared.Law.{Law}
@@ -69,7 +69,7 @@ pub record Answered (v : List ℤ) (ticks w : ℕ) (l : Law) (B : List ℤ) : Ty
   pub few : rounds ≤ 73 * ticks
   pub sound : Reaches (machine v l) (clear (vars v) v 0) B ticks reached
 
-pub reach-answers : {v : List ℤ} → Valid v → (ticks w : ℕ) (l : Law) (B : List ℤ) → reachRefusal v ticks w l B ≡ 0 → Answered v ticks w l B
+pub reach-answers : {v : List ℤ} → ValidNumbers v → (ticks w : ℕ) (l : Law) (B : List ℤ) → reachRefusal v ticks w l B ≡ 0 → Answered v ticks w l B
 unfolding reachOf answer
 reach-answers {v} wf ticks w l B e =
     let t = reach-passes v ticks w l B e in

@@ -15,7 +15,7 @@ use Rattle.sheet_spec.specs.Slots.{N, vars, leastCommand, greatestCommand, reco
 use Rattle.sheet_spec.specs.Refusals.{Cause, unlessRefused}
 use Rattle.sheet_spec.specs.Box.{lo, hi}
 use Rattle.machine_spec.specs.Box.{side, Near, Ordered, Sized, trim, hull}
-use Rattle.sheet_spec.specs.Valid.{Valid}
+use Rattle.sheet_spec.specs.Valid.{ValidNumbers}
 use Rattle.machine_spec.specs.declared.Law.{Law}
 use Rattle.machine_spec.specs.declared.Law.the-variants.{Baseline, Command}
 use Rattle.machine_spec.specs.Machine.{Machine, machine, varsOf, bandsOf, cap, rowOf}
@@ -36,7 +36,7 @@ use Rattle.boxes_spec.proofs.Order.{working-holds, face-ordered, end-or
 
 -- ---- a step of length k from S, whose sides are at most b
 
-module _ (m : Machine) (wf : Valid (m .sheet)) {S : List ℤ} (k : ℕ) {b : ℕ} (s : Near (varsOf m) b S) where
+module _ (m : Machine) (wf : ValidNumbers (m .sheet)) {S : List ℤ} (k : ℕ) {b : ℕ} (s : Near (varsOf m) b S) where
   pub end-near : (E : List ℤ) → Near (varsOf m) (b + k * maxCap) (endBox m S k E)
   unfolding endBox
   end-near E = moved-near (room wf) k s (rates-near wf (m .law) S k E)
@@ -53,7 +53,7 @@ module _ (m : Machine) (wf : Valid (m .sheet)) {S : List ℤ} (k : ℕ) {b : ℕ
 -- ---- a reach
 
 -- where it has come, the sides of its box and of what is swept are further out by at most a cap a tick
-module _ {m : Machine} (wf : Valid (m .sheet)) where
+module _ {m : Machine} (wf : ValidNumbers (m .sheet)) where
   pub settled-near : {S : List ℤ} {k b : ℕ} {t : Step} → Near (varsOf m) b S → Settled m S k t → Near (varsOf m) (b + t .ticks * maxCap) (t .end)
   settled-near {t} s e = rw (e .end) (end-near m wf (t .ticks) s (e .E))
 
@@ -180,7 +180,7 @@ start-sized n B e = sized-by (λ i h. le-true (negℤ (pos maxSide)) (lo B i) (b
     both : (i : ℕ) → i < n → (leZ (negℤ (pos maxSide)) (lo B i) ≡ true) × (leZ (lo B i) (hi B i) ≡ true)
     both i h = and-both (leZ (negℤ (pos maxSide)) (lo B i)) (leZ (lo B i) (hi B i)) (last i h .0)
 
-pub recovery-sized : {v : List ℤ} → Valid v → Sized (vars v) maxRecoverySide (recoveryBox v)
+pub recovery-sized : {v : List ℤ} → ValidNumbers v → Sized (vars v) maxRecoverySide (recoveryBox v)
 recovery-sized {v} wf =
     sized-by (λ i h. rw (box-lo v recoverySlot i (room i h)) (wf .recovery .lower i h)) (record { at = λ i h. rw (box-lo v recoverySlot i (room i h), box-hi v recoverySlot i (room i h)) (wf .recovery .ordered i h) })
     (λ i h. rw (box-hi v recoverySlot i (room i h)) (wf .recovery .upper i h))
@@ -191,7 +191,7 @@ recovery-sized {v} wf =
 -- ---- the public reach
 
 -- how far the sides of an answer's two boxes go
-pub answer-near : {v : List ℤ} → Valid v → (ticks w : ℕ) (l : Law) (B : List ℤ) → Near (vars v) maxReached (reachOf v ticks w l B .end) × Near (vars v) maxReached (reachOf v ticks w l B .swept)
+pub answer-near : {v : List ℤ} → ValidNumbers v → (ticks w : ℕ) (l : Law) (B : List ℤ) → Near (vars v) maxReached (reachOf v ticks w l B .end) × Near (vars v) maxReached (reachOf v ticks w l B .swept)
 unfolding reachOf unlessRefused answer
 answer-near {v} wf ticks w l B = by (reachRefusal v ticks w l B) refl
   where

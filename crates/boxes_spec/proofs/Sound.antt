@@ -11,7 +11,7 @@ use lib.IntN.{ℤ, pos, _+ℤ_, _-ℤ_, _*ℤ_}
 use lib.Signed.{_≤ℤ_}
 use Rattle.integers.proofs.Z.{ints, flat}
 use Rattle.sheet_spec.specs.Slots.{_!_, N, unsafeBox}
-use Rattle.sheet_spec.specs.Valid.{Valid}
+use Rattle.sheet_spec.specs.Valid.{ValidNumbers}
 use Rattle.machine_spec.specs.Box.{side, In, hull, moved}
 use Rattle.machine_spec.specs.Machine.{Machine, varsOf, cap, Tick}
 use Rattle.machine_spec.specs.Rate.{outer, neutral, faceRate, rates}
@@ -67,7 +67,7 @@ face-next up k j c s x z r l p at inner capped near =
 abbrev pub Ticks : Machine → (ℕ → List ℤ) → ℕ → Type 0
 Ticks m x k = (j : ℕ) → j < k → Tick m (x j) (x (suc j))
 
-module _ (m : Machine) (wf : Valid (m .sheet)) (S : List ℤ) (k : ℕ) (E : List ℤ) where
+module _ (m : Machine) (wf : ValidNumbers (m .sheet)) (S : List ℤ) (k : ℕ) (E : List ℤ) where
   -- the state lies in S with each face moved by j of its rates
   record Lies (j : ℕ) (x : List ℤ) : Type 0 where
     at : (up : Bool) (i : ℕ) → i < varsOf m → Beyond up (side up S i +ℤ pos j *ℤ faceRate up m S k E i) (x ! i)
@@ -99,7 +99,7 @@ pub record Sound (m : Machine) (S : List ℤ) (t : Step) : Type 0 where
   pub sweeps : (x : ℕ → List ℤ) → In (varsOf m) S (x 0) → (j : ℕ) → j ≤ t .ticks → Ticks m x j → In (varsOf m) (swept m S t) (x j)
   pub ends : (x : ℕ → List ℤ) → In (varsOf m) S (x 0) → Ticks m x (t .ticks) → In (varsOf m) (t .end) (x (t .ticks))
 
-pub settled-sound : {m : Machine} {S : List ℤ} {k : ℕ} {t : Step} → Valid (m .sheet) → Settled m S k t → Sound m S t
+pub settled-sound : {m : Machine} {S : List ℤ} {k : ℕ} {t : Step} → ValidNumbers (m .sheet) → Settled m S k t → Sound m S t
 unfolding swept endBox
 settled-sound {m} {S} {t} wf s =
     let k = t .ticks in
@@ -109,7 +109,7 @@ settled-sound {m} {S} {t} wf s =
       ends = λ x b f. rw (s .end) (lies-moved m wf S k E (lies-at m wf S k E (s .settled) b k (le-refl k) f));
     }
 
-pub step-sound : {m : Machine} (l : Bool) (a : ℕ) (S : List ℤ) (k c : ℕ) {t : Step} {c′ : ℕ} → Valid (m .sheet) → 0 < k → step l a m S k c ≡ ok t c′ → Sound m S t
+pub step-sound : {m : Machine} (l : Bool) (a : ℕ) (S : List ℤ) (k c : ℕ) {t : Step} {c′ : ℕ} → ValidNumbers (m .sheet) → 0 < k → step l a m S k c ≡ ok t c′ → Sound m S t
 step-sound l a S k c wf z e = settled-sound wf (value-of (step-takes l a _ S (room wf) k c k z (below-power k)) e .0)
 
 -- ---- a reach: steps in a row
@@ -178,7 +178,7 @@ module _ {m : Machine} (room : varsOf m ≤ N) {clear : List ℤ → Bool} (p q 
     ends = λ x b f. r .ends (later x (t .ticks)) (onward x b d f) (later-ticks x (t .ticks) d f);
   }
 
-pub steps-contain : {m : Machine} {clear : List ℤ → Bool} {w : ℕ} {p q : Place} → Valid (m .sheet) → StepsTo m clear w q p → Contains m clear p q (p .left - q .left)
+pub steps-contain : {m : Machine} {clear : List ℤ → Bool} {w : ℕ} {p q : Place} → ValidNumbers (m .sheet) → StepsTo m clear w q p → Contains m clear p q (p .left - q .left)
 steps-contain {m} {clear} {q} wf here = let e : 0 ≡ q .left - q .left = omega arith in subst (Contains m clear q q) e (contains-none q)
 steps-contain {m} {clear} {p} {q} wf (next {t = t} s k r) =
     let e : t .ticks + (p .left - t .ticks - q .left) ≡ p .left - q .left = omega (arith, steps-less r, s .some, s .most) in
@@ -193,13 +193,13 @@ pub record Reaches (m : Machine) (clear : List ℤ → Bool) (S : List ℤ) (tic
   pub clears : (x : ℕ → List ℤ) → In (varsOf m) S (x 0) → (j : ℕ) → 0 < ticks → j ≤ ticks → Ticks m x j → Cleared (varsOf m) clear (x j)
   pub ends : (x : ℕ → List ℤ) → In (varsOf m) S (x 0) → Ticks m x ticks → In (varsOf m) (r .end) (x ticks)
 
-pub ends-reach : {m : Machine} {clear : List ℤ → Bool} {w : ℕ} {S : List ℤ} {ticks : ℕ} {r : Reached} → Valid (m .sheet) → Ends m clear w (firstPlace S ticks) r → Reaches m clear S ticks r
+pub ends-reach : {m : Machine} {clear : List ℤ → Bool} {w : ℕ} {S : List ℤ} {ticks : ℕ} {r : Reached} → ValidNumbers (m .sheet) → Ends m clear w (firstPlace S ticks) r → Reaches m clear S ticks r
 ends-reach {m} {clear} {S} {ticks} {r} wf e =
     let q : ticks - 0 ≡ ticks = omega arith in
     let k = subst (Contains m clear (firstPlace S ticks) (lastPlace r)) q (steps-contain wf (e .path)) in
     record { sweeps = λ x b. k .sweeps x b b; clears = k .clears; ends = k .ends }
 
-pub reach-sound : {m : Machine} (l : Bool) (a : ℕ) (clear : List ℤ → Bool) (w : ℕ) (S : List ℤ) (ticks c : ℕ) {r : Reached} {c′ : ℕ} → Valid (m .sheet)
+pub reach-sound : {m : Machine} (l : Bool) (a : ℕ) (clear : List ℤ → Bool) (w : ℕ) (S : List ℤ) (ticks c : ℕ) {r : Reached} {c′ : ℕ} → ValidNumbers (m .sheet)
     → reach l a m clear w S ticks c ≡ ok r c′ → Reaches m clear S ticks r
 reach-sound l a clear zero S ticks c wf e = ends-reach wf (value-of (reach-zero l a clear S ticks c) e .0)
 reach-sound {m} l a clear (suc w) S ticks c wf e = ends-reach wf (value-of (reach-takes l a m clear (suc w) (suc w) (room wf) (omega arith) (below-power (suc w)) S ticks c) e .0)

@@ -9,9 +9,9 @@ use lib.ListN.{set, drop, length, length-take, length-drop, getD-replicate}
 use lib.Seq.{ext-getD, getD-set-other}
 use Rattle.sheet_spec.specs.Slots.{_!_, N, boxSize, vars, recoverySlot, recoveryBox}
 use Rattle.sheet_spec.specs.Sheet.{refusal, values}
-use Rattle.sheet_spec.specs.Valid.{Valid}
+use Rattle.sheet_spec.specs.Valid.{ValidNumbers}
 use Rattle.sheet_spec.proofs.Streams.{lt-or-le}
-use Rattle.sheet_spec.proofs.Valid.{valid, recovery-beyond}
+use Rattle.sheet_spec.proofs.Valid.{valid-numbers, recovery-beyond}
 use Rattle.sheet_spec.specs.Box.{lo, hi}
 use Rattle.machine_spec.specs.Box.{boxOf, trim}
 use Rattle.sheet_spec.proofs.Box.{box-at}
@@ -51,8 +51,8 @@ module _ (f : List ℕ) (passed : refusal f ≡ 0) where
   abbrev v : List ℤ
   v = values f
 
-  sheet : Valid v
-  sheet = valid f passed
+  sheet : ValidNumbers v
+  sheet = valid-numbers f passed
 
   beyond : (i q slot : ℕ) → vars v ≤ i → i < N → q < 2 → slot ≡ i + q * N → recoveryBox v ! slot ≡ pos 0
   beyond i q slot vars≤i i<N q<2 is =

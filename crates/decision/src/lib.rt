@@ -4,7 +4,7 @@
 ghost use mathlib.Core.Path.{_≡_};
 ghost use Prim.Native.Nat.{_≤_, max};
 ghost use Rattle.sheet_spec.specs.Slots.{recoveryBox, vars};
-ghost use Rattle.sheet_spec.specs.Valid.{Valid};
+ghost use Rattle.sheet_spec.specs.Valid.{ValidNumbers};
 ghost use Rattle.machine_spec.specs.Box.{trim};
 ghost use Rattle.decision_spec.specs.Question.{allowanceOf};
 ghost use Rattle.decision_spec.specs.Decision.{checkRecovery, decide, decisionOn, decisionTo, recoveryOf, roundsOf};
@@ -68,7 +68,7 @@ fn decision_to(sheet: &[i32; SLOTS], question: Question) -> Decision
 
 // The decision on an accepted sheet's value and a question's bytes, which are read once.
 fn decide_on(sheet: &[i32; SLOTS], question: &[u8]) -> Decision
-    requires { ⌜ Valid (now sheet) ⌝ }
+    requires { ⌜ ValidNumbers (now sheet) ⌝ }
     ensures { λ r. ⌜ replyOf r ≡ decisionOn (now (sheet .entry)) (now (question .entry)) ⌝ }
 {
     let read = decision_question::read(count(sheet, VARS), sheet, question);
@@ -94,7 +94,7 @@ pub fn decide(sheet: &[u8], question: &[u8]) -> Decision
 
 // The recovery check of an accepted sheet's value.
 fn check_on(sheet: &[i32; SLOTS]) -> Recovery
-    requires { ⌜ Valid (now sheet) × (trim (vars (now sheet)) (recoveryBox (now sheet)) ≡ recoveryBox (now sheet)) ⌝ }
+    requires { ⌜ ValidNumbers (now sheet) × (trim (vars (now sheet)) (recoveryBox (now sheet)) ≡ recoveryBox (now sheet)) ⌝ }
     ensures { λ r. ⌜ checkReplyOf r ≡ recoveryOf (now (sheet .entry)) ⌝ }
 {
     let recovery = box_at(count(sheet, VARS), sheet, RECOVERY);

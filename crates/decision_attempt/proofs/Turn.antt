@@ -12,7 +12,7 @@ use lib.IntN.{ℤ}
 use lib.ListN.{getD, length, take, drop, length-take}
 use lib.Seq.{drop-cons, getD-take}
 use Rattle.sheet_spec.specs.Slots.{N, vars, boxes, recoveryBox}
-use Rattle.sheet_spec.specs.Valid.{Valid}
+use Rattle.sheet_spec.specs.Valid.{ValidNumbers}
 use Rattle.sheet_spec.specs.Box.{all, lowestMet}
 use Rattle.machine_spec.specs.Box.{Sized, trim, within}
 use Rattle.machine_spec.specs.declared.Law.{Law}
@@ -117,7 +117,7 @@ module _ (limited : Bool) (allowance : ℕ) (v : List ℤ) (w : ℕ) where
     unfolding attempt follow
     phase-turn = ap others reaches
 
-    pub following-on : (t i : ℕ) → r ≡ Ended t i → Valid v → 0 < w → w ≤ maxWidth → Following ps S c rest F i
+    pub following-on : (t i : ℕ) → r ≡ Ended t i → ValidNumbers v → 0 < w → w ≤ maxWidth → Following ps S c rest F i
     unfolding attempt andThen resultOf ticksOf
     following-on t i ended sheet some most =
         let b = reach-sized limited allowance _ _ w E (p .ticks) d (record { sheet = sheet; law = k .laws .0 }) some most (k .sized) (omega (arith, k .few)) (sym reaches ∙ ap (reachedOf F W) ended) in
@@ -143,7 +143,7 @@ module _ (limited : Bool) (allowance : ℕ) (v : List ℤ) (w : ℕ) where
 -- ---- attempts at ever smaller widths
 
 -- the count after an attempt that failed
-pub failed-count : (plan : AttemptPlan) {v : List ℤ} (S : List ℤ) (w c : ℕ) → Valid v → 0 < w → w ≤ maxWidth → ticksOf (phasesOf plan) ≤ maxTicks
+pub failed-count : (plan : AttemptPlan) {v : List ℤ} (S : List ℤ) (w c : ℕ) → ValidNumbers v → 0 < w → w ≤ maxWidth → ticksOf (phasesOf plan) ≤ maxTicks
     → {why : Failure} {d : ℕ} → summary v (attemptOf plan v S w c) ≡ Failed why d → d ≤ c + 73000
 unfolding summary
 failed-count plan {v} S w c sheet some most ticks = few (attempt-takes _ _ sheet w 9 some (omega arith) _ S c)

@@ -5,7 +5,7 @@ use Prim.Native.Nat.{ℕ, _+_, _*_, _≤_, _<_}
 use lib.IntN.{ℤ}
 use lib.ListN.{length}
 use Rattle.sheet_spec.specs.Slots.{vars}
-use Rattle.sheet_spec.specs.Valid.{Valid}
+use Rattle.sheet_spec.specs.Valid.{ValidNumbers}
 use Rattle.machine_spec.specs.Box.{Sized, trim}
 use Rattle.machine_spec.specs.Accepted.{Lawful}
 use Rattle.sheet_spec.specs.Limits.{maxSide, maxTicks, maxWidth}
@@ -26,7 +26,7 @@ AllLawful v (p ∷ ps) = Lawful v (p .law) × AllLawful v ps
 
 -- attempts of the plan on the sheet v from the box S, at the width w and below
 pub record AttemptsAsked (plan : AttemptPlan) (v S : List ℤ) (w : ℕ) : Type 0 where
-  pub sheet : Valid v
+  pub sheet : ValidNumbers v
   pub start : Sized (vars v) maxSide S
   pub trimmed : trim (vars v) S ≡ S
   pub phases : plan .count ≤ maxPhases
@@ -43,7 +43,7 @@ pub record AttemptAsked (plan : AttemptPlan) (v S : List ℤ) (w c : ℕ) : Type
 
 -- the reach of a phase of it from the box A, after c rounds
 pub record PhaseAsked (phase : Phase) (v A : List ℤ) (w c : ℕ) : Type 0 where
-  pub sheet : Valid v
+  pub sheet : ValidNumbers v
   pub start : Sized (vars v) (stepLimit (phase .ticks)) A
   pub trimmed : trim (vars v) A ≡ A
   pub law : Lawful v (phase .law)

@@ -5,7 +5,7 @@ ghost use mathlib.Core.Path.{_≡_};
 ghost use mathlib.Core.List.{List};
 ghost use lib.IntN.{ℤ};
 ghost use Rattle.sheet_spec.specs.Slots.{boxes, vars};
-ghost use Rattle.sheet_spec.specs.Valid.{Valid};
+ghost use Rattle.sheet_spec.specs.Valid.{ValidNumbers};
 ghost use Rattle.sheet_spec.specs.Box.{lowestMet};
 ghost use Rattle.boxes.specs.ReachResult.{Names, reachedOf};
 ghost use Rattle.decision_spec.specs.Decision.{attempts, finish, lastReply};
@@ -108,7 +108,7 @@ fn reach_phase(
 
 // What an attempt comes to whose last end box is `end`, after `count` rounds.
 fn finish(sheet: &[i32; SLOTS], end: &[i64; BOX_SIZE], count: u32) -> AttemptResult
-    requires { ⌜ Valid (now sheet) ⌝ }
+    requires { ⌜ ValidNumbers (now sheet) ⌝ }
     ensures { λ r. ⌜ r ≡ summary (now (sheet .entry)) (finish (now (sheet .entry)) (now (end .entry)) count) ⌝ }
 {
     let n = sheet_encoding::count(sheet, VARS);

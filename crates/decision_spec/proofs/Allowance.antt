@@ -13,8 +13,8 @@ use Rattle.sheet_spec.specs.Slots.{vars, boxes, δ, α, ρ, recoveryBox}
 use Rattle.sheet_spec.specs.Limits.{maxAllowance, maxTicks, maxWidth}
 use Rattle.sheet_spec.specs.Refusals.{Cause, greatestNumber, unlessRefused}
 use Rattle.sheet_spec.specs.Sheet.{refusal, values}
-use Rattle.sheet_spec.specs.Valid.{Valid}
-use Rattle.sheet_spec.proofs.Valid.{valid}
+use Rattle.sheet_spec.specs.Valid.{ValidNumbers}
+use Rattle.sheet_spec.proofs.Valid.{valid-numbers}
 use Rattle.sheet_spec.proofs.Causes.{refusal-most}
 use Rattle.sheet_spec.proofs.Laws.{unless-most}
 use Rattle.sheet_spec.proofs.FirstRefusal.{first-of-most}
@@ -40,7 +40,7 @@ abbrev pub Spends : Bool → ℕ → ℕ → ℕ → Result (List ℤ) → Type 
 Spends l a c most g = Takes l a c most (λ E. Unit {0}) (λ why. Unit {0}) g
 
 -- an attempt at a width below 2^(e + 1) takes at most 8·e + 1 rounds a tick
-module _ (l : Bool) (a : ℕ) {v : List ℤ} (wf : Valid v) (w e : ℕ) (z : 0 < w) (h : w < 2 ^ suc e) where
+module _ (l : Bool) (a : ℕ) {v : List ℤ} (wf : ValidNumbers v) (w e : ℕ) (z : 0 < w) (h : w < 2 ^ suc e) where
   follow-takes : (ps : List Phase) (S : List ℤ) (c : ℕ) → Spends l a c ((8 * e + 1) * ticksOf ps) (follow l a v w ps S c)
   unfolding follow ticksOf
   follow-takes [] S c = value tt (counted-less (omega arith) (counted-none c))
@@ -125,7 +125,7 @@ attempts-fuel attemptAt (suc fuel) w c z f =
 abbrev pub ReplyBounds : Bool → ℕ → Reply → Type 0
 ReplyBounds l a r = Concluded l a 0 370000 maxWidth r
 
-module _ {v : List ℤ} (wf : Valid v) where
+module _ {v : List ℤ} (wf : ValidNumbers v) where
   phases-answer : (l : Bool) (a : ℕ) (ps : List Phase) (S : List ℤ) (w : ℕ) → 0 < w → w ≤ maxWidth → ticksOf ps ≤ maxTicks → ReplyBounds l a (replyFrom (λ w c. attempt l a v w ps S c) w w 0)
   unfolding mostATick
   phases-answer l a ps S w z h t =
@@ -162,14 +162,14 @@ pub decide-answer : (f g : List ℕ) → ReplyBounds true (allowanceOf g) (decid
 unfolding decide
 decide-answer f g =
     unless-answer (refusal f) (refusal-most f)
-    (λ e. unless-answer (questionRefusal (values f) g) (question-most (values f) g) (λ _. decision-answer (valid f e) _ _ _))
+    (λ e. unless-answer (questionRefusal (values f) g) (question-most (values f) g) (λ _. decision-answer (valid-numbers f e) _ _ _))
 
 pub check-answer : (f : List ℕ) → ReplyBounds false 0 (checkRecovery f)
 unfolding checkRecovery
-check-answer f = unless-answer (refusal f) (refusal-most f) (λ e. recovery-answer (valid f e))
+check-answer f = unless-answer (refusal f) (refusal-most f) (λ e. recovery-answer (valid-numbers f e))
 
 -- on values, a recovery check is never spent
-pub recoveryOf-unspent : {v : List ℤ} → Valid v → {w c : ℕ} → recoveryOf v ≡ answered spent w c → ⊥
+pub recoveryOf-unspent : {v : List ℤ} → ValidNumbers v → {w c : ℕ} → recoveryOf v ≡ answered spent w c → ⊥
 recoveryOf-unspent wf e = differ (subst (ReplyBounds false 0) e (recovery-answer wf) .reason .0) refl
 
 module _ (f g : List ℕ) where

@@ -11,7 +11,7 @@ use lib.ListN.{replicate}
 use Rattle.sheet_spec.specs.Slots.{vars, boxes, δ, α, ρ, recoveryBox}
 use Rattle.sheet_spec.specs.Refusals.{unlessRefused}
 use Rattle.sheet_spec.specs.Sheet.{refusal, values}
-use Rattle.sheet_spec.specs.Valid.{Valid}
+use Rattle.sheet_spec.specs.Valid.{ValidNumbers}
 use Rattle.machine_spec.specs.Box.{In}
 use Rattle.machine_spec.specs.declared.Law.{Law}
 use Rattle.machine_spec.specs.declared.Law.the-variants.{Baseline}
@@ -56,7 +56,7 @@ unfoldable pub laws : List Phase → List Law
 laws [] = []
 laws (p ∷ ps) = replicate (p .ticks) (p .law) ++ laws ps
 
-module _ (limited : Bool) (allowance : ℕ) {v : List ℤ} (wf : Valid v) (w : ℕ) where
+module _ (limited : Bool) (allowance : ℕ) {v : List ℤ} (wf : ValidNumbers v) (w : ℕ) where
   follow-sound : (ps : List Phase) (S : List ℤ) (c : ℕ) {E : List ℤ} {c′ : ℕ} → follow limited allowance v w ps S c ≡ ok E c′
       → ((y : List ℤ) → In (vars v) E y → In (vars v) (recoveryBox v) y) → (x : List ℤ) → In (vars v) S x → Covered v (laws ps) x
   unfolding follow laws Covered
@@ -104,7 +104,7 @@ module _ (attemptAt : ℕ → ℕ → Result (List ℤ)) where
       outcome-keep (attemptAt w c) w (replyFrom attemptAt fuel (w / 2)) (λ E c′ e. record { width = w; before = c; end = E; after = c′; gives = e })
       (attempts-keep fuel (w / 2)) (subst (λ (r : Reply). T (isKeep r)) (reply-turn attemptAt fuel w c) t)
 
-module _ {v : List ℤ} (wf : Valid v) where
+module _ {v : List ℤ} (wf : ValidNumbers v) where
   pub recovery-sound : {x : List ℤ} → T (isKeep (recoveryOf v)) → In (vars v) (recoveryBox v) x → Covered v (replicate (ρ v) Baseline) x
   unfolding recoveryOf recoveryPhases laws
   recovery-sound {x} t b =

@@ -12,7 +12,7 @@ use lib.Signed.{leZ, ltZ, _≤ℤ_, _<ℤ_, ≤ℤ-refl, leZ-yes, ltZ-yes}
 use mir.Facts.{and-yes, or-yes}
 use Rattle.integers.proofs.Z.{ints, le-or-lt}
 use Rattle.sheet_spec.specs.Slots.{bands, edge}
-use Rattle.sheet_spec.specs.Valid.{Valid}
+use Rattle.sheet_spec.specs.Valid.{ValidNumbers}
 use Rattle.machine_spec.specs.Machine.{bandMeets}
 
 both : (a b : Bool) → T a → T b → T (a && b)
@@ -50,10 +50,10 @@ meets-wider u w s = record { above = omega (ints, s .above); below = λ g. omega
 
 -- ---- edges ascend
 
-pub edge-below : {v : List ℤ} → Valid v → (k : ℕ) → k + 1 < bands v → edge v k <ℤ edge v (k + 1)
+pub edge-below : {v : List ℤ} → ValidNumbers v → (k : ℕ) → k + 1 < bands v → edge v k <ℤ edge v (k + 1)
 edge-below wf k h = rw add-one (wf .edges k (omega arith))
 
-pub edges-ascend : {v : List ℤ} → Valid v → (k d : ℕ) → k + d < bands v → edge v k ≤ℤ edge v (k + d)
+pub edges-ascend : {v : List ℤ} → ValidNumbers v → (k d : ℕ) → k + d < bands v → edge v k ≤ℤ edge v (k + d)
 edges-ascend {v} wf k zero h = rw (add-zero k) (≤ℤ-refl (edge v k))
 edges-ascend wf k (suc d) h = rw (add-suc k d) (omega (ints, edges-ascend wf k d (omega arith), wf .edges (k + d) (omega arith)))
 

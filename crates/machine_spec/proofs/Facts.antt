@@ -12,10 +12,10 @@ use Rattle.integers.specs.Bound.{Bound}
 use Rattle.integers.proofs.Z.{ints, bound-in}
 use Rattle.sheet_spec.specs.Limits.{maxCap}
 use Rattle.sheet_spec.specs.Slots.{N, vars, bands, cap, row}
-use Rattle.sheet_spec.specs.Valid.{Valid}
+use Rattle.sheet_spec.specs.Valid.{ValidNumbers}
 use Rattle.sheet_spec.proofs.Box.{differ}
 
-module _ {v : List ℤ} (wf : Valid v) where
+module _ {v : List ℤ} (wf : ValidNumbers v) where
   -- there is room for the variables
   pub room : vars v ≤ N
   room = omega (arith, wf .vars-high)

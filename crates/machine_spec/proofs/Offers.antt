@@ -8,7 +8,7 @@ use Rattle.integers.specs.Bound.{Bound}
 use Rattle.integers.proofs.Z.{ints, bound-in}
 use Rattle.sheet_spec.specs.Limits.{maxCommand}
 use Rattle.sheet_spec.specs.Slots.{bands, leastCommand, greatestCommand}
-use Rattle.sheet_spec.specs.Valid.{Between, Valid}
+use Rattle.sheet_spec.specs.Valid.{Between, ValidNumbers}
 use Rattle.machine_spec.specs.declared.Law.{Law}
 use Rattle.machine_spec.specs.declared.Law.the-variants.{Baseline, Command}
 use Rattle.machine_spec.specs.Box.{Ordered, In}
@@ -35,7 +35,7 @@ module _ (m : Machine) (k : ℕ) where
 
 -- ---- of an accepted machine
 
-module _ {v : List ℤ} (wf : Valid v) (k : ℕ) (h : k < bands v) where
+module _ {v : List ℤ} (wf : ValidNumbers v) (k : ℕ) (h : k < bands v) where
   ordered-at : (l : Law) → Lawful v l → (x : List ℤ) → offeredAt false (machine v l) k x ≤ℤ offeredAt true (machine v l) k x
   unfolding offeredAt
   ordered-at Baseline t x = wf .safety k h

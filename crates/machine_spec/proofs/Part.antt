@@ -14,7 +14,7 @@ use Rattle.integers.specs.Order.{minZ}
 use Rattle.integers.proofs.Z.{ints, sub, min-is, max-is}
 use Rattle.sheet_spec.specs.Slots.{_!_, N, edge}
 use Rattle.sheet_spec.specs.Box.{lo, hi}
-use Rattle.sheet_spec.specs.Valid.{Valid}
+use Rattle.sheet_spec.specs.Valid.{ValidNumbers}
 use Rattle.machine_spec.specs.Box.{side, Ordered, In}
 use Rattle.machine_spec.specs.Machine.{Machine, varsOf, bandsOf, bandVarOf, bandHolds}
 use Rattle.machine_spec.specs.Rate.{bandMet, cutToBand, part}
@@ -78,7 +78,7 @@ module _ (m : Machine) (k : ℕ) where
       cut-cases (λ z. Beyond true z x) s (λ e. h) (λ e. record { order = omega (ints, h .order, b .below e, min-is s last, sub (edge (m .sheet) (k + 1)) (pos 1)) })
 
   -- the sides of a range that the band meets stay in order
-  cut-ordered : Valid (m .sheet) → {l h : ℤ} → l ≤ℤ h → Meets (m .sheet) (bandsOf m) k l h → cutToBand false m k l ≤ℤ cutToBand true m k h
+  cut-ordered : ValidNumbers (m .sheet) → {l h : ℤ} → l ≤ℤ h → Meets (m .sheet) (bandsOf m) k l h → cutToBand false m k l ≤ℤ cutToBand true m k h
   unfolding cutToBand
   cut-ordered wf {l} {h} o b =
       cut-cases (λ z. cutToBand false m k l ≤ℤ z) h (λ e. omega (ints, o, b .above, max-is l (edge (m .sheet) k)))
@@ -86,7 +86,7 @@ module _ (m : Machine) (k : ℕ) where
 
 -- ---- the part
 
-module _ (m : Machine) (wf : Valid (m .sheet)) (k : ℕ) where
+module _ (m : Machine) (wf : ValidNumbers (m .sheet)) (k : ℕ) where
   -- what relates a side of two boxes, and the two cut sides if it is the band variable's, relates it in their parts
   sides-both : (face : Bool) (R : ℤ → ℤ → Type 0) (A B : List ℤ) (j : ℕ) → length A ≡ length B → j < varsOf m → R (side face A j) (side face B j)
       → (j ≡ bandVarOf m → R (cutToBand face m k (side face A (bandVarOf m))) (cutToBand face m k (side face B (bandVarOf m)))) → R (side face (part m k A) j) (side face (part m k B) j)

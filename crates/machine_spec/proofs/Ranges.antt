@@ -12,7 +12,7 @@ use Rattle.integers.proofs.Z.{ints, neg, bound-in, bound-less, bound-sum, bound
 use Rattle.sheet_spec.specs.Limits.{maxCommand, maxCap, maxEdge, maxCoefficient, maxConstant}
 use Rattle.sheet_spec.specs.Slots.{_!_, N, boxSize, Row, vars, bandVar, cap, edge}
 use Rattle.sheet_spec.specs.Box.{lo}
-use Rattle.sheet_spec.specs.Valid.{Between, ValidRow, Valid}
+use Rattle.sheet_spec.specs.Valid.{Between, ValidRow, ValidNumbers}
 use Rattle.machine_spec.specs.Box.{side, Near, Ordered, Sized, sum, trim, hull, moved}
 use Rattle.machine_spec.specs.declared.Law.{Law}
 use Rattle.machine_spec.specs.Machine.{Machine, machine, varsOf, bandsOf}
@@ -58,7 +58,7 @@ pub sized-part : {n b : ℕ} {A B : List ℤ} → Ordered n A → Inside n A B �
 sized-part o s k = record { near = near-part o s k; ordered = o }
 
 -- a box within ±2,000,000 is not below the first edge
-pub above-first : {v E : List ℤ} → Valid v → Near (vars v) maxEdge E → edge v 0 ≤ℤ lo E (bandVar v)
+pub above-first : {v E : List ℤ} → ValidNumbers v → Near (vars v) maxEdge E → edge v 0 ≤ℤ lo E (bandVar v)
 above-first {v} wf e = omega (ints, wf .first-edge, e .at false (bandVar v) (wf .var) .at-most)
 
 -- the box of zeros
@@ -86,7 +86,7 @@ module _ {n : ℕ} (room : n ≤ N) where
 
 -- ---- a rate
 
-module _ {v : List ℤ} (wf : Valid v) (l : Law) where
+module _ {v : List ℤ} (wf : ValidNumbers v) (l : Law) where
   rate-near : (up : Bool) (B : List ℤ) (i : ℕ) → i < vars v → Bound (rate up (machine v l) B i) maxCap
   rate-near up B i h =
       let w = rate-between up (machine v l) B i (cap-low wf i h) in
@@ -97,7 +97,7 @@ module _ {v : List ℤ} (wf : Valid v) (l : Law) where
   rates-near S k E = record { at = λ up i h. rw (rates-side (machine v l) i (room wf) h up S k E) (rate-near up _ i h) }
 
 -- where the neighborhood of a face of S is cut
-pub limit-near : {v S : List ℤ} {b : ℕ} → Valid v → Near (vars v) b S → (up : Bool) (k i : ℕ) → i < vars v → Bound (inward up (side up S i) (pos k *ℤ cap v i)) (b + k * maxCap)
+pub limit-near : {v S : List ℤ} {b : ℕ} → ValidNumbers v → Near (vars v) b S → (up : Bool) (k i : ℕ) → i < vars v → Bound (inward up (side up S i) (pos k *ℤ cap v i)) (b + k * maxCap)
 limit-near wf s up k i h = at up (s .at up i h) (bound-mul {x = pos k} {B = k} (record { at-most = omega arith }) (cap-near wf i h))
   where
     at : (up : Bool) {x y : ℤ} {b c : ℕ} → Bound x b → Bound y c → Bound (inward up x y) (b + c)

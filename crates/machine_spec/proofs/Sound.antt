@@ -10,7 +10,7 @@ use lib.Signed.{_≤ℤ_, ≤ℤ-refl}
 use Rattle.integers.specs.Order.{minZ}
 use Rattle.integers.proofs.Z.{ints, min-is, max-is, neg}
 use Rattle.sheet_spec.specs.Slots.{_!_, Row}
-use Rattle.sheet_spec.specs.Valid.{Between, Valid}
+use Rattle.sheet_spec.specs.Valid.{Between, ValidNumbers}
 use Rattle.machine_spec.specs.Box.{In}
 use Rattle.machine_spec.specs.Machine.{Machine, varsOf, bandsOf, bandVarOf, cap, rowOf, clamp, numerator, change, Tick}
 use Rattle.machine_spec.specs.Rate.{outer, outermost, weighted, bound, bandMet, part, offeredOver, neutral, bandRate, rate}
@@ -33,7 +33,7 @@ pub record InPart (m : Machine) (B : List ℤ) (k : ℕ) (x : List ℤ) (u : ℤ
   pub state : In (varsOf m) (part m k B) x
   pub command : Between (offeredOver false m k (part m k B)) (offeredOver true m k (part m k B)) u
 
-pub tick-in-part : {m : Machine} {x y : List ℤ} (B : List ℤ) → Valid (m .sheet) → In (varsOf m) B x → (t : Tick m x y) → InPart m B (t .band) x (t .used)
+pub tick-in-part : {m : Machine} {x y : List ℤ} (B : List ℤ) → ValidNumbers (m .sheet) → In (varsOf m) B x → (t : Tick m x y) → InPart m B (t .band) x (t .used)
 tick-in-part {m} {x} B wf b t = let s = part-holds m wf (t .band) B x b (t .holds) in record {
   meets = meets-show (meets-wider (b .low (bandVarOf m) (wf .var)) (b .high (bandVarOf m) (wf .var)) (meets-read (t .holds)));
   state = s;
@@ -77,7 +77,7 @@ unfolding outer neutral
 outer-neutral {c} {z} h false = omega (ints, min-is z c, h .high)
 outer-neutral {c} {z} h true = omega (ints, max-is z (negℤ c), h .low)
 
-module _ {m : Machine} {x y : List ℤ} (wf : Valid (m .sheet)) (t : Tick m x y) (i : ℕ) (h : i < varsOf m) where
+module _ {m : Machine} {x y : List ℤ} (wf : ValidNumbers (m .sheet)) (t : Tick m x y) (i : ℕ) (h : i < varsOf m) where
   allowed : (up : Bool) → Beyond up (change up (cap m i) (rowOf m (t .band) i) (numerator (varsOf m) (rowOf m (t .band) i) x (t .used))) (y ! i -ℤ x ! i)
   allowed false = record { order = t .change i h .above }
   allowed true = record { order = t .change i h .below }

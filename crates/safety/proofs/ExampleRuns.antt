@@ -70,8 +70,8 @@ unfoldable pub fileB : List ℕ
 fileB = bytesOf
     (bandB 0 (negsuc 1999999) (pos 20) (pos 25) (pos 5)
     (bandB 1 (pos 0) (negsuc 24) (negsuc 19) (negsuc 4)
-    (boxB (unsafeSlot 0) (pos 40 ∷ negsuc 1999999 ∷ []) (pos 2000000 ∷ pos 2000000 ∷ [])
-    (boxB (unsafeSlot 1) (negsuc 1999999 ∷ pos 45 ∷ []) (pos 2000000 ∷ pos 2000000 ∷ [])
+    (boxB (unsafeSlot 0) (negsuc 1999999 ∷ pos 45 ∷ []) (pos 2000000 ∷ pos 2000000 ∷ [])
+    (boxB (unsafeSlot 1) (pos 40 ∷ negsuc 1999999 ∷ []) (pos 2000000 ∷ pos 2000000 ∷ [])
     (boxB recoverySlot (negsuc 19 ∷ negsuc 29 ∷ []) (pos 20 ∷ pos 30 ∷ [])
     (sets zeros 0 (pos 2 ∷ pos 2 ∷ pos 2 ∷ pos 0 ∷ pos 3 ∷ pos 5 ∷ pos 4 ∷ negsuc 29 ∷ pos 30 ∷ pos 5 ∷ pos 3 ∷ [])))))))
 

@@ -34,14 +34,14 @@ clearA : (In 1 (unsafeBox (values fileA) 0) (statesA 0) → ⊥) × (In 1 (unsaf
 unfolding opened
 clearA = (safeA .safe 0 (lit≤ tt) 0 (lit< tt), safeA .safe 28 (lit≤ tt) 0 (lit< tt))
 
--- and the same of sheet B's second no-go box, whose second variable is 45 or more, and the last state, after tick 12
-forbiddenB : In 2 (unsafeBox (values fileB) 1) (pos 0 ∷ pos 45 ∷ [])
+-- and the same of sheet B's first no-go box, whose second variable is 45 or more, and the last state, after tick 12
+forbiddenB : In 2 (unsafeBox (values fileB) 0) (pos 0 ∷ pos 45 ∷ [])
 unfolding opened
-forbiddenB = holds-in 2 (unsafeBox (values fileB) 1) (pos 0 ∷ pos 45 ∷ []) refl
+forbiddenB = holds-in 2 (unsafeBox (values fileB) 0) (pos 0 ∷ pos 45 ∷ []) refl
 
-clearB : (In 2 (unsafeBox (values fileB) 1) (statesB 0) → ⊥) × (In 2 (unsafeBox (values fileB) 1) (statesB 12) → ⊥)
+clearB : (In 2 (unsafeBox (values fileB) 0) (statesB 0) → ⊥) × (In 2 (unsafeBox (values fileB) 0) (statesB 12) → ⊥)
 unfolding opened
-clearB = (safeB .safe 0 (lit≤ tt) 1 (lit< tt), safeB .safe 12 (lit≤ tt) 1 (lit< tt))
+clearB = (safeB .safe 0 (lit≤ tt) 0 (lit< tt), safeB .safe 12 (lit≤ tt) 0 (lit< tt))
 
 abbrev plain : Law → Bool
 plain Baseline = true

@@ -13,7 +13,7 @@ use Rattle.integers.specs.Bound.{size}
 use Rattle.integers.proofs.Z.{ints, sub, neg}
 use Rattle.sheet_spec.specs.Limits.{maxTicks, maxCap, maxEdge, maxSide}
 use Rattle.sheet_spec.specs.Slots.{_!_, vars, δ, α, ρ, recoveryBox}
-use Rattle.sheet_spec.specs.Valid.{Valid}
+use Rattle.sheet_spec.specs.Valid.{ValidNumbers}
 use Rattle.machine_spec.specs.Box.{Sized, In}
 use Rattle.machine_spec.specs.declared.Law.{Law}
 use Rattle.machine_spec.specs.declared.Law.the-variants.{Baseline, Command}
@@ -36,7 +36,7 @@ pub record Held (v : List ℤ) (ls : List Law) (x : List ℤ) : Type 0 where
 -- ---- a tick moves it on
 
 -- a tick changes a variable by at most the greatest cap
-change-size : {v : List ℤ} {l : Law} {x y : List ℤ} → Valid v → Tick (machine v l) x y → (i : ℕ) → i < vars v → size (y ! i) ≤ size (x ! i) + maxCap
+change-size : {v : List ℤ} {l : Law} {x y : List ℤ} → ValidNumbers v → Tick (machine v l) x y → (i : ℕ) → i < vars v → size (y ! i) ≤ size (x ! i) + maxCap
 unfolding neutral
 change-size {v} {l} {x} {y} wf t i h =
     step (x ! i) (y ! i) _ (wf .caps i h .high) (cap-bounds wf t i h false .order) (cap-bounds wf t i h true .order)
@@ -45,7 +45,7 @@ change-size {v} {l} {x} {y} wf t i h =
     step a (pos b) c k f g = omega (ints, sub (pos b) a)
     step a (negsuc b) c k f g = omega (ints, sub (negsuc b) a, neg c)
 
-module _ {v : List ℤ} (wf : Valid v) where
+module _ {v : List ℤ} (wf : ValidNumbers v) where
   pub held-tick : {l : Law} {ls : List Law} {x y : List ℤ} → Held v (l ∷ ls) x → Tick (machine v l) x y → Held v ls y
   unfolding Covered
   held-tick {y} s t = record {
@@ -79,7 +79,7 @@ hold {x} few s b c = record {
 pub command-lawful : (v : List ℤ) (g : List ℕ) → questionRefusal v g ≡ 0 → Lawful v (Command (commandOf g))
 command-lawful v g e = lawful v (Command (commandOf g)) (question-passes v g e .head .law)
 
-pub keep-held : {v x : List ℤ} (g : List ℕ) → Valid v → questionRefusal v g ≡ 0
+pub keep-held : {v x : List ℤ} (g : List ℕ) → ValidNumbers v → questionRefusal v g ≡ 0
     → T (isKeep (decisionTo v (questionOf (vars v) g))) → In (vars v) (measured (vars v) g) x
     → Held v (replicate (δ v) (Command (commandOf g)) ++ replicate (α v) Baseline) x
 keep-held {v} g wf e t b =
@@ -95,7 +95,7 @@ pub record Returning (v x : List ℤ) : Type 0 where
   pub held : Held v (replicate (suc left) Baseline) x
 
 -- a sheet whose recovery check passed
-module _ {v : List ℤ} (wf : Valid v) (passed : T (isKeep (recoveryOf v))) where
+module _ {v : List ℤ} (wf : ValidNumbers v) (passed : T (isKeep (recoveryOf v))) where
   -- a state of the recovery box comes back to it in ρ ticks
   pub recovered : {x : List ℤ} → In (vars v) (recoveryBox v) x → Returning v x
   recovered {x} b =

@@ -15,7 +15,7 @@ use Rattle.integers.proofs.Z.{ints}
 use Rattle.sheet_spec.specs.Limits.{maxEdge}
 use Rattle.sheet_spec.specs.Slots.{_!_, vars, bands, bandVar, δ, recoveryBox}
 use Rattle.sheet_spec.specs.Sheet.{values}
-use Rattle.sheet_spec.specs.Valid.{Valid}
+use Rattle.sheet_spec.specs.Valid.{ValidNumbers}
 use Rattle.machine_spec.specs.Box.{In}
 use Rattle.machine_spec.specs.declared.Law.{Law}
 use Rattle.machine_spec.specs.Accepted.{Lawful}
@@ -34,7 +34,7 @@ use Rattle.safety.proofs.Run.{Backed, Guarded, backed-guarded, period-l
 guarded-bound : {v x : List ℤ} → Guarded v x → (i : ℕ) → i < vars v → Bound (x ! i) maxEdge
 guarded-bound g i h = record { at-most = omega (arith, g .held .near i h) }
 
-guarded-band : {v x : List ℤ} → Valid v → Guarded v x → Band v (bands v) (x ! bandVar v)
+guarded-band : {v x : List ℤ} → ValidNumbers v → Guarded v x → Band v (bands v) (x ! bandVar v)
 guarded-band {v} wf g = has-band (wf .bands-low) (omega (ints, wf .first-edge, guarded-bound g (bandVar v) (wf .var) .at-most))
 
 module _ (f : List ℕ) (passed : T (isKeep (checkRecovery f))) (qs : List Period) (x : ℕ → List ℤ)

@@ -13,8 +13,8 @@ use lib.IntN.{ℤ}
 use lib.ListN.{length, getD, replicate}
 use Rattle.sheet_spec.specs.Slots.{vars, δ, α, recoveryBox}
 use Rattle.sheet_spec.specs.Sheet.{values}
-use Rattle.sheet_spec.specs.Valid.{Valid}
-use Rattle.sheet_spec.proofs.Valid.{valid}
+use Rattle.sheet_spec.specs.Valid.{ValidNumbers}
+use Rattle.sheet_spec.proofs.Valid.{valid-numbers}
 use Rattle.machine_spec.specs.Box.{In}
 use Rattle.machine_spec.specs.declared.Law.{Law}
 use Rattle.machine_spec.specs.declared.Law.the-variants.{Baseline, Command}
@@ -58,8 +58,8 @@ period-lawful f (some g) = choose (Lawful (values f)) (isKeep (decide f g)) _ _ 
 
 -- a sheet that passed
 module _ (f : List ℕ) (passed : T (isKeep (checkRecovery f))) where
-  pub wf : Valid (values f)
-  wf = valid f (check-keep f passed .0)
+  pub wf : ValidNumbers (values f)
+  wf = valid-numbers f (check-keep f passed .0)
 
   -- ---- a period
 

@@ -1,5 +1,5 @@
 -- Laws about tests of each number below a count, and about the boxes of a sheet. Assumes nothing.
-use mathlib.Core.Path.{_≡_, refl, sym, ap, _∙_, subst}
+use mathlib.Core.Path.{_≡_, refl, sym, ap, ap₂, _∙_, subst}
 use mathlib.Core.Logic.{⊎-elim}
 use mathlib.Core.Bool.{Bool, true, false, _&&_, _||_}
 use mathlib.Core.List.{List}
@@ -10,12 +10,12 @@ use native.Mathlib.Omega.{arith}
 use lib.Dec.{T, ltb}
 use lib.IntN.{ℤ, pos}
 use lib.Signed.{leZ, _≤ℤ_, _<ℤ_}
-use lib.ListN.{drop}
-use lib.Seq.{getD-take, getD-drop}
+use lib.ListN.{length, drop, length-drop}
+use lib.Seq.{getD-take, getD-drop, length-take-le}
 use borrow.Author.Tests.{ltb-true, ltb-false}
 use Rattle.integers.proofs.Z.{ints, le-true}
 use Rattle.sheet_spec.specs.Slots.{_!_, N, boxSize, boxAt}
-use Rattle.sheet_spec.specs.Box.{lo, hi, all, any, lowestPassing, meets}
+use Rattle.sheet_spec.specs.Box.{lo, hi, all, any, lowestPassing, SameSides, meets}
 use Rattle.sheet_spec.proofs.Streams.{lt-or-le}
 
 -- ---- tests
@@ -72,6 +72,11 @@ pub all-of : (n : ℕ) (f : ℕ → Bool) → ((i : ℕ) → i < n → f i ≡ t
 unfolding all
 all-of zero f h = refl
 all-of (suc n) f h = rw (all-of n f (λ i l. h i (omega arith)), h n (omega arith)) refl
+
+pub all-same : (n : ℕ) (f g : ℕ → Bool) → ((i : ℕ) → i < n → f i ≡ g i) → all n f ≡ all n g
+unfolding all
+all-same zero f g h = refl
+all-same (suc n) f g h = ap₂ _&&_ (all-same n f g (λ i l. h i (omega arith))) (h n (omega arith))
 
 pub all-stop : (n : ℕ) (f : ℕ → Bool) (i : ℕ) → i < n → f i ≡ false → all n f ≡ false
 all-stop n f i h e = is-false (all n f) (λ g. differ (all-at n f i g h) e)
@@ -152,6 +157,14 @@ module _ (v : List ℤ) (at i : ℕ) (h : i < N) where
 
   pub box-hi : hi (boxAt v at) i ≡ v ! (at + i + N)
   box-hi = let q : at + (i + N) ≡ at + i + N = omega arith in box-at v at (i + N) (omega arith) ∙ rw q refl
+
+-- a box with the same sides meets the same boxes
+pub meets-same : (n : ℕ) (B : List ℤ) {A A′ : List ℤ} → SameSides n A A′ → meets n B A ≡ meets n B A′
+unfolding meets
+meets-same n B s = all-same n _ _ (λ i h. ap₂ _&&_ (ap (leZ (lo B i)) (s .upper i h)) (ap (λ (x : ℤ). leZ x (hi B i)) (s .lower i h)))
+
+pub box-length : (v : List ℤ) (at : ℕ) → at + boxSize ≤ length v → length (boxAt v at) ≡ boxSize
+box-length v at h = length-take-le boxSize (drop at v) (omega (arith, length-drop at v))
 
 module _ (n : ℕ) (A B : List ℤ) (i : ℕ) (h : i < n) where
   pub meets-at : meets n A B ≡ true → (lo A i ≤ℤ hi B i) × (lo B i ≤ℤ hi A i)

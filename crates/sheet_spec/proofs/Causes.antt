@@ -8,6 +8,7 @@ use lib.IntN.{ℤ}
 use lib.ListN.{length}
 use lib.Signed.{leZ}
 use Rattle.sheet_spec.specs.Slots.{_!_, headSize}
+use Rattle.sheet_spec.specs.Order.{ascendsAt}
 use Rattle.sheet_spec.specs.Refusals.{Cause, greatestNumber}
 use Rattle.sheet_spec.specs.Fields.{Field, test, bad}
 use Rattle.sheet_spec.specs.Sizes.{capsAt}
@@ -15,7 +16,7 @@ use Rattle.sheet_spec.specs.declared.Record.{Record}
 use Rattle.sheet_spec.specs.declared.Record.the-variants.{Head, Band, Unsafe, Recovery}
 use Rattle.sheet_spec.specs.Layout.{headFields}
 use Rattle.sheet_spec.specs.declared.Shape.{Shape}
-use Rattle.sheet_spec.specs.File.{shape, records, recordAt, fieldsAt, fieldCountAt, recordStart, marked, markedAt, closing, badRecord, badAll}
+use Rattle.sheet_spec.specs.File.{shape, records, recordAt, fieldsAt, fieldCountAt, recordStart, marked, markedAt, orderTest, closing, badRecord, badAll}
 use Rattle.sheet_spec.specs.Sheet.{headOf, shapeOf, contents, stage, stages, refusal, valueRefusal, length-of, writeRefusal}
 use Rattle.sheet_spec.proofs.Laws.{either-most, first-most, unless-most}
 
@@ -27,11 +28,16 @@ bad-most : (p : ℕ → Field) (v : List ℤ) (k : ℕ) → bad p v k ≤ greate
 unfolding bad
 bad-most p v = first-most (λ j. test v (p j)) (λ j. test-most v (p j))
 
+order-most : (n : ℕ) (v : List ℤ) (j : ℕ) → orderTest n v j ≤ greatestNumber
+unfolding orderTest
+order-most n v zero = omega arith
+order-most n v (suc j) = unless-most (ascendsAt n v j) Cause.order
+
 closing-most : (v : List ℤ) (s : Shape) (x : Record) → closing v s x ≤ greatestNumber
 unfolding closing
 closing-most v s Head = omega arith
 closing-most v s (Band k) = omega arith
-closing-most v s (Unsafe j) = omega arith
+closing-most v s (Unsafe j) = order-most (s .vars) v j
 closing-most v s Recovery = omega arith
 
 all-most : (marks : ℕ → Bool) (s : Shape) (v : List ℤ) (k : ℕ) → badAll marks s v k ≤ greatestNumber

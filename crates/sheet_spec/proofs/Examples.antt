@@ -3,11 +3,15 @@ use mathlib.Core.Path.{_≡_, refl}
 use mathlib.Core.List.{List, [], _∷_, _++_, map}
 use Prim.Native.Nat.{ℕ, _+_, _^_}
 use lib.IntN.{ℤ, pos, negsuc}
-use lib.ListN.{take, replicate}
+use lib.ListN.{take, drop, replicate}
 use lib.Seq.{sets}
-use Rattle.sheet_spec.specs.Slots.{N, bandSlot, rowSlot, recoverySlot, unsafeSlot}
+use Rattle.sheet_spec.specs.Slots.{N, boxSize, boxesSlot, bandSlot, rowSlot, recoverySlot, unsafeSlot}
+use Rattle.sheet_spec.specs.Fields.{i32, encoded}
+use Rattle.sheet_spec.specs.Order.{compareBoxes}
+use Rattle.sheet_spec.specs.declared.Comparison.{Comparison}
+use Rattle.sheet_spec.specs.declared.Comparison.the-variants.{Less, Equal, Greater}
 use Rattle.sheet_spec.specs.Sheet.{zeros, refusal, values, bytesOf, length-of, writeRefusal, written}
-use Rattle.sheet_spec.specs.SheetA.{fileA}
+use Rattle.sheet_spec.specs.SheetA.{headA, bandA, boxesA, fileA}
 use Rattle.sheet_spec.specs.Refusals.{Cause, number}
 use Rattle.sheet_spec.proofs.Everything.{everything}
 
@@ -79,6 +83,70 @@ refusals : map (λ t. refusal (t .0)) damaged ≡ map (λ t. t .1) damaged
 unfolding everything damaged damage
 refusals = refl
 
+-- ---- the order of boxes of two variables, by their sides in the file's order
+
+pub box : ℤ → ℤ → ℤ → ℤ → List ℤ
+box l0 h0 l1 h1 = sets (sets (replicate boxSize (pos 0)) 0 (l0 ∷ l1 ∷ [])) N (h0 ∷ h1 ∷ [])
+
+-- two boxes, and how they compare
+pub comparisons : List (List ℤ × (List ℤ × Comparison))
+comparisons =
+    -- they differ in the first lower side, whatever the others are
+    (box (negsuc 4) (pos 9) (pos 9) (pos 9), (box (negsuc 3) (pos 0) (pos 0) (pos 0), Less))
+    ∷ (box (pos 2) (pos 2) (pos 0) (pos 0), (box (pos 1) (pos 9) (pos 9) (pos 9), Greater))
+    -- in the first upper one
+    ∷ (box (pos 1) (pos 2) (pos 9) (pos 9), (box (pos 1) (pos 3) (pos 0) (pos 0), Less))
+    ∷ (box (pos 1) (pos 3) (pos 0) (pos 0), (box (pos 1) (pos 2) (pos 9) (pos 9), Greater))
+    -- in the second lower one
+    ∷ (box (pos 1) (pos 2) (negsuc 1) (pos 9), (box (pos 1) (pos 2) (negsuc 0) (pos 0), Less))
+    ∷ (box (pos 1) (pos 2) (pos 0) (pos 0), (box (pos 1) (pos 2) (negsuc 0) (pos 9), Greater))
+    -- in the last one
+    ∷ (box (pos 1) (pos 2) (pos 3) (pos 4), (box (pos 1) (pos 2) (pos 3) (pos 5), Less))
+    ∷ (box (pos 1) (pos 2) (pos 3) (pos 5), (box (pos 1) (pos 2) (pos 3) (pos 4), Greater))
+    -- in none
+    ∷ (box (pos 1) (pos 2) (pos 3) (pos 4), (box (pos 1) (pos 2) (pos 3) (pos 4), Equal))
+    ∷ []
+
+pub compared : map (λ t. compareBoxes 2 (t .0) (t .1 .0)) comparisons ≡ map (λ t. t .1 .1) comparisons
+unfolding everything box comparisons
+compared = refl
+
+-- of one variable only the first two sides count
+pub comparedOne : compareBoxes 1 (box (pos 1) (pos 2) (pos 0) (pos 0)) (box (pos 1) (pos 2) (pos 9) (pos 9)) ≡ Equal
+unfolding everything box
+comparedOne = refl
+
+-- ---- sheet A with other no-go records: a record of one side and another, the file, and its refusal
+
+pub noGo : ℤ → ℤ → List ℕ
+noGo l h = 78 ∷ 71 ∷ encoded i32 l ++ encoded i32 h
+
+pub withBoxes : ℕ → List ℕ → List ℕ
+withBoxes count records = sets headA 4 (count ∷ []) ++ (bandA ++ (records ++ drop 10 boxesA))
+
+pub ordered : List (List ℕ × ℕ)
+ordered =
+    (withBoxes 2 (noGo (negsuc 199) (negsuc 149) ++ noGo (pos 130) (pos 140)), 0)
+    ∷ (withBoxes 2 (noGo (pos 130) (pos 140) ++ noGo (negsuc 199) (negsuc 149)), 20)
+    ∷ (withBoxes 2 (noGo (pos 130) (pos 140) ++ noGo (pos 130) (pos 141)), 0)
+    ∷ (withBoxes 2 (noGo (pos 130) (pos 141) ++ noGo (pos 130) (pos 140)), 20)
+    -- equal boxes
+    ∷ (withBoxes 2 (noGo (pos 130) (pos 140) ++ noGo (pos 130) (pos 140)), 20)
+    ∷ (withBoxes 3 (noGo (pos 130) (pos 140) ++ (noGo (pos 130) (pos 141) ++ noGo (pos 130) (pos 141))), 20)
+    -- after the record's own mark and sides
+    ∷ (withBoxes 2 (noGo (pos 130) (pos 140) ++ (78 ∷ 72 ∷ drop 2 (noGo (pos 120) (pos 140)))), 7)
+    ∷ (withBoxes 2 (noGo (pos 130) (pos 140) ++ noGo (pos 120) (pos 119)), 11)
+    -- before the next record's
+    ∷ (withBoxes 3 (noGo (pos 130) (pos 140) ++ (noGo (pos 120) (pos 140) ++ (78 ∷ 72 ∷ drop 2 (noGo (pos 150) (pos 160))))), 20)
+    ∷ (withBoxes 3 (noGo (pos 130) (pos 140) ++ (noGo (pos 120) (pos 140) ++ noGo (pos 160) (pos 150))), 20)
+    -- an earlier record's side comes first
+    ∷ (withBoxes 3 (noGo (pos 130) (pos 129) ++ (noGo (pos 120) (pos 140) ++ noGo (pos 110) (pos 140))), 11)
+    ∷ []
+
+pub orders : map (λ t. refusal (t .0)) ordered ≡ map (λ t. t .1) ordered
+unfolding everything ordered withBoxes noGo
+orders = refl
+
 zerosA : values (take 69 fileA) ≡ zeros
 unfolding everything
 zerosA = refl
@@ -91,6 +159,14 @@ buffer = replicate 80 7
 writtenA : written valueA buffer 5 ≡ replicate 5 7 ++ (fileA ++ replicate 5 7)
 unfolding everything valueA buffer
 writtenA = refl
+
+-- sheet A's value with a second no-go box that is equal to the first: its order comes before the room
+twiceA : List ℤ
+twiceA = sets (sets (sets valueA boxesSlot (pos 2 ∷ [])) (unsafeSlot 1) (pos 130 ∷ [])) (unsafeSlot 1 + N) (pos 2000000 ∷ [])
+
+orderA : (writeRefusal twiceA buffer 5 ≡ number Cause.order) × (writeRefusal twiceA (take 40 buffer) 0 ≡ number Cause.order) × (written twiceA buffer 5 ≡ buffer)
+unfolding everything valueA buffer twiceA
+orderA = (refl, refl, refl)
 
 roomA : (writeRefusal valueA buffer 11 ≡ number Cause.room) × (written valueA buffer 11 ≡ buffer) × (writeRefusal valueA buffer (2 ^ 64) ≡ number Cause.room) × (writeRefusal (sets valueA 4 (pos 997 ∷ [])) buffer 11 ≡ number Cause.times)
 unfolding everything valueA buffer

@@ -1,4 +1,5 @@
 pub mod Box
+pub mod Order
 pub mod Streams
 pub mod Laws
 pub mod FirstRefusal
@@ -18,6 +19,6 @@ pub mod Same
 pub mod RoundTrip
 pub mod ReadWrite
 pub mod Everything
-mod Examples
+pub mod Examples
 pub mod FieldRuns
 pub mod FieldPlaces

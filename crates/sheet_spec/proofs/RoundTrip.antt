@@ -74,7 +74,7 @@ module _ (v : List ℤ) (f : List ℕ) (g : AllGood v) (size : length f ≡ reco
   passes (suc (suc zero)) = rw (← shape-is, eq-eqb (length f) (recordStart (shape v) (records (shape v))) size)
   passes (suc (suc (suc i))) =
       subst (λ (s : Shape). badAll (markedAt s f) s (contents f) (records s) ≡ 0) shape-is
-      (good-all (markedAt (shape v) f) (shape v) (contents f) (records (shape v)) (t .marks) (same-good v (contents f) (shape v) contents-equal g))
+      (good-all (markedAt (shape v) f) (shape v) (contents f) (records (shape v)) (t .marks) (same-good v (contents f) (shape v) contents-equal (small v nine .vars) g))
 
   says-read : (refusal f ≡ 0) × Same v (values f)
   unfolding refusal

@@ -1,20 +1,25 @@
 -- Two values that agree up to the counts pass the same tests. Assumes nothing.
-use mathlib.Core.Path.{_≡_, refl, sym, _∙_, subst}
+use mathlib.Core.Path.{_≡_, refl, sym, ap, _∙_, subst}
+use mathlib.Core.Bool.{Bool}
 use mathlib.Core.List.{List}
-use Prim.Native.Nat.{ℕ, zero, suc, _+_, _*_, _<_}
+use Prim.Native.Nat.{ℕ, zero, suc, _+_, _*_, _≤_, _<_}
 use native.Mathlib.Omega.{arith}
 use lib.IntN.{ℤ}
 use lib.Signed.{_≤ℤ_}
-use Rattle.sheet_spec.specs.Slots.{_!_, headSize, bandSlot, rowSlot, recoverySlot, unsafeSlot, vars, bands, varsSlot, δSlot, leastSlot, greatestSlot, restSize, pairSize, edgeInBand, leastInBand}
+use Rattle.sheet_spec.specs.Slots.{_!_, N, headSize, bandSlot, rowSlot, recoverySlot, unsafeSlot, unsafeBox, vars, bands, varsSlot, δSlot, leastSlot, greatestSlot, restSize, pairSize, edgeInBand, leastInBand}
 use Rattle.sheet_spec.specs.Fields.{Field}
 use Rattle.sheet_spec.specs.Limits.{maxUnsafeSide, maxRecoverySide}
 use Rattle.sheet_spec.specs.Layout.{_▸_, headFields, edgeField, rowRest, rowFields, bandFields, sideFields, boxFields, rowCount, bandCount, boxCount}
 use Rattle.sheet_spec.specs.declared.Shape.{Shape}
-use Rattle.sheet_spec.specs.File.{records, recordAt, closing}
+use Rattle.sheet_spec.specs.Box.{SameSides}
+use Rattle.sheet_spec.specs.Refusals.{Cause, refuseUnless}
+use Rattle.sheet_spec.specs.File.{records, recordAt, orderTest, closing}
 use Rattle.sheet_spec.proofs.Streams.{Each, each-next, each-first, each-groups, rows-more, caps-more}
 use Rattle.sheet_spec.proofs.Records.{record-cases, EachField, each-field, each-head, each-band, each-unsafe, each-recovery, each-side}
 use Rattle.sheet_spec.proofs.Tests.{InRange, Good, good-ranges}
 use Rattle.sheet_spec.proofs.Places.{edge-slot}
+use Rattle.sheet_spec.proofs.Box.{box-lo, box-hi}
+use Rattle.sheet_spec.proofs.Order.{ascends-sides}
 
 -- ---- a field: its value is the same in both, and so are the ends of its range
 
@@ -95,13 +100,29 @@ module _ (v w : List ℤ) where
         (λ j l. moved (each-unsafe s e j l) (box-ends (s .vars) maxUnsafeSide (unsafeSlot j) (each-unsafe s e j l)) (each-unsafe s g j l))
         (moved (each-recovery s e) (box-ends (s .vars) maxRecoverySide recoverySlot (each-recovery s e)) (each-recovery s g))
 
-    -- the test of a whole record goes by the sheet's numbers up to the counts
-    pub same-closing : (r : ℕ) → r < records s → closing v s (recordAt s r) ≡ closing w s (recordAt s r)
-    unfolding closing
-    same-closing = record-cases s (λ r x. closing v s x ≡ closing w s x) refl (λ k l. refl) (λ j l. refl) refl
+    module _ (room : s .vars ≤ N) where
+      unsafe-same : (j : ℕ) → j < s .boxes → SameSides (s .vars) (unsafeBox v j) (unsafeBox w j)
+      unfolding sideFields _▸_
+      unsafe-same j l =
+          let at = unsafeSlot j in
+          let p = each-side (s .vars) maxUnsafeSide at (each-unsafe s e j l) in
+          record {
+            lower = λ i h. box-lo v at i (omega arith) ∙ p i h .at 0 (omega arith) ∙ sym (box-lo w at i (omega arith));
+            upper = λ i h. box-hi v at i (omega arith) ∙ p i h .at 1 (omega arith) ∙ sym (box-hi w at i (omega arith));
+          }
 
-    pub same-good : Each (Good v s) (recordAt s) (records s) → Each (Good w s) (recordAt s) (records s)
-    same-good g = record { at = λ r l. record { ranges = same-ranges (good-ranges v s g) .at r l; closed = sym (same-closing r l) ∙ g .at r l .closed } }
+      -- the test of a whole record goes by the sheet's numbers up to the counts
+      same-order : (j : ℕ) → j < s .boxes → orderTest (s .vars) v j ≡ orderTest (s .vars) w j
+      unfolding orderTest
+      same-order zero l = refl
+      same-order (suc j) l = ap (λ (b : Bool). refuseUnless b Cause.order) (ascends-sides (s .vars) v w j (unsafe-same j (omega arith)) (unsafe-same (suc j) l))
+
+      pub same-closing : (r : ℕ) → r < records s → closing v s (recordAt s r) ≡ closing w s (recordAt s r)
+      unfolding closing
+      same-closing = record-cases s (λ r x. closing v s x ≡ closing w s x) refl (λ k l. refl) same-order refl
+
+      pub same-good : Each (Good v s) (recordAt s) (records s) → Each (Good w s) (recordAt s) (records s)
+      same-good g = record { at = λ r l. record { ranges = same-ranges (good-ranges v s g) .at r l; closed = sym (same-closing r l) ∙ g .at r l .closed } }
 
   -- the head alone, up to the commands
   pub same-head : Each Equal headFields headSize → Each (InRange v) headFields headSize → Each (InRange w) headFields headSize

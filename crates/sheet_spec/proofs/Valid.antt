@@ -11,17 +11,20 @@ use mir.Syntax.{w32}
 use mir.Val.{SFits}
 use Rattle.integers.proofs.Z.{ints, flat}
 use Rattle.sheet_spec.specs.Slots.{_!_, N, slots, bandSlot, recoverySlot, unsafeSlot, vars, bands, row, varsSlot, bandsSlot, boxesSlot, bandVarSlot, δSlot, αSlot, ρSlot, leastSlot, greatestSlot, restSize, pairSize, bInRest, cInRest, dInRest, qInRest, edgeInBand, leastInBand, greatestInBand}
-use Rattle.sheet_spec.specs.Valid.{ValidRow, ValidBox, Valid}
+use Rattle.sheet_spec.specs.Valid.{ValidRow, ValidBox, ValidNumbers, Ascending, Valid}
+use Rattle.sheet_spec.specs.Refusals.{Cause}
+use Rattle.sheet_spec.specs.Order.{ascendsAt}
 use Rattle.sheet_spec.specs.Fields.{Kind, u8, u16, i16, i32}
 use Rattle.sheet_spec.specs.Limits.{maxEdge, maxUnsafeSide, maxRecoverySide}
 use Rattle.sheet_spec.specs.Layout.{_▸_, headFields, edgeField, rowRest, rowFields, bandFields, sideFields, boxFields, boxCount}
+use Rattle.sheet_spec.specs.declared.Record.{Record}
 use Rattle.sheet_spec.specs.declared.Shape.{Shape}
-use Rattle.sheet_spec.specs.File.{shape, records, fieldsAt}
+use Rattle.sheet_spec.specs.File.{shape, records, fieldsAt, orderTest, closing}
 use Rattle.sheet_spec.specs.Sheet.{zeros, shapeOf, contents, refusal, values}
 use Rattle.sheet_spec.proofs.Streams.{Each, each-next, each-low, each-high}
-use Rattle.sheet_spec.proofs.Laws.{stops}
-use Rattle.sheet_spec.proofs.Tests.{InRange, AllInRange, good-ranges}
-use Rattle.sheet_spec.proofs.Records.{each-head, each-band, each-unsafe, each-recovery, each-cap, each-row, each-side}
+use Rattle.sheet_spec.proofs.Laws.{stops, unless-zero}
+use Rattle.sheet_spec.proofs.Tests.{InRange, AllInRange, AllGood, good-ranges}
+use Rattle.sheet_spec.proofs.Records.{unsafe-at, each-head, each-band, each-unsafe, each-recovery, each-cap, each-row, each-side}
 use Rattle.sheet_spec.proofs.Places.{head-slot, recovery-free}
 use Rattle.sheet_spec.proofs.Filled.{TakenAll, origin-all, length-all}
 use Rattle.sheet_spec.proofs.Ranges.{abs-in, Fit, all-fit}
@@ -87,9 +90,9 @@ module _ (v : List ℤ) (g : AllInRange v) where
   edge-high zero l = omega (ints, edge-at 0 l .high)
   edge-high (suc k) l = edge-at (suc k) l .high
 
-  valid-of : length v ≡ slots → ((i : ℕ) → SFits w32 (v ! i)) → Valid v
+  numbers-of : length v ≡ slots → ((i : ℕ) → SFits w32 (v ! i)) → ValidNumbers v
   unfolding headFields bandFields edgeField _▸_
-  valid-of size fits =
+  numbers-of size fits =
       let h = each-head (shape v) g in
       let n = h .at varsSlot (omega arith) in
       let b = h .at bandsSlot (omega arith) in
@@ -131,6 +134,16 @@ module _ (v : List ℤ) (g : AllInRange v) where
         unsafe = λ j l. valid-box maxUnsafeSide (unsafeSlot j) (each-unsafe (shape v) g j l);
       }
 
+-- the no-go boxes of a sheet whose records are good ascend
+ascending : (v : List ℤ) → AllGood v → Ascending v
+unfolding closing orderTest
+ascending v g = record {
+  at = λ j l.
+      let s = shape v in
+      let c = subst (λ (x : Record). closing v s x ≡ 0) (unsafe-at s (suc j) l) (g .at (1 + (s .bands + suc j)) (omega arith) .closed) in
+      unless-zero (ascendsAt (s .vars) v j) Cause.order c;
+}
+
 module _ (f : List ℕ) (a : Accepted f) where
   in-range : AllInRange (contents f)
   in-range = good-ranges (contents f) (shape (contents f)) (contents-good f a)
@@ -152,10 +165,16 @@ module _ (f : List ℕ) (a : Accepted f) where
 
   contents-valid : Valid (contents f)
   unfolding contents
-  contents-valid = valid-of (contents f) in-range (length-all (shapeOf f) f (records (shapeOf f)) zeros ∙ length-zeros) contents-fit
+  contents-valid = record {
+    numbers = numbers-of (contents f) in-range (length-all (shapeOf f) f (records (shapeOf f)) zeros ∙ length-zeros) contents-fit;
+    order = ascending (contents f) (contents-good f a);
+  }
 
 pub valid : (f : List ℕ) → refusal f ≡ 0 → Valid (values f)
 valid f e = let a = accepted f e in subst Valid (sym (a .values)) (contents-valid f a)
+
+pub valid-numbers : (f : List ℕ) → refusal f ≡ 0 → ValidNumbers (values f)
+valid-numbers f e = valid f e .numbers
 
 -- ---- any file
 
@@ -174,10 +193,10 @@ module _ (f : List ℕ) where
       go (suc c) e = subst P (sym (values-zero (λ z. (let y : ⊥ = omega arith in y)))) z
 
   pub length-values : length (values f) ≡ slots
-  length-values = cases (λ v. length v ≡ slots) (λ e. valid f e .size) length-zeros
+  length-values = cases (λ v. length v ≡ slots) (λ e. valid-numbers f e .size) length-zeros
 
   pub values-fit : (i : ℕ) → SFits w32 (values f ! i)
-  values-fit i = cases (λ v. SFits w32 (v ! i)) (λ e. valid f e .fits i) (subst (SFits w32) (sym (zeros-at i)) zero-fits)
+  values-fit i = cases (λ v. SFits w32 (v ! i)) (λ e. valid-numbers f e .fits i) (subst (SFits w32) (sym (zeros-at i)) zero-fits)
 
   -- what lies beyond the counts is 0
   pub values-beyond : (i : ℕ) → (TakenAll (shape (values f)) (records (shape (values f))) i → ⊥) → values f ! i ≡ pos 0
@@ -187,7 +206,7 @@ module _ (f : List ℕ) where
 
   pub recovery-beyond : refusal f ≡ 0 → (i q : ℕ) → vars (values f) ≤ i → i < N → q < pairSize → values f ! (recoverySlot + i + q * N) ≡ pos 0
   recovery-beyond e i q b h k =
-      let wf = valid f e in
+      let wf = valid-numbers f e in
       values-beyond (recoverySlot + i + q * N)
       (λ t. recovery-free (shape (values f)) (record { vars = omega (arith, wf .vars-high); bands = wf .bands-high; boxes = wf .boxes-high }) i q b h k (t .r) (t .below) (t .taken .j) (t .taken .below) (t .taken .is))
 

@@ -1,8 +1,9 @@
 -- Boxes as a sheet has them, and tests of each number below a count. All of it computes.
 -- A box is 2N numbers: variable i's lower side at i, its upper side at i + N. Places that no variable has are 0.
+use mathlib.Core.Path.{_≡_}
 use mathlib.Core.Bool.{Bool, true, false, _&&_, _||_}
 use mathlib.Core.List.{List}
-use Prim.Native.Nat.{ℕ, zero, suc, _+_}
+use Prim.Native.Nat.{ℕ, zero, suc, _+_, _<_}
 use lib.IntN.{ℤ}
 use lib.Signed.{leZ}
 use Rattle.sheet_spec.specs.Slots.{_!_, N, unsafeBox}
@@ -29,6 +30,11 @@ lowestPassing zero f = 0
 lowestPassing (suc n) f = elim (f 0) [ true ↦ 0 | false ↦ suc (lowestPassing n (λ i. f (suc i))) ]
 
 -- ---- boxes
+
+-- A and B have the same sides in the first n variables
+pub record SameSides (n : ℕ) (A B : List ℤ) : Type 0 where
+  pub lower : (i : ℕ) → i < n → lo A i ≡ lo B i
+  pub upper : (i : ℕ) → i < n → hi A i ≡ hi B i
 
 -- A and B share a state
 unfoldable pub meets : ℕ → List ℤ → List ℤ → Bool

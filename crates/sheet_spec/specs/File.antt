@@ -7,6 +7,7 @@ use lib.IntN.{ℤ}
 use lib.ListN.{getD}
 use Rattle.sheet_spec.specs.Limits.{maxBands, maxBoxes}
 use Rattle.sheet_spec.specs.Slots.{N, vars, bands, boxes}
+use Rattle.sheet_spec.specs.Order.{ascendsAt}
 use Rattle.sheet_spec.specs.Refusals.{Cause, refuseUnless, unlessRefused, firstRefusal}
 use Rattle.sheet_spec.specs.Fields.{Field, offset, filled, coded, bad}
 use Rattle.sheet_spec.specs.Sizes.{letters}
@@ -75,11 +76,16 @@ markedAt s f r = marked f (recordStart s r) (recordAt s r)
 
 -- ---- tests
 
--- the test of a whole record, made after those of its fields: 0, or why the sheet is refused. It passes every record
+-- a no-go box is greater than the one before, if there is one (document 02, paper 2)
+unfoldable pub orderTest : ℕ → List ℤ → ℕ → ℕ
+orderTest n v zero = 0
+orderTest n v (suc j) = refuseUnless (ascendsAt n v j) Cause.order
+
+-- the test of a whole record, made after those of its fields: 0, or why the sheet is refused
 unfoldable pub closing : List ℤ → Shape → Record → ℕ
 closing v s Head = 0
 closing v s (Band k) = 0
-closing v s (Unsafe j) = 0
+closing v s (Unsafe j) = orderTest (s .vars) v j
 closing v s Recovery = 0
 
 -- the refusal of a record's fields or, if there is none, of the whole record

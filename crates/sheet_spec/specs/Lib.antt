@@ -1,6 +1,7 @@
 pub mod Limits
 pub mod Slots
 pub mod Box
+pub mod Order
 pub mod Valid
 pub mod Refusals
 pub mod Fields

@@ -1,4 +1,4 @@
--- Why a call is refused, by number (document 01, "Refused calls"), and which of several refusals comes first.
+-- Why a call is refused, by number (document 01, "Refused calls", and the papers of document 02), and which of several refusals comes first.
 use mathlib.Core.Bool.{Bool, true, false}
 use mathlib.Core.List.{List, [], _∷_}
 use Prim.Native.Nat.{ℕ, zero, suc}
@@ -38,6 +38,8 @@ pub data Cause : Type 0 where
   reach : Cause
   -- too little room in the buffer
   room : Cause
+  -- a no-go box that is not greater than the one before (document 02, paper 2)
+  order : Cause
 
 abbrev pub number : Cause → ℕ
 number head = 1
@@ -57,10 +59,11 @@ number command = 14
 number start = 15
 number reach = 16
 number room = 17
+number order = 20
 
 -- no cause has a greater number
 abbrev pub greatestNumber : ℕ
-greatestNumber = number room
+greatestNumber = number order
 
 -- 0 where the test passed, else the number of the cause
 abbrev pub refuseUnless : Bool → Cause → ℕ

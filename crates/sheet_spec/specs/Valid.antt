@@ -1,5 +1,6 @@
--- What the numbers of an accepted sheet keep to. Crates above use a sheet through this alone.
+-- What an accepted sheet keeps to. Crates above use a sheet through this alone.
 use mathlib.Core.Path.{_≡_}
+use mathlib.Core.Bool.{true}
 use mathlib.Core.List.{List}
 use Prim.Native.Nat.{ℕ, suc, _+_, _≤_, _<_}
 use lib.IntN.{ℤ, pos, negℤ}
@@ -9,6 +10,7 @@ use mir.Syntax.{w32}
 use mir.Val.{SFits}
 use Rattle.sheet_spec.specs.Limits.{maxVars, maxBands, maxBoxes, maxTicks, maxCommand, maxCap, maxEdge, maxCoefficient, maxConstant, maxSpread, maxDivisor, maxUnsafeSide, maxRecoverySide}
 use Rattle.sheet_spec.specs.Slots.{_!_, N, slots, leastSlot, recoverySlot, unsafeSlot, vars, bands, boxes, bandVar, δ, α, ρ, leastCommand, greatestCommand, cap, edge, safetyLeast, safetyGreatest, Row, row}
+use Rattle.sheet_spec.specs.Order.{ascendsAt}
 
 -- z lies from l to h
 pub record Between (l h z : ℤ) : Type 0 where
@@ -28,7 +30,8 @@ pub record ValidBox (n : ℕ) (most : ℤ) (v : List ℤ) (at : ℕ) : Type 0 wh
   pub ordered : (i : ℕ) → i < n → v ! (at + i) ≤ℤ v ! (at + i + N)
   pub upper : (i : ℕ) → i < n → v ! (at + i + N) ≤ℤ most
 
-pub record Valid (v : List ℤ) : Type 0 where
+-- every number up to the counts is in its range. The no-go boxes may be in any order
+pub record ValidNumbers (v : List ℤ) : Type 0 where
   pub size : length v ≡ slots
   pub fits : (i : ℕ) → SFits w32 (v ! i)
   -- the counts are not negative, and so the head's numbers themselves
@@ -58,3 +61,11 @@ pub record Valid (v : List ℤ) : Type 0 where
   pub rows : (k i : ℕ) → k < bands v → i < vars v → ValidRow (vars v) (row v k i)
   pub recovery : ValidBox (vars v) (pos maxRecoverySide) v recoverySlot
   pub unsafe : (j : ℕ) → j < boxes v → ValidBox (vars v) (pos maxUnsafeSide) v (unsafeSlot j)
+
+-- the no-go boxes ascend (document 02, paper 2)
+pub record Ascending (v : List ℤ) : Type 0 where
+  pub at : (j : ℕ) → suc j < boxes v → ascendsAt (vars v) v j ≡ true
+
+pub record Valid (v : List ℤ) : Type 0 where
+  pub numbers : ValidNumbers v
+  pub order : Ascending v

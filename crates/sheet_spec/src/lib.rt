@@ -1,6 +1,6 @@
 // A sheet's format (document 01, "Sheet layout"): what a file says, its refusal number, the bytes of a value, as definitions; and
 // what follows of them, as the length formula and that reading and writing undo each other. Beside them the names of slots,
-// sizes and refusals and the types of a file's counts and records, which all code uses. `sheet` has the operations.
+// sizes and refusals and the types of a file's counts and records and of a comparison, which all code uses. `sheet` has the operations.
 
 pub mod limits;
 pub mod refusals;
@@ -20,6 +20,13 @@ pub enum Record {
     Band(usize),
     Unsafe(usize),
     Recovery,
+}
+
+// How two numbers or two boxes compare.
+pub enum Comparison {
+    Less,
+    Equal,
+    Greater,
 }
 
 // A refusal, or 0 and how many bytes were written.

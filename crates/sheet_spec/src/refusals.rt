@@ -1,4 +1,4 @@
-// Why a call is refused (document 01, "Refused calls"): the numbers of specs/Refusals.antt.
+// Why a call is refused (document 01, "Refused calls", and the papers of document 02): the numbers of specs/Refusals.antt.
 
 // Under 20 bytes, or the mark is not SH.
 pub const HEAD: u8 = 1;
@@ -50,3 +50,6 @@ pub const REACH: u8 = 16;
 
 // Too little room in the buffer.
 pub const ROOM: u8 = 17;
+
+// A no-go box that is not greater than the one before.
+pub const ORDER: u8 = 20;

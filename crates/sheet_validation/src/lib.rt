@@ -11,6 +11,10 @@ ghost use Rattle.sheet_spec.specs.Refusals.{number, unlessRefused};
 ghost use Rattle.sheet_spec.specs.File.{Small, HasRoom, records, closing, badNumbers, badAll};
 ghost use Rattle.sheet_spec.specs.Fields.{Field, test, bad};
 ghost use Rattle.sheet_spec.specs.Layout.{headFields, edgeField, rowFields, rowCount, bandFields, bandCount, boxFields, boxCount, fields, fieldCount};
+
+pub mod order;
+
+use crate::order::bad_order;
 use sheet_encoding::records::record_at;
 use sheet_encoding::records::record_count;
 use sheet_spec::Record;
@@ -184,7 +188,7 @@ fn closing(v: &[i32; SLOTS], shape: Shape, record: Record) -> u8
     match record {
         Record::Head => 0,
         Record::Band(_) => 0,
-        Record::Unsafe(_) => 0,
+        Record::Unsafe(j) => bad_order(v, shape.vars, j),
         Record::Recovery => 0,
     }
 }

@@ -2,10 +2,11 @@
 -- This file is written by `print_proofs` of reference/, and a test there compares it. Assumes nothing.
 use mathlib.Core.Path.{_≡_, refl}
 use mathlib.Core.List.{List, [], _∷_, _++_}
-use Prim.Native.Nat.{ℕ}
+use Prim.Native.Nat.{ℕ, _+_}
 use lib.IntN.{pos}
 use lib.ListN.{take, replicate}
 use lib.Seq.{sets}
+use Rattle.sheet_spec.specs.Slots.{unsafeSlot}
 use Rattle.sheet_spec.specs.Sheet.{refusal, values, writeRefusal}
 use Rattle.sheet_spec.specs.SheetA.{fileA}
 use Rattle.sheet_spec.proofs.Everything.{everything}
@@ -26,6 +27,12 @@ four-variables = 83 ∷ 72 ∷ 4 ∷ 1 ∷ 1 ∷ 0 ∷ 0 ∷ 4 ∷ 0 ∷ 4 ∷ 0
 
 unfoldable two-bands : List ℕ
 two-bands = 83 ∷ 72 ∷ 1 ∷ 2 ∷ 1 ∷ 0 ∷ 0 ∷ 4 ∷ 0 ∷ 4 ∷ 0 ∷ 4 ∷ 255 ∷ 255 ∷ 255 ∷ 231 ∷ 0 ∷ 0 ∷ 0 ∷ 25 ∷ 0 ∷ 5 ∷ 66 ∷ 68 ∷ 255 ∷ 225 ∷ 123 ∷ 128 ∷ 0 ∷ 0 ∷ 0 ∷ 0 ∷ 0 ∷ 0 ∷ 0 ∷ 0 ∷ 255 ∷ 255 ∷ 0 ∷ 4 ∷ 0 ∷ 0 ∷ 0 ∷ 0 ∷ 0 ∷ 0 ∷ 0 ∷ 0 ∷ 0 ∷ 20 ∷ 66 ∷ 68 ∷ 0 ∷ 0 ∷ 0 ∷ 0 ∷ 0 ∷ 0 ∷ 0 ∷ 0 ∷ 0 ∷ 0 ∷ 0 ∷ 0 ∷ 255 ∷ 255 ∷ 0 ∷ 4 ∷ 0 ∷ 0 ∷ 0 ∷ 0 ∷ 0 ∷ 0 ∷ 0 ∷ 0 ∷ 0 ∷ 20 ∷ 78 ∷ 71 ∷ 0 ∷ 0 ∷ 0 ∷ 130 ∷ 0 ∷ 30 ∷ 132 ∷ 128 ∷ 82 ∷ 67 ∷ 255 ∷ 255 ∷ 255 ∷ 156 ∷ 0 ∷ 0 ∷ 0 ∷ 100 ∷ []
+
+unfoldable two-boxes : List ℕ
+two-boxes = 83 ∷ 72 ∷ 2 ∷ 1 ∷ 2 ∷ 0 ∷ 0 ∷ 4 ∷ 0 ∷ 4 ∷ 0 ∷ 4 ∷ 255 ∷ 255 ∷ 255 ∷ 231 ∷ 0 ∷ 0 ∷ 0 ∷ 25 ∷ 0 ∷ 5 ∷ 0 ∷ 5 ∷ 66 ∷ 68 ∷ 255 ∷ 225 ∷ 123 ∷ 128 ∷ 0 ∷ 0 ∷ 0 ∷ 0 ∷ 0 ∷ 0 ∷ 0 ∷ 0 ∷ 255 ∷ 255 ∷ 0 ∷ 0 ∷ 0 ∷ 4 ∷ 0 ∷ 0 ∷ 0 ∷ 0 ∷ 0 ∷ 0 ∷ 0 ∷ 0 ∷ 0 ∷ 20 ∷ 0 ∷ 0 ∷ 255 ∷ 255 ∷ 0 ∷ 4 ∷ 0 ∷ 0 ∷ 0 ∷ 0 ∷ 0 ∷ 0 ∷ 0 ∷ 0 ∷ 0 ∷ 20 ∷ 78 ∷ 71 ∷ 0 ∷ 0 ∷ 0 ∷ 130 ∷ 0 ∷ 30 ∷ 132 ∷ 128 ∷ 0 ∷ 0 ∷ 0 ∷ 130 ∷ 0 ∷ 30 ∷ 132 ∷ 128 ∷ 78 ∷ 71 ∷ 0 ∷ 0 ∷ 0 ∷ 131 ∷ 0 ∷ 30 ∷ 132 ∷ 128 ∷ 0 ∷ 0 ∷ 0 ∷ 131 ∷ 0 ∷ 30 ∷ 132 ∷ 128 ∷ 82 ∷ 67 ∷ 255 ∷ 255 ∷ 255 ∷ 156 ∷ 0 ∷ 0 ∷ 0 ∷ 100 ∷ 255 ∷ 255 ∷ 255 ∷ 156 ∷ 0 ∷ 0 ∷ 0 ∷ 100 ∷ []
+
+unfoldable three-boxes : List ℕ
+three-boxes = 83 ∷ 72 ∷ 1 ∷ 1 ∷ 3 ∷ 0 ∷ 0 ∷ 4 ∷ 0 ∷ 4 ∷ 0 ∷ 4 ∷ 255 ∷ 255 ∷ 255 ∷ 231 ∷ 0 ∷ 0 ∷ 0 ∷ 25 ∷ 0 ∷ 5 ∷ 66 ∷ 68 ∷ 255 ∷ 225 ∷ 123 ∷ 128 ∷ 0 ∷ 0 ∷ 0 ∷ 0 ∷ 0 ∷ 0 ∷ 0 ∷ 0 ∷ 255 ∷ 255 ∷ 0 ∷ 4 ∷ 0 ∷ 0 ∷ 0 ∷ 0 ∷ 0 ∷ 0 ∷ 0 ∷ 0 ∷ 0 ∷ 20 ∷ 78 ∷ 71 ∷ 0 ∷ 0 ∷ 0 ∷ 130 ∷ 0 ∷ 30 ∷ 132 ∷ 128 ∷ 78 ∷ 71 ∷ 0 ∷ 0 ∷ 0 ∷ 131 ∷ 0 ∷ 30 ∷ 132 ∷ 128 ∷ 78 ∷ 71 ∷ 0 ∷ 0 ∷ 0 ∷ 132 ∷ 0 ∷ 30 ∷ 132 ∷ 128 ∷ 82 ∷ 67 ∷ 255 ∷ 255 ∷ 255 ∷ 156 ∷ 0 ∷ 0 ∷ 0 ∷ 100 ∷ []
 
 delta-1 : refusal (sets fileA 6 (0 ∷ 1 ∷ [])) ≡ 0
 unfolding everything
@@ -335,6 +342,38 @@ recovery-box-reversed : refusal (sets fileA 62 (0 ∷ 0 ∷ 0 ∷ 5 ∷ 0 ∷ 0 
 unfolding everything
 recovery-box-reversed = refl
 
+boxes-ascending-by-first-side : refusal (sets (sets two-boxes 72 (0 ∷ 0 ∷ 0 ∷ 10 ∷ 0 ∷ 0 ∷ 0 ∷ 20 ∷ 0 ∷ 0 ∷ 0 ∷ 10 ∷ 0 ∷ 0 ∷ 0 ∷ 20 ∷ [])) 90 (0 ∷ 0 ∷ 0 ∷ 11 ∷ 0 ∷ 0 ∷ 0 ∷ 20 ∷ 0 ∷ 0 ∷ 0 ∷ 10 ∷ 0 ∷ 0 ∷ 0 ∷ 20 ∷ [])) ≡ 0
+unfolding two-boxes everything
+boxes-ascending-by-first-side = refl
+
+boxes-descending-by-first-side : refusal (sets (sets two-boxes 72 (0 ∷ 0 ∷ 0 ∷ 11 ∷ 0 ∷ 0 ∷ 0 ∷ 20 ∷ 0 ∷ 0 ∷ 0 ∷ 10 ∷ 0 ∷ 0 ∷ 0 ∷ 20 ∷ [])) 90 (0 ∷ 0 ∷ 0 ∷ 10 ∷ 0 ∷ 0 ∷ 0 ∷ 20 ∷ 0 ∷ 0 ∷ 0 ∷ 10 ∷ 0 ∷ 0 ∷ 0 ∷ 20 ∷ [])) ≡ 20
+unfolding two-boxes everything
+boxes-descending-by-first-side = refl
+
+boxes-ascending-by-middle-side : refusal (sets (sets two-boxes 72 (0 ∷ 0 ∷ 0 ∷ 10 ∷ 0 ∷ 0 ∷ 0 ∷ 20 ∷ 0 ∷ 0 ∷ 0 ∷ 10 ∷ 0 ∷ 0 ∷ 0 ∷ 20 ∷ [])) 90 (0 ∷ 0 ∷ 0 ∷ 10 ∷ 0 ∷ 0 ∷ 0 ∷ 20 ∷ 0 ∷ 0 ∷ 0 ∷ 11 ∷ 0 ∷ 0 ∷ 0 ∷ 20 ∷ [])) ≡ 0
+unfolding two-boxes everything
+boxes-ascending-by-middle-side = refl
+
+boxes-descending-by-middle-side : refusal (sets (sets two-boxes 72 (0 ∷ 0 ∷ 0 ∷ 10 ∷ 0 ∷ 0 ∷ 0 ∷ 20 ∷ 0 ∷ 0 ∷ 0 ∷ 11 ∷ 0 ∷ 0 ∷ 0 ∷ 20 ∷ [])) 90 (0 ∷ 0 ∷ 0 ∷ 10 ∷ 0 ∷ 0 ∷ 0 ∷ 20 ∷ 0 ∷ 0 ∷ 0 ∷ 10 ∷ 0 ∷ 0 ∷ 0 ∷ 20 ∷ [])) ≡ 20
+unfolding two-boxes everything
+boxes-descending-by-middle-side = refl
+
+boxes-ascending-by-last-side : refusal (sets (sets two-boxes 72 (0 ∷ 0 ∷ 0 ∷ 10 ∷ 0 ∷ 0 ∷ 0 ∷ 20 ∷ 0 ∷ 0 ∷ 0 ∷ 10 ∷ 0 ∷ 0 ∷ 0 ∷ 20 ∷ [])) 90 (0 ∷ 0 ∷ 0 ∷ 10 ∷ 0 ∷ 0 ∷ 0 ∷ 20 ∷ 0 ∷ 0 ∷ 0 ∷ 10 ∷ 0 ∷ 0 ∷ 0 ∷ 21 ∷ [])) ≡ 0
+unfolding two-boxes everything
+boxes-ascending-by-last-side = refl
+
+boxes-descending-by-last-side : refusal (sets (sets two-boxes 72 (0 ∷ 0 ∷ 0 ∷ 10 ∷ 0 ∷ 0 ∷ 0 ∷ 20 ∷ 0 ∷ 0 ∷ 0 ∷ 10 ∷ 0 ∷ 0 ∷ 0 ∷ 21 ∷ [])) 90 (0 ∷ 0 ∷ 0 ∷ 10 ∷ 0 ∷ 0 ∷ 0 ∷ 20 ∷ 0 ∷ 0 ∷ 0 ∷ 10 ∷ 0 ∷ 0 ∷ 0 ∷ 20 ∷ [])) ≡ 20
+unfolding two-boxes everything
+boxes-descending-by-last-side = refl
+
+boxes-equal : refusal (sets (sets two-boxes 72 (0 ∷ 0 ∷ 0 ∷ 10 ∷ 0 ∷ 0 ∷ 0 ∷ 20 ∷ 0 ∷ 0 ∷ 0 ∷ 10 ∷ 0 ∷ 0 ∷ 0 ∷ 20 ∷ [])) 90 (0 ∷ 0 ∷ 0 ∷ 10 ∷ 0 ∷ 0 ∷ 0 ∷ 20 ∷ 0 ∷ 0 ∷ 0 ∷ 10 ∷ 0 ∷ 0 ∷ 0 ∷ 20 ∷ [])) ≡ 20
+unfolding two-boxes everything
+boxes-equal = refl
+
+third-box-between-the-others : refusal (sets three-boxes 72 (0 ∷ 0 ∷ 0 ∷ 131 ∷ 0 ∷ 30 ∷ 132 ∷ 127 ∷ [])) ≡ 20
+unfolding three-boxes everything
+third-box-between-the-others = refl
+
 sheet-a : refusal fileA ≡ 0
 unfolding everything
 sheet-a = refl
@@ -411,6 +450,22 @@ recovery-mark-before-side : refusal (sets (sets fileA 60 (88 ∷ 88 ∷ [])) 62 
 unfolding everything
 recovery-mark-before-side = refl
 
+box-mark-before-order : refusal (sets (sets three-boxes 62 (0 ∷ 0 ∷ 0 ∷ 129 ∷ [])) 60 (88 ∷ 88 ∷ [])) ≡ 7
+unfolding three-boxes everything
+box-mark-before-order = refl
+
+box-side-before-order : refusal (sets three-boxes 62 (0 ∷ 0 ∷ 0 ∷ 129 ∷ 0 ∷ 0 ∷ 0 ∷ 128 ∷ [])) ≡ 11
+unfolding three-boxes everything
+box-side-before-order = refl
+
+order-before-next-mark : refusal (sets (sets three-boxes 62 (0 ∷ 0 ∷ 0 ∷ 129 ∷ [])) 70 (88 ∷ 88 ∷ [])) ≡ 20
+unfolding three-boxes everything
+order-before-next-mark = refl
+
+order-before-next-side : refusal (sets (sets three-boxes 62 (0 ∷ 0 ∷ 0 ∷ 129 ∷ [])) 72 (0 ∷ 0 ∷ 0 ∷ 1 ∷ 0 ∷ 0 ∷ 0 ∷ 0 ∷ [])) ≡ 20
+unfolding three-boxes everything
+order-before-next-side = refl
+
 room-just-enough : writeRefusal (values fileA) (replicate 70 0) 0 ≡ 0
 unfolding everything
 room-just-enough = refl
@@ -446,3 +501,23 @@ written-rho-1001 = refl
 value-before-room : writeRefusal (sets (values fileA) 6 (pos 1001 ∷ [])) (replicate 69 0) 0 ≡ 3
 unfolding everything
 value-before-room = refl
+
+written-boxes : writeRefusal (values three-boxes) (replicate 90 0) 0 ≡ 0
+unfolding three-boxes everything
+written-boxes = refl
+
+boxes-a-byte-short : writeRefusal (values three-boxes) (replicate 89 0) 0 ≡ 17
+unfolding three-boxes everything
+boxes-a-byte-short = refl
+
+written-box-equal : writeRefusal (sets (values three-boxes) (unsafeSlot 1) (pos 130 ∷ [])) (replicate 90 0) 0 ≡ 20
+unfolding three-boxes everything
+written-box-equal = refl
+
+box-greater-beyond-n : writeRefusal (sets (sets (values three-boxes) (unsafeSlot 1) (pos 130 ∷ [])) (unsafeSlot 1 + 1) (pos 7 ∷ [])) (replicate 90 0) 0 ≡ 20
+unfolding three-boxes everything
+box-greater-beyond-n = refl
+
+order-before-room : writeRefusal (sets (values three-boxes) (unsafeSlot 1) (pos 130 ∷ [])) (replicate 89 0) 0 ≡ 20
+unfolding three-boxes everything
+order-before-room = refl

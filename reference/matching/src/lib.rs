@@ -8,6 +8,7 @@ pub mod expected;
 pub mod fences;
 pub mod generate;
 pub mod machines;
+pub mod order;
 pub mod random;
 pub mod spoil;
 pub mod tally;

@@ -6,8 +6,27 @@ use crate::archive::format::{
     SLOT_DELTA, SLOT_GREATEST_COMMAND, SLOT_LEAST_COMMAND, SLOT_N, SLOT_RECOVERY, SLOT_RHO,
     SLOT_UNSAFE_BOXES, VARIABLES,
 };
+use crate::expected::pairs;
+use crate::order::any_not_greater;
 use crate::random::Random;
+use second_guard::boxes::StateBox;
 use second_guard::sheet::Sheet;
+
+/// All numbers by which a call can be refused.
+pub const REFUSALS: [u8; 18] = [
+    1, 2, 3, 4, 5, 6, 7, 8, 9, 10, 11, 12, 13, 14, 15, 16, 17, 20,
+];
+
+/// The place of a number among them.
+pub fn refusal_place(number: u8) -> usize {
+    let place = REFUSALS.iter().position(|&refusal| refusal == number);
+    place.expect("a refusal of the documents")
+}
+
+/// A fault of this number can be put into the sheet: for 20 it needs two unsafe boxes.
+pub fn can_have(sheet: &Sheet, number: u8) -> bool {
+    number != 20 || sheet.unsafe_count > 1
+}
 
 /// A change of bytes, or of numbers, that is refused.
 #[derive(Clone, Debug)]
@@ -104,7 +123,16 @@ impl Layout {
     }
 }
 
-/// A fault for this refusal (1 to 11) in a sheet's bytes. With `layout_kept` the counts keep
+/// An unsafe record that is not greater than the one before: it is found after the record's last
+/// side.
+fn order_fault(random: &mut Random, sheet: &Sheet) -> Fault {
+    let layout = Layout::of(sheet);
+    let (j, sides) = any_not_greater(random, sheet);
+    let rank = FILE_ORDER + layout.sides(j + 1) - 1;
+    Fault::new(20, rank, layout.sides(j) + 2, &pairs(&sides, layout.n))
+}
+
+/// A fault for this refusal (1 to 11, 20) in a sheet's bytes. With `layout_kept` the counts keep
 /// their values, so that the rest of the bytes means what it meant.
 pub fn sheet_fault(random: &mut Random, sheet: &Sheet, number: u8, layout_kept: bool) -> Fault {
     let layout = Layout::of(sheet);
@@ -229,6 +257,7 @@ pub fn sheet_fault(random: &mut Random, sheet: &Sheet, number: u8, layout_kept: 
                 _ => in_file(11, pair + 4, &int(values.lower[i] as i32 - 1)),
             }
         }
+        20 => order_fault(random, sheet),
         _ => unreachable!("not a refusal of a sheet"),
     }
 }
@@ -270,7 +299,27 @@ pub fn question_fault(random: &mut Random, sheet: &Sheet, number: u8) -> Fault {
     }
 }
 
-/// A fault for this refusal (2 to 11 without 5 and 7) in the numbers of a sheet.
+/// Where the writer finds what is wrong with unsafe box j: first its sides, then its order.
+fn unsafe_rank(j: usize) -> usize {
+    1_000 + 8 * j
+}
+
+/// The slots of an unsafe box.
+fn box_slots(sides: &StateBox) -> [i32; 2 * VARIABLES] {
+    let side = |slot: usize| match slot.checked_sub(VARIABLES) {
+        None => sides.lower[slot],
+        Some(i) => sides.upper[i],
+    };
+    std::array::from_fn(|slot| side(slot) as i32)
+}
+
+/// The same as `order_fault` in the numbers of a sheet.
+fn order_number_fault(random: &mut Random, sheet: &Sheet) -> Fault<i32> {
+    let (j, sides) = any_not_greater(random, sheet);
+    Fault::new(20, unsafe_rank(j) + 1, slot_unsafe(j), &box_slots(&sides))
+}
+
+/// A fault for this refusal (2 to 11 without 5 and 7, 20) in the numbers of a sheet.
 pub fn number_fault(
     random: &mut Random,
     sheet: &Sheet,
@@ -287,7 +336,7 @@ pub fn number_fault(
     let (sides, sides_rank) = if is_recovery {
         (SLOT_RECOVERY, 9_000)
     } else {
-        (slot_unsafe(any_box), 1_000 + 8 * any_box)
+        (slot_unsafe(any_box), unsafe_rank(any_box))
     };
     let at_slot = |rank: usize, slot: usize, value: i32| Fault::new(number, rank, slot, &[value]);
     match number {
@@ -363,6 +412,7 @@ pub fn number_fault(
             };
             at_slot(sides_rank, sides + slot, value)
         }
+        20 => order_number_fault(random, sheet),
         _ => unreachable!("not a refusal of the writer"),
     }
 }

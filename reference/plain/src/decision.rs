@@ -1,7 +1,7 @@
 //! The decision and the recovery check, as packed numbers.
 
 use crate::reach::{lies_in, shares_a_state, step, to_box, Count, Spent, StateBox};
-use crate::sheet::{read, read_question, Sheet};
+use crate::sheet::{read, read_question, Question, Sheet};
 
 pub const KEEP: u64 = 0;
 pub const FINEST: u64 = 1;
@@ -101,6 +101,11 @@ pub fn decide(bytes: &[u8], question: &[u8]) -> u64 {
         Ok(question) => question,
         Err(number) => return pack(REFUSED, number as u64, 0),
     };
+    decide_values(&sheet, &question)
+}
+
+/// The decision on values, which are not tested here: the no-go boxes may stand in any order.
+pub fn decide_values(sheet: &Sheet, question: &Question) -> u64 {
     let legs = [
         Leg {
             ticks: sheet.delta,
@@ -117,7 +122,7 @@ pub fn decide(bytes: &[u8], question: &[u8]) -> u64 {
         rounds: 0,
         allowance: Some(question.allowance as u64),
     };
-    let (ended, width) = attempts(&sheet, first_width, &legs, &measured, &mut count);
+    let (ended, width) = attempts(sheet, first_width, &legs, &measured, &mut count);
     let code = match ended {
         Ended::Success => KEEP,
         Ended::FailureAtOne => FINEST,
@@ -132,6 +137,11 @@ pub fn recovery(bytes: &[u8]) -> u64 {
         Ok(sheet) => sheet,
         Err(number) => return pack(REFUSED, number as u64, 0),
     };
+    recovery_values(&sheet)
+}
+
+/// The recovery check of values, which are not tested here.
+pub fn recovery_values(sheet: &Sheet) -> u64 {
     let legs = [Leg {
         ticks: sheet.rho,
         command: None,
@@ -141,7 +151,7 @@ pub fn recovery(bytes: &[u8]) -> u64 {
         rounds: 0,
         allowance: None,
     };
-    let (ended, width) = attempts(&sheet, sheet.rho as i64, &legs, &recovery_box, &mut count);
+    let (ended, width) = attempts(sheet, sheet.rho as i64, &legs, &recovery_box, &mut count);
     let code = match ended {
         Ended::Success => PASS,
         Ended::FailureAtOne => FAIL,

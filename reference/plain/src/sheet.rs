@@ -199,6 +199,34 @@ fn test_sides(sides: &Sides, n: u8, bound: i32, refusal: u8) -> Result<(), u8> {
     Ok(())
 }
 
+/// "It refuses with 20 a no-go record not greater than the one before" (document 02, paper 2).
+/// The first record has none before it.
+fn test_order(sheet: &Sheet, k: usize) -> Result<(), u8> {
+    if k == 0 {
+        return Ok(());
+    }
+    for i in 0..sheet.n as usize {
+        let (lower, upper) = sheet.no_go_box[k][i];
+        let (lower_before, upper_before) = sheet.no_go_box[k - 1][i];
+        if lower != lower_before {
+            return if lower > lower_before {
+                Ok(())
+            } else {
+                Err(20)
+            };
+        }
+        if upper != upper_before {
+            return if upper > upper_before {
+                Ok(())
+            } else {
+                Err(20)
+            };
+        }
+    }
+    // All sides are the same: not greater.
+    Err(20)
+}
+
 /// All the values of a sheet in file order.
 pub fn test_values(sheet: &Sheet) -> Result<(), u8> {
     test_counts(sheet)?;
@@ -210,6 +238,7 @@ pub fn test_values(sheet: &Sheet) -> Result<(), u8> {
     }
     for k in 0..sheet.no_go as usize {
         test_sides(&sheet.no_go_box[k], sheet.n, 2_000_000, 11)?;
+        test_order(sheet, k)?;
     }
     test_sides(&sheet.recovery, sheet.n, 1_000_000, 11)
 }
@@ -325,6 +354,8 @@ pub fn read(bytes: &[u8]) -> Result<Sheet, u8> {
         }
         sheet.no_go_box[k] = from.sides(sheet.n);
         test_sides(&sheet.no_go_box[k], sheet.n, 2_000_000, 11)?;
+        // 20: not greater than the one before, "after that record's own sides".
+        test_order(&sheet, k)?;
     }
     if from.mark() != *b"RC" {
         return Err(7);

@@ -1,12 +1,12 @@
 //! The examples and checks that the paper gives with numbers, then a few cases
 //! worked by hand from its sentences.
 
-use plain_guard::decision::{pack, unpack};
+use plain_guard::decision::{decide_values, pack, recovery_values, unpack};
 use plain_guard::machine::{
     allowed_change, band_of, ceil_div, floor_div, greatest_change, least_change,
 };
 use plain_guard::reach::{lies_in, rates, shares_a_state, step, Count};
-use plain_guard::sheet::{question_length, sheet_length, Sides};
+use plain_guard::sheet::{question_length, sheet_length, Question, Sides};
 use plain_guard::*;
 
 /// Sheet A.
@@ -518,6 +518,187 @@ fn another_variable_is_cut_by_the_band_variable() {
     assert_eq!(rates(&s, 0, &vec![(3, 3), (0, 9)], None), (0, 9));
 }
 
+// ---- No-go records in order (document 02, paper 2) ----
+
+/// Sheet A with n variables and these no-go boxes.
+fn with_no_go(n: u8, boxes: &[[(i32, i32); 4]]) -> Sheet {
+    let mut s = sheet_a();
+    s.n = n;
+    s.no_go = boxes.len() as u8;
+    for i in 1..n as usize {
+        s.caps[i] = 5;
+        s.band[0].rows[i].q = 1;
+    }
+    s.no_go_box[..boxes.len()].copy_from_slice(boxes);
+    s
+}
+
+/// The place of no-go record k, and behind the last one that of the recovery record.
+fn place_of_record(s: &Sheet, k: usize) -> usize {
+    let record = 2 + 8 * s.n as usize;
+    sheet_length(s.n, s.bands, s.no_go) - (s.no_go as usize + 1 - k) * record
+}
+
+/// The bytes of a sheet whose no-go boxes need not be in order.
+fn bytes_in_any_order(s: &Sheet) -> Vec<u8> {
+    let mut ordered = *s;
+    for k in 0..s.no_go as usize {
+        ordered.no_go_box[k] = [(k as i32, k as i32); 4];
+    }
+    let mut bytes = write(&ordered).unwrap();
+    for k in 0..s.no_go as usize {
+        for i in 0..s.n as usize {
+            let at = place_of_record(s, k) + 2 + 8 * i;
+            let (lower, upper) = s.no_go_box[k][i];
+            bytes[at..at + 4].copy_from_slice(&lower.to_be_bytes());
+            bytes[at + 4..at + 8].copy_from_slice(&upper.to_be_bytes());
+        }
+    }
+    bytes
+}
+
+/// Reader and writer agree: 0 or the refusal.
+fn read_and_written(s: &Sheet) -> u8 {
+    let refused = |answer: Result<(), u8>| answer.err().unwrap_or(0);
+    let reader = refused(read(&bytes_in_any_order(s)).map(|_| ()));
+    let writer = refused(write(s).map(|_| ()));
+    assert_eq!(reader, writer);
+    reader
+}
+
+#[test]
+fn no_go_records_now_ascend_strictly() {
+    // "No-go records now ascend strictly, compared by first lower side, first upper side, second
+    // lower side and so on."
+    let base = [(10, 20), (30, 40), (50, 60), (70, 80)];
+    for n in 1..=4 {
+        for i in 0..n as usize {
+            for (lower, upper) in [(1, 0), (0, 1)] {
+                // Greater in this side alone.
+                let mut greater = base;
+                greater[i].0 += lower;
+                greater[i].1 += upper;
+                assert_eq!(read_and_written(&with_no_go(n, &[base, greater])), 0);
+                assert_eq!(read_and_written(&with_no_go(n, &[greater, base])), 20);
+                // And less in every later variable.
+                for later in i + 1..n as usize {
+                    greater[later].0 -= 7;
+                    greater[later].1 -= 7;
+                }
+                assert_eq!(read_and_written(&with_no_go(n, &[base, greater])), 0);
+                assert_eq!(read_and_written(&with_no_go(n, &[greater, base])), 20);
+            }
+        }
+        // The first lower side comes before the first upper side.
+        let mut lower_greater = base;
+        lower_greater[0] = (11, 15);
+        let boxes = [base, lower_greater];
+        assert_eq!(read_and_written(&with_no_go(n, &boxes)), 0);
+        // "not greater than the one before": an equal one is not greater.
+        assert_eq!(read_and_written(&with_no_go(n, &[base, base])), 20);
+    }
+}
+
+#[test]
+fn only_the_sheets_variables_are_compared() {
+    let one = [(10, 20), (0, 0), (0, 0), (9, 9)];
+    let two = [(10, 20), (1, 1), (-5, 7), (i32::MAX, i32::MIN)];
+    assert_eq!(write(&with_no_go(1, &[one, two])), Err(20));
+    assert_eq!(write(&with_no_go(1, &[two, one])), Err(20));
+    assert!(write(&with_no_go(2, &[one, two])).is_ok());
+}
+
+#[test]
+fn each_record_against_the_one_before() {
+    let of = |numbers: &[i32]| {
+        let boxes: Vec<[(i32, i32); 4]> = numbers.iter().map(|&x| [(x, 99); 4]).collect();
+        read_and_written(&with_no_go(2, &boxes))
+    };
+    // One record has none before it.
+    assert_eq!(of(&[-2_000_000]), 0);
+    assert_eq!(of(&[1, 2, 3, 4, 5, 6, 7, 8]), 0);
+    assert_eq!(of(&[1, 2, 3, 4, 5, 6, 8, 7]), 20);
+    assert_eq!(of(&[1, 2, 3, 3, 5, 6, 7, 8]), 20);
+    // Greater than the first is not enough.
+    assert_eq!(of(&[1, 3, 2]), 20);
+}
+
+#[test]
+fn after_that_records_own_sides() {
+    // "It refuses with 20 a no-go record not greater than the one before, after that record's own
+    // sides." Record two is less than record one.
+    let s = with_no_go(2, &[[(5, 9); 4], [(3, 9); 4], [(7, 9); 4]]);
+    let bytes = bytes_in_any_order(&s);
+    let with = |faults: &[(usize, usize, &[u8])]| {
+        let mut bytes = bytes.clone();
+        for (record, at, new) in faults {
+            let place = place_of_record(&s, *record) + at;
+            bytes[place..place + new.len()].copy_from_slice(new);
+        }
+        read(&bytes).unwrap_err()
+    };
+    let far = 2_000_001i32.to_be_bytes();
+    assert_eq!(with(&[]), 20);
+    // Its own mark and sides come first, and so do those of the record before.
+    assert_eq!(with(&[(1, 0, b"XX")]), 7);
+    assert_eq!(with(&[(1, 14, &far)]), 11);
+    assert_eq!(with(&[(0, 0, b"XX")]), 7);
+    assert_eq!(with(&[(0, 14, &far)]), 11);
+    // The next record and the recovery record come later.
+    for later in [2, 3] {
+        assert_eq!(with(&[(later, 0, b"XX")]), 20);
+        assert_eq!(with(&[(later, 14, &far)]), 20);
+    }
+    // A sheet comes before a question, and "17 last".
+    assert_eq!(decide(&bytes, b"QS"), pack(3, 20, 0));
+    assert_eq!(recovery(&bytes), pack(3, 20, 0));
+    assert_eq!(listing(Some(&bytes), None), b"sheet refused 20\n");
+    assert_eq!(reach(&s, 1_001, 0, Some(26), &[(1, 0)]), Err(20));
+    assert_eq!(write_at(&s, &mut [], 0), Err(20));
+    let ordered = with_no_go(2, &[[(3, 9); 4], [(5, 9); 4]]);
+    assert_eq!(write_at(&ordered, &mut [], 0), Err(17));
+}
+
+/// Another order of a sheet's no-go boxes.
+fn shuffled(dice: &mut Dice, s: &Sheet) -> Sheet {
+    let mut other = *s;
+    for k in 1..s.no_go as usize {
+        let with = dice.from_to(0, k as i64) as usize;
+        other.no_go_box.swap(k, with);
+    }
+    other
+}
+
+#[test]
+fn the_same_boxes_in_any_order() {
+    // "By the definitions, without this test, the same boxes in any order give the same recovery
+    // check and decisions".
+    let mut dice = Dice(3);
+    let mut decisions = [0; 3];
+    let mut checks = [0; 2];
+    for _ in 0..400 {
+        let s = random_sheet(&mut dice);
+        let mut q = Question {
+            allowance: dice.from_to(0, 200) as u32,
+            command: dice.from_to(s.least as i64, s.greatest as i64) as i32,
+            measured: Sides::default(),
+        };
+        for i in 0..s.n as usize {
+            let lower = dice.from_to(-150, 150) as i32;
+            q.measured[i] = (lower, lower + dice.from_to(0, 40) as i32);
+        }
+        let (decision, check) = (decide_values(&s, &q), recovery_values(&s));
+        decisions[unpack(decision).0 as usize] += 1;
+        checks[unpack(check).0 as usize] += 1;
+        for _ in 0..10 {
+            let other = shuffled(&mut dice, &s);
+            assert_eq!(decide_values(&other, &q), decision);
+            assert_eq!(recovery_values(&other), check);
+        }
+    }
+    assert!(decisions.iter().chain(&checks).all(|seen| *seen > 10));
+}
+
 // ---- Changes at their caps (document 02, paper 6) ----
 
 /// Least and greatest allowed change without spread.
@@ -742,7 +923,7 @@ fn any_bytes_have_an_answer() {
         let (code, w, rounds) = unpack(decide(&sheet, &q));
         match code {
             0..=2 => assert!(w >= 1 && w <= 999 && rounds <= 1_000_000),
-            _ => assert!(w >= 1 && w <= 15 && rounds == 0),
+            _ => assert!((w >= 1 && w <= 15 || w == 20) && rounds == 0),
         }
         if let Ok(again) = read(&sheet) {
             assert_eq!(write(&again).unwrap(), sheet);

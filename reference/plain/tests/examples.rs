@@ -95,13 +95,34 @@ fn reach(words: &Words) -> String {
     }
 }
 
-/// Sheet A's numbers, with another rho where slot 6 is changed.
+/// Slots of a sheet's numbers: rho, and the no-go boxes with four lower and four upper sides each.
+const RHO: usize = 6;
+const NO_GO: usize = 301;
+
+/// Puts a number into its slot.
+fn set(sheet: &mut plain_guard::Sheet, slot: usize, number: &str) {
+    if slot == RHO {
+        sheet.rho = number.parse().expect("a number");
+        return;
+    }
+    let place = slot.checked_sub(NO_GO).expect("rho or a no-go side");
+    let pair = &mut sheet.no_go_box[place / 8][place % 4];
+    let side = match place % 8 {
+        0..=3 => &mut pair.0,
+        _ => &mut pair.1,
+    };
+    *side = number.parse().expect("a number");
+}
+
+/// A named sheet's numbers, with others in some slots.
 fn write(words: &Words) -> String {
-    let (name, rho) = words["numbers"]
-        .split_once("@6:")
-        .unwrap_or((words["numbers"], "4"));
+    let mut parts = words["numbers"].split('@');
+    let name = parts.next().expect("a name");
     let mut sheet = plain_guard::read(&base(name)).expect("an accepted sheet");
-    sheet.rho = rho.parse().expect("a number");
+    for part in parts {
+        let (slot, number) = part.split_once(':').expect("a slot");
+        set(&mut sheet, slot.parse().expect("a slot"), number);
+    }
     let mut buffer = vec![0; words["room"].parse().expect("a length")];
     let place = words["place"].parse().expect("a place");
     let written = plain_guard::write_at(&sheet, &mut buffer, place);

@@ -1,11 +1,12 @@
-//! Prints `limits.txt`: numbers at each of document 01's bounds and one past it, the first of two refusals, and listings,
-//! with the answers of the second guard. Each line says by which number it is refused, and the program stops where it is not.
+//! Prints `limits.txt`: numbers at each of document 01's bounds and one past it, no-go boxes in order and out of it, the first of
+//! two refusals, and listings, with the answers of the second guard. Each line says by which number it is refused, and the program
+//! stops where it is not.
 
-use second_guard::boxes::StateBox;
+use second_guard::boxes::{StateBox, VARIABLES};
 use second_guard::decision::{decide, Decision};
 use second_guard::listing::listing;
 use second_guard::reach::{reach, Law};
-use second_guard::sheet::{self, Refusal, Sheet};
+use second_guard::sheet::{self, Refusal, Sheet, UNSAFE_AT};
 use std::fmt::Write;
 
 /// Bytes, and how a line writes them: the name of a file, then what is changed in it.
@@ -118,6 +119,21 @@ fn four_variables() -> File {
     File::named("four_variables", like_a(4, &[FIRST], 1))
 }
 
+/// Two boxes of two variables.
+fn two_boxes() -> File {
+    File::named("two_boxes", like_a(2, &[FIRST], 2))
+}
+
+/// Three boxes of one variable.
+fn three_boxes() -> File {
+    File::named("three_boxes", like_a(1, &[FIRST], 3))
+}
+
+/// The second box is less than the first.
+fn out_of_order() -> File {
+    three_boxes().number(62, 4, 129)
+}
+
 // ---- reading a sheet
 
 /// A number of sheet A: its name, place and size; the last value that is allowed, the first one past it, and the refusal.
@@ -212,6 +228,27 @@ fn ordered() -> Vec<(&'static str, File, u8)> {
     ]
 }
 
+/// No-go boxes one after another (document 02, paper 2): lower and upper side of the first variable, then of the second.
+fn boxes() -> Vec<(&'static str, File, u8)> {
+    let boxes = |one: [i32; 4], other: [i32; 4]| {
+        let one = two_boxes().with(72, &numbers(&one));
+        one.with(90, &numbers(&other))
+    };
+    let low = [10, 20, 10, 20];
+    let (first, middle, last) = ([11, 20, 10, 20], [10, 20, 11, 20], [10, 20, 10, 21]);
+    let third = three_boxes().pair(72, (131, 1_999_999));
+    vec![
+        ("boxes_ascending_by_first_side", boxes(low, first), 0),
+        ("boxes_descending_by_first_side", boxes(first, low), 20),
+        ("boxes_ascending_by_middle_side", boxes(low, middle), 0),
+        ("boxes_descending_by_middle_side", boxes(middle, low), 20),
+        ("boxes_ascending_by_last_side", boxes(low, last), 0),
+        ("boxes_descending_by_last_side", boxes(last, low), 20),
+        ("boxes_equal", boxes(low, low), 20),
+        ("third_box_between_the_others", third, 20),
+    ]
+}
+
 fn lengths() -> Vec<(&'static str, File, u8)> {
     vec![
         ("sheet_a", a(), 0),
@@ -222,7 +259,7 @@ fn lengths() -> Vec<(&'static str, File, u8)> {
     ]
 }
 
-/// Two causes each: the first in document 01's order, and the other.
+/// Two causes each: the first in the documents' order, and the other.
 fn first_of_two() -> Vec<(&'static str, File, u8)> {
     let no_mark = |place| a().with(place, b"XX");
     let row_then_mark = two_bands().number(48, 2, 0).with(50, b"XX");
@@ -256,6 +293,19 @@ fn first_of_two() -> Vec<(&'static str, File, u8)> {
     ]
 }
 
+/// The same for a box that is less than the one before: what of its own record comes before, and what after.
+fn order_of_two() -> Vec<(&'static str, File, u8)> {
+    let reversed = three_boxes().pair(62, (129, 128));
+    let next_mark = out_of_order().with(70, b"XX");
+    let next_side = out_of_order().pair(72, (1, 0));
+    vec![
+        ("box_mark_before_order", out_of_order().with(60, b"XX"), 7),
+        ("box_side_before_order", reversed, 11),
+        ("order_before_next_mark", next_mark, 20),
+        ("order_before_next_side", next_side, 20),
+    ]
+}
+
 fn refusal_number<T>(answer: Result<T, Refusal>) -> u8 {
     answer.err().map_or(0, Refusal::number)
 }
@@ -266,9 +316,18 @@ fn expect(name: &str, given: u8, refusal: u8) {
 }
 
 fn print_reads() {
-    let named = [counts(), edges(), ordered(), lengths(), first_of_two()].concat();
+    let named = [
+        counts(),
+        edges(),
+        ordered(),
+        boxes(),
+        lengths(),
+        first_of_two(),
+        order_of_two(),
+    ];
     let named = named
         .into_iter()
+        .flatten()
         .map(|(name, file, refusal)| (name.into(), file, refusal));
     for (name, file, refusal) in bounds().into_iter().chain(named) {
         let given = refusal_number(sheet::read(&file.bytes));
@@ -279,29 +338,64 @@ fn print_reads() {
 
 // ---- writing a sheet
 
-/// Sheet A's numbers, where `change` names a slot with the number in it; the bytes of the buffer, the place, the refusal.
-type Written = (&'static str, Option<(usize, i32)>, usize, u64, u8);
+/// A sheet's numbers: its file, and slots with other numbers in them; the bytes of the buffer, the place, the refusal.
+type Written = (
+    &'static str,
+    fn() -> File,
+    &'static [(usize, i32)],
+    usize,
+    u64,
+    u8,
+);
+
+/// The lower side of the second box of `three_boxes`; one later the side of a variable that it does not have.
+const SECOND: usize = UNSAFE_AT + 2 * VARIABLES;
 
 const WRITTEN: &[Written] = &[
-    ("room_just_enough", None, 70, 0, 0),
-    ("room_a_byte_short", None, 69, 0, 17),
-    ("room_from_a_place", None, 75, 5, 0),
-    ("room_from_a_place_a_byte_short", None, 74, 5, 17),
-    ("place_past_the_buffer", None, 70, 71, 17),
-    ("greatest_place", None, 70, u64::MAX, 17),
-    ("written_rho_1000", Some((6, 1_000)), 70, 0, 0),
-    ("written_rho_1001", Some((6, 1_001)), 70, 0, 3),
-    ("value_before_room", Some((6, 1_001)), 69, 0, 3),
+    ("room_just_enough", a, &[], 70, 0, 0),
+    ("room_a_byte_short", a, &[], 69, 0, 17),
+    ("room_from_a_place", a, &[], 75, 5, 0),
+    ("room_from_a_place_a_byte_short", a, &[], 74, 5, 17),
+    ("place_past_the_buffer", a, &[], 70, 71, 17),
+    ("greatest_place", a, &[], 70, u64::MAX, 17),
+    ("written_rho_1000", a, &[(6, 1_000)], 70, 0, 0),
+    ("written_rho_1001", a, &[(6, 1_001)], 70, 0, 3),
+    ("value_before_room", a, &[(6, 1_001)], 69, 0, 3),
+    ("written_boxes", three_boxes, &[], 90, 0, 0),
+    ("boxes_a_byte_short", three_boxes, &[], 89, 0, 17),
+    (
+        "written_box_equal",
+        three_boxes,
+        &[(SECOND, 130)],
+        90,
+        0,
+        20,
+    ),
+    (
+        "box_greater_beyond_n",
+        three_boxes,
+        &[(SECOND, 130), (SECOND + 1, 7)],
+        90,
+        0,
+        20,
+    ),
+    (
+        "order_before_room",
+        three_boxes,
+        &[(SECOND, 130)],
+        89,
+        0,
+        20,
+    ),
 ];
 
 fn print_writes() {
-    let sheet = sheet::read(&a().bytes).expect("sheet A is accepted");
-    for &(name, change, room, place, refusal) in WRITTEN {
-        let mut numbers = sheet.numbers();
-        let mut text = "A".to_string();
-        if let Some((slot, number)) = change {
-            numbers[slot] = number;
-            text = format!("A@{slot}:{number}");
+    for &(name, file, changes, room, place, refusal) in WRITTEN {
+        let File { mut text, bytes } = file();
+        let mut numbers = sheet::read(&bytes).expect("an accepted sheet").numbers();
+        for (slot, number) in changes {
+            numbers[*slot] = *number;
+            let _ = write!(text, "@{slot}:{number}");
         }
         let written = sheet::write(&Sheet::from_numbers(&numbers), &mut vec![0; room], place);
         let given = refusal_number(written);
@@ -364,6 +458,10 @@ fn reaches() -> Vec<Reach> {
         Reach {
             sheet: a().first(69),
             ..plain("sheet_before_ticks", 1_001, 1, 5)
+        },
+        Reach {
+            sheet: out_of_order(),
+            ..plain("order_before_ticks", 1_001, 1, 20)
         },
         reach(
             "ticks_before_command",
@@ -484,6 +582,7 @@ fn decisions() -> Vec<(&'static str, File, File, u8)> {
     let on_a = |(name, question, refusal)| (name, a(), question, refusal);
     let mut all: Vec<_> = questions.into_iter().map(on_a).collect();
     all.push(("sheet_before_question", short_sheet(), q().first(17), 5));
+    all.push(("order_before_question", out_of_order(), q().first(17), 20));
     // the question's boxes sweep 0..20, and the last of them is 12..20
     let recovery = |lower, upper| a().pair(62, (lower, upper));
     let unsafe_from = |lower| a().number(52, 4, lower);
@@ -553,6 +652,12 @@ fn listings() -> Vec<(&'static str, File, File, &'static str)> {
             q(),
             "sheet refused 5",
         ),
+        (
+            "listing_of_boxes_out_of_order",
+            out_of_order(),
+            q(),
+            "sheet refused 20",
+        ),
     ]
 }
 
@@ -570,8 +675,9 @@ fn print_listings() {
 }
 
 fn main() {
-    println!("# Limits, as printed by the program `print_limits`: numbers at each of document 01's bounds and one past it, the first");
-    println!("# of two refusals, and listings. A line has a name, the call, its files and numbers, and the answer; refusal 0 is none.");
+    println!("# Limits, as printed by the program `print_limits`: numbers at each of document 01's bounds and one past it, no-go boxes in");
+    println!("# order and out of it (document 02, paper 2), the first of two refusals, and listings. A line has a name, the call, its files");
+    println!("# and numbers, and the answer; refusal 0 is none.");
     println!("# A file is one of those named first or a sheet in hex. @10:03e8 is with these bytes from place 10 on (of `numbers`: with");
     println!("# this number in the slot), <69 its first 69 bytes, +00 with this byte after it. In a listing _ is a space and / a newline.");
     println!("\n# sheet A, its first question, and sheets of A's numbers with other counts");
@@ -582,12 +688,14 @@ fn main() {
         eight_bands(),
         eight_boxes(),
         four_variables(),
+        two_boxes(),
+        three_boxes(),
     ] {
         println!("{} file bytes={}", file.text, hex(&file.bytes));
     }
     println!("\n# reading a sheet");
     print_reads();
-    println!("\n# writing sheet A's numbers");
+    println!("\n# writing a sheet's numbers");
     print_writes();
     println!("\n# a reach");
     print_reaches();

@@ -204,7 +204,16 @@ fn file_cases() -> Vec<Case> {
     cases
 }
 
-/// A refused sheet for each number up to 11, and first refusals among several.
+/// The longest sheet with its last two no-go boxes the other way round.
+fn out_of_order() -> Vec<u8> {
+    const RECORD: usize = 34;
+    let mut sheet = bytes(&longest());
+    let from = sheet.len() - 3 * RECORD;
+    sheet[from..from + 2 * RECORD].rotate_left(RECORD);
+    sheet
+}
+
+/// A refused sheet for each number up to 11 and for 20, and first refusals among several.
 fn refused_sheets() -> Vec<Case> {
     let a = bytes(&sheet_a());
     let refused = [
@@ -225,6 +234,7 @@ fn refused_sheets() -> Vec<Case> {
         (10, "divisor", patched(48, &[0, 0])),
         (11, "no_go_box", patched(56, &[0; 4])),
         (11, "recovery_box", patched(62, &[1, 0])),
+        (20, "no_go_boxes", out_of_order()),
     ];
     refused
         .into_iter()

@@ -2,6 +2,8 @@
 //! `print_proofs reach` those of the reach, `print_proofs decision` the decisions, recovery checks and listings. The
 //! definitions compute each of them; a test holds the printed files to those in the repository.
 
+use second_guard::boxes::VARIABLES;
+use second_guard::sheet::UNSAFE_AT;
 use std::collections::HashMap;
 
 /// One line of `examples.txt` or `limits.txt`.
@@ -164,13 +166,26 @@ impl<'a> Bases<'a> {
         })
     }
 
+    /// A slot as the definitions name it: a lower side of a no-go box by the box's number.
+    fn slot(slot: &str) -> String {
+        let place: usize = slot.parse().expect("a slot");
+        let Some(side) = place.checked_sub(UNSAFE_AT) else {
+            return slot.into();
+        };
+        match (side / (2 * VARIABLES), side % (2 * VARIABLES)) {
+            (j, 0) => format!("(unsafeSlot {j})"),
+            (j, i) if i < VARIABLES => format!("(unsafeSlot {j} + {i})"),
+            _ => panic!("an upper side has no name yet"),
+        }
+    }
+
     /// A sheet's numbers: those of a file, with others in some slots.
     fn numbers(&self, text: &str) -> String {
         let (base, changes) = parts(text);
         changes.into_iter().fold(format!("(values {})", self.term(base)), |numbers, (_, change)| {
             let (slot, number) = placed(change);
             let number = integer(number.parse().expect("a number"));
-            format!("(sets {numbers} {slot} ({number} ∷ []))")
+            format!("(sets {numbers} {} ({number} ∷ []))", Self::slot(slot))
         })
     }
 
@@ -257,10 +272,11 @@ fn listing_text(example: &Example) -> String {
 const SHEET: &str = "\
 use mathlib.Core.Path.{_≡_, refl}
 use mathlib.Core.List.{List, [], _∷_, _++_}
-use Prim.Native.Nat.{ℕ}
+use Prim.Native.Nat.{ℕ, _+_}
 use lib.IntN.{pos}
 use lib.ListN.{take, replicate}
 use lib.Seq.{sets}
+use Rattle.sheet_spec.specs.Slots.{unsafeSlot}
 use Rattle.sheet_spec.specs.Sheet.{refusal, values, writeRefusal}
 use Rattle.sheet_spec.specs.SheetA.{fileA}
 use Rattle.sheet_spec.proofs.Everything.{everything}

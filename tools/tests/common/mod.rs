@@ -70,6 +70,23 @@ impl Drop for Folder {
     }
 }
 
+/// A text whose lines of no-go boxes share their places in another order; the other lines stay.
+pub fn shuffled(text: &str, numbers: &mut Numbers) -> String {
+    let is_box = |line: &&str| line.starts_with("no-go");
+    let mut boxes: Vec<&str> = text.lines().filter(is_box).collect();
+    for last in (1..boxes.len()).rev() {
+        boxes.swap(last, numbers.whole(0, last as i64) as usize);
+    }
+    let mut boxes = boxes.into_iter();
+    text.lines()
+        .map(|line| match is_box(&line) {
+            true => boxes.next().expect("as many lines"),
+            false => line,
+        })
+        .map(|line| format!("{line}\n"))
+        .collect()
+}
+
 /// Numbers that look random and are the same each time.
 pub struct Numbers(pub u64);
 

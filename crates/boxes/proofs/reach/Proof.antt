@@ -2,8 +2,8 @@
 use mathlib.Core.Path.{sym, ap, _∙_, subst}
 use mathlib.Core.List.{List}
 use lib.IntN.{ℤ}
-use Rattle.sheet_spec.specs.Valid.{Valid}
-use Rattle.sheet_spec.proofs.Valid.{valid, zeros-are}
+use Rattle.sheet_spec.specs.Valid.{ValidNumbers}
+use Rattle.sheet_spec.proofs.Valid.{valid-numbers, zeros-are}
 use Rattle.sheet_spec.proofs.FirstRefusal.{found-stops, found-none}
 use Rattle.boxes_spec.specs.Reach.{refused, reachOf, reachFile}
 use Rattle.boxes.proofs.reach.Statement.{statement}
@@ -18,7 +18,7 @@ returns c =
 reach-of-requires : tie.Need-reach-of-requires
 reach-of-requires c κs =
     let r = c .before .before in
-    subst Valid (sym (r .read-zeroed .ensures .1)) (valid _ (sym (r .read-zeroed .ensures .0) ∙ c .before .if1 .left))
+    subst ValidNumbers (sym (r .read-zeroed .ensures .1)) (valid-numbers _ (sym (r .read-zeroed .ensures .0) ∙ c .before .if1 .left))
 
 returns-2 : tie.Need-returns-2
 unfolding reachFile

@@ -3,8 +3,8 @@ use mathlib.Core.Path.{_≡_, sym, ap, _∙_, subst}
 use mathlib.Core.List.{List}
 use lib.IntN.{ℤ}
 use Rattle.sheet_spec.specs.Slots.{vars, recoveryBox}
-use Rattle.sheet_spec.specs.Valid.{Valid}
-use Rattle.sheet_spec.proofs.Valid.{valid, zeros-are}
+use Rattle.sheet_spec.specs.Valid.{ValidNumbers}
+use Rattle.sheet_spec.proofs.Valid.{valid-numbers, zeros-are}
 use Rattle.sheet_spec.proofs.FirstRefusal.{found-stops, found-none}
 use Rattle.machine_spec.specs.Box.{trim}
 use Rattle.decision_spec.specs.Decision.{refused, recoveryOf, checkRecovery}
@@ -25,7 +25,7 @@ check-on-requires c κs =
     let accepted = c .before in
     let read = accepted .before .read-zeroed .ensures in
     let passed = sym (read .0) ∙ accepted .if1 .left in
-    subst (λ (v : List ℤ). Valid v × (trim (vars v) (recoveryBox v) ≡ recoveryBox v)) (sym (read .1)) (valid _ passed, recovery-trimmed _ passed)
+    subst (λ (v : List ℤ). ValidNumbers v × (trim (vars v) (recoveryBox v) ≡ recoveryBox v)) (sym (read .1)) (valid-numbers _ passed, recovery-trimmed _ passed)
 
 -- the sheet is accepted
 returns-2 : tie.Need-returns-2

@@ -2,8 +2,8 @@
 use mathlib.Core.Path.{sym, ap, _∙_, subst}
 use mathlib.Core.List.{List}
 use lib.IntN.{ℤ}
-use Rattle.sheet_spec.specs.Valid.{Valid}
-use Rattle.sheet_spec.proofs.Valid.{valid, zeros-are}
+use Rattle.sheet_spec.specs.Valid.{ValidNumbers}
+use Rattle.sheet_spec.proofs.Valid.{valid-numbers, zeros-are}
 use Rattle.sheet_spec.proofs.FirstRefusal.{found-stops, found-none}
 use Rattle.decision_spec.specs.Decision.{refused, decide, decisionOn}
 use Rattle.decision_answers.specs.Decision.{replyOf}
@@ -22,7 +22,7 @@ decide-on-requires : tie.Need-decide-on-requires
 decide-on-requires c κs =
     let accepted = c .before in
     let read = accepted .before .read-zeroed .ensures in
-    subst Valid (sym (read .1)) (valid _ (sym (read .0) ∙ accepted .if1 .left))
+    subst ValidNumbers (sym (read .1)) (valid-numbers _ (sym (read .0) ∙ accepted .if1 .left))
 
 -- the sheet is accepted
 returns-2 : tie.Need-returns-2

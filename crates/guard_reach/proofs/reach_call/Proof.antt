@@ -8,9 +8,9 @@ use mir.Facts.{toZ-ofZ}
 use borrow.Author.Needs.{needs}
 use Rattle.sheet_spec.specs.Slots.{vars, varsSlot}
 use Rattle.sheet_spec.specs.Sheet.{values}
-use Rattle.sheet_spec.specs.Valid.{Valid}
+use Rattle.sheet_spec.specs.Valid.{ValidNumbers}
 use Rattle.sheet_spec.proofs.FirstRefusal.{found-stops, first-fails}
-use Rattle.sheet_spec.proofs.Valid.{valid, zeros-are}
+use Rattle.sheet_spec.proofs.Valid.{valid-numbers, zeros-are}
 use Rattle.machine_spec.specs.Box.{Near}
 use Rattle.machine_spec.specs.declared.Law.{Law}
 use Rattle.boxes_spec.specs.Reach.{maxReached, Answer, reachOf}
@@ -33,8 +33,8 @@ module _ (c : tie.After-read-zeroed) where
 
 -- of an accepted sheet
 module _ (c : tie.Else1) where
-  accepted : Valid (v (c .before))
-  accepted = let r = c .before .read-zeroed .ensures in subst Valid (sym (r .1)) (valid _ (sym (r .0) ∙ c .if1 .left))
+  accepted : ValidNumbers (v (c .before))
+  accepted = let r = c .before .read-zeroed .ensures in subst ValidNumbers (sym (r .1)) (valid-numbers _ (sym (r .0) ∙ c .if1 .left))
 
 -- after the reach
 module _ (c : tie.After-reach-of) where

@@ -217,16 +217,33 @@ const SHAPES: [(usize, usize); 9] = [
     (4, 8),
 ];
 
-/// The sheets that are read: variables, bands and no-go boxes.
-const SIZES: [(&str, (usize, usize, usize)); 3] = [
-    ("small", (1, 1, 1)),
-    ("middle", (2, 4, 4)),
-    ("largest", (VARIABLES, BANDS, UNSAFE_BOXES)),
+/// A sheet that is read, and its name.
+type Size = (&'static str, fn() -> Sheet);
+
+const SIZES: [Size; 4] = [
+    ("small", || model(1, 1, 1).0),
+    ("middle", || model(2, 4, 4).0),
+    ("largest", largest),
+    ("largest by last sides", largest_by_last_sides),
 ];
 
+fn largest() -> Sheet {
+    model(VARIABLES, BANDS, UNSAFE_BOXES).0
+}
+
+/// The same with no-go boxes that differ in their last side alone, so that all sides are compared.
+fn largest_by_last_sides() -> Sheet {
+    let mut sheet = largest();
+    let first = sheet.unsafe_boxes[0];
+    for (last, unsafe_box) in (1_999_990..).zip(&mut sheet.unsafe_boxes) {
+        *unsafe_box = first;
+        unsafe_box.upper[VARIABLES - 1] = last;
+    }
+    sheet
+}
+
 fn sheet_of_size(size: usize) -> Vec<u8> {
-    let (n, bands, unsafe_boxes) = SIZES[size].1;
-    sheet_bytes(&model(n, bands, unsafe_boxes).0)
+    sheet_bytes(&SIZES[size].1())
 }
 
 /// A sheet and a question that takes over 1,000 rounds.

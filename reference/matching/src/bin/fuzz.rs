@@ -7,7 +7,7 @@ use matching::expected;
 use matching::fences::{array, array_mut, watch_fences, Fenced, Side};
 use matching::generate::{model, near, question_bytes, shape, sheet_bytes, times, widths, Case};
 use matching::random::Random;
-use matching::spoil::damage;
+use matching::spoil::{damage, refusal_place, REFUSALS};
 use matching::tally::{hex, KindId, Tally};
 
 const CALLS: usize = 1_000_000;
@@ -63,9 +63,9 @@ impl Kinds {
             calls,
             accepted,
             refused,
-            refusals: (1..=17)
+            refusals: REFUSALS
                 .map(|number| tally.kind(format!("refused by {number}"), 500))
-                .collect(),
+                .to_vec(),
             inputs_kept: tally.kind("inputs as they were", 1_000_000),
             outputs: tally.kind("outputs alike", 100_000),
             outputs_on_refusal: tally.kind("no write on refusal", 50_000),
@@ -314,7 +314,7 @@ impl Fuzz {
         self.tally.check(self.kinds.calls[call], right, describe);
         if let Some(number) = wanted.refusal() {
             self.tally.saw(self.kinds.refused[call]);
-            let kind = self.kinds.refusals[usize::from(number) - 1];
+            let kind = self.kinds.refusals[refusal_place(number)];
             self.tally.check(kind, right, describe);
         } else {
             self.tally.saw(self.kinds.accepted[call]);

@@ -1,22 +1,28 @@
-//! The archive against the plain guard, which was written from document 01 and paper 3 of document
-//! 02 alone: a check of the readings, on sheets and questions from fixed seeds.
+//! The archive against the plain guard, which was written from document 01 and papers 2 and 3 of
+//! document 02 alone: a check of the readings, on sheets and questions from fixed seeds.
 
 use matching::aim::aimed;
 use matching::archive::format::reach_length;
 use matching::archive::{self, Answer, ReachCall};
 use matching::expected::{decide_before, pairs};
 use matching::generate::{
-    model, near, pick_command, question_bytes, shape, sheet_bytes, times, Case,
+    everyday, model, near, pick_command, question_bytes, shape, sheet_bytes, times, Case,
 };
+use matching::order::{any_not_greater, bytes_in_any_order, difference, shuffled, DIFFERENCES};
 use matching::random::Random;
-use matching::spoil::{damage, question_fault, sheet_fault};
+use matching::spoil::{can_have, damage, question_fault, sheet_fault};
 use matching::tally::{hex, KindId, Tally};
+use plain_guard::decision::{decide_values, recovery_values};
 use second_guard::boxes::StateBox;
+use second_guard::sheet::Sheet;
 
 const SHEETS: usize = 20_000;
 const AIMED_SHEETS: usize = 10_000;
+const SHEETS_OF_BOXES: usize = 5_000;
 const TICKS: i64 = 200;
 const REFUSED: u64 = 3 << 48;
+/// The numbers by which a decision is refused.
+const REFUSED_BY: [u8; 16] = [1, 2, 3, 4, 5, 6, 7, 8, 9, 10, 11, 12, 13, 14, 15, 20];
 
 /// The kinds of calls, and of answers to a question.
 struct Kinds {
@@ -26,20 +32,21 @@ struct Kinds {
     finest: KindId,
     spent: KindId,
     other_before: KindId,
-    refused: Vec<KindId>,
+    refused: [KindId; REFUSED_BY.len()],
     write: KindId,
     reach: KindId,
     damaged: KindId,
     listing: KindId,
     aimed: KindId,
+    out_of_order: [KindId; DIFFERENCES.len()],
+    written_out_of_order: KindId,
+    other_order: KindId,
+    other_check: KindId,
 }
 
 impl Kinds {
     fn new(tally: &mut Tally) -> Kinds {
-        let mut refused = Vec::new();
-        for number in 1..=15 {
-            refused.push(tally.kind(format!("refused {number}"), 100));
-        }
+        let refused = REFUSED_BY.map(|number| tally.kind(format!("refused {number}"), 100));
         Kinds {
             recovery: tally.kind("recovery checks", SHEETS as u64),
             decide: tally.kind("decisions", 5 * SHEETS as u64),
@@ -53,6 +60,13 @@ impl Kinds {
             damaged: tally.kind("damaged bytes", SHEETS as u64),
             listing: tally.kind("listings of a sheet that passed", 1_000),
             aimed: tally.kind("sheets with changes at their caps or around zero", 10_000),
+            out_of_order: DIFFERENCES.map(|of| {
+                let name = format!("read, refused by 20: {}", of.text());
+                tally.kind(name, 300)
+            }),
+            written_out_of_order: tally.kind("write refused by 20", SHEETS_OF_BOXES as u64),
+            other_order: tally.kind("another order: decisions", 2 * SHEETS_OF_BOXES as u64),
+            other_check: tally.kind("another order: recovery checks", SHEETS_OF_BOXES as u64),
         }
     }
 
@@ -62,7 +76,11 @@ impl Kinds {
             0 => self.keep,
             1 => self.finest,
             2 => self.spent,
-            _ => self.refused[answer.width() as usize - 1],
+            _ => {
+                let by = |number: &u8| u32::from(*number) == answer.width();
+                let place = REFUSED_BY.iter().position(by);
+                self.refused[place.expect("a refusal of a decision")]
+            }
         }
     }
 }
@@ -135,12 +153,14 @@ fn faults(
     sheet: &[u8],
     question: &[u8],
 ) {
-    let number = random.range(1, 15) as u8;
+    let mut numbers = REFUSED_BY.to_vec();
+    numbers.retain(|&number| can_have(&case.sheet, number));
+    let number = random.pick(&numbers);
     let (mut sheet, mut question) = (sheet.to_vec(), question.to_vec());
-    if number <= 11 {
-        sheet_fault(random, &case.sheet, number, false).apply(&mut sheet);
-    } else {
+    if matches!(number, 12..=15) {
         question_fault(random, &case.sheet, number).apply(&mut question);
+    } else {
+        sheet_fault(random, &case.sheet, number, false).apply(&mut sheet);
     }
     decide(tally, kinds, &sheet, &question);
 }
@@ -158,6 +178,66 @@ fn aimed_sheets(tally: &mut Tally, kinds: &Kinds) {
         reach(tally, kinds, random, &case, &sheet);
         let same = archive::recovery(&sheet) == Answer(plain_guard::recovery(&sheet));
         tally.check(kinds.aimed, same, || hex(&sheet));
+    }
+}
+
+/// The plain guard's value of a sheet whose unsafe boxes stand in any order.
+fn plain_value(ordered: &Sheet, other: &Sheet) -> plain_guard::Sheet {
+    let mut value = plain_guard::read(&sheet_bytes(ordered)).expect("an accepted sheet");
+    for (no_go, sides) in value.no_go_box.iter_mut().zip(other.unsafe_boxes()) {
+        for (i, pair) in no_go[..other.n()].iter_mut().enumerate() {
+            *pair = (sides.lower[i] as i32, sides.upper[i] as i32);
+        }
+    }
+    value
+}
+
+/// A box that is not greater than the one before, by reading and by writing.
+fn out_of_order(tally: &mut Tally, kinds: &Kinds, random: &mut Random, sheet: &Sheet) {
+    let (j, sides) = any_not_greater(random, sheet);
+    let mut other = *sheet;
+    other.unsafe_boxes[j] = sides;
+    let of = difference(&other.unsafe_boxes[j - 1], &sides, sheet.n());
+    let place = DIFFERENCES.iter().position(|&difference| difference == of);
+    let bytes = bytes_in_any_order(&other);
+    let refused = Answer(REFUSED | 20 << 32);
+    let plain = Answer(plain_guard::recovery(&bytes));
+    let right = archive::recovery(&bytes) == refused && plain == refused;
+    tally.check(kinds.out_of_order[place.expect("a kind")], right, || {
+        hex(&bytes)
+    });
+    let room = &mut vec![0; bytes.len()];
+    let written = archive::sheet_write(&other.numbers(), room, 0);
+    let plain = plain_guard::write(&plain_value(sheet, &other));
+    let right = written == refused && plain == Err(20);
+    tally.check(kinds.written_out_of_order, right, || hex(&bytes));
+}
+
+/// The same boxes in another order, of which the plain guard is asked without any test.
+fn other_order(tally: &mut Tally, kinds: &Kinds, random: &mut Random, case: &Case) {
+    let (sheet, bytes) = (&case.sheet, sheet_bytes(&case.sheet));
+    let value = plain_value(sheet, &shuffled(random, sheet));
+    let same = archive::recovery(&bytes) == Answer(recovery_values(&value));
+    tally.check(kinds.other_check, same, || hex(&bytes));
+    for measured in [case.measured, near(random, case)] {
+        let question = question_bytes(5_000, case.command, &measured, sheet.n());
+        let asked = plain_guard::sheet::read_question(&value, &question).expect("a question");
+        let plain = Answer(decide_values(&value, &asked));
+        tally.saw(kinds.of(plain));
+        let same = archive::decide(&bytes, &question) == plain;
+        tally.check(kinds.other_order, same, || hex(&bytes));
+    }
+}
+
+/// Sheets of two unsafe boxes or more: one that is out of order, and all in another order.
+fn sheets_of_boxes(tally: &mut Tally, kinds: &Kinds) {
+    let random = &mut Random::new(2);
+    let cases = std::iter::repeat_with(|| everyday(random).case);
+    let several = cases.filter(|case| case.sheet.unsafe_count > 1);
+    let cases: Vec<Case> = several.take(SHEETS_OF_BOXES).collect();
+    for case in cases {
+        out_of_order(tally, kinds, random, &case.sheet);
+        other_order(tally, kinds, random, &case);
     }
 }
 
@@ -212,5 +292,6 @@ fn main() {
         }
     }
     aimed_sheets(&mut tally, &kinds);
+    sheets_of_boxes(&mut tally, &kinds);
     std::process::exit(tally.finish());
 }

@@ -11,12 +11,12 @@ use mir.Syntax.{w32, w64}
 use mir.Val.{Fits, toZ, ofZ}
 use borrow.Author.Needs.{needs}
 use Rattle.sheet_spec.specs.Slots.{_!_, varsSlot, bandsSlot, bandVarSlot, leastSlot}
-use Rattle.sheet_spec.specs.Valid.{Valid}
+use Rattle.sheet_spec.specs.Valid.{ValidNumbers}
 use Rattle.boxes.proofs.steps.plant.Statement.{statement}
 use Rattle.boxes.proofs.steps.plant.Tie as tie
 
 -- a number of the head, before its commands, as a count
-counts : {v : List ℤ} → Valid v → (i : ℕ) → i < leastSlot → T (nonNeg (toZ w32 (ofZ w32 (v ! i)))) × Fits w64 (natAbs (toZ w32 (ofZ w32 (v ! i))))
+counts : {v : List ℤ} → ValidNumbers v → (i : ℕ) → i < leastSlot → T (nonNeg (toZ w32 (ofZ w32 (v ! i)))) × Fits w64 (natAbs (toZ w32 (ofZ w32 (v ! i))))
 counts wf i h = let f = wf .fits i in rw (toZ-ofZ f) (yes-nonNeg (wf .head i h), fits-natAbs tt f)
 
 -- the plant's numbers are the sheet's

@@ -2,6 +2,8 @@
 //! bytes written, recovery checks, decisions and reach boxes. It fails where an answer differs
 //! or a kind of case is too rare.
 
+mod order;
+
 use matching::aim::{aimed, PLACES};
 use matching::archive::format::{
     reach_length, slot_band, slot_unsafe, LONGEST_SHEET, NUMBERS, SLOT_BAND, SLOT_CAPS,
@@ -15,7 +17,10 @@ use matching::generate::{
     sheet_bytes, slow_growth, times, widths, worst_case, Case, Everyday, Shape, BOUNDS,
 };
 use matching::random::Random;
-use matching::spoil::{damage, damage_number, number_fault, question_fault, sheet_fault, Fault};
+use matching::spoil::{
+    can_have, damage, damage_number, number_fault, question_fault, refusal_place, sheet_fault,
+    Fault, REFUSALS,
+};
 use matching::tally::{hex, KindId, Tally};
 use second_guard::boxes::StateBox;
 use second_guard::changes::Change;
@@ -151,6 +156,7 @@ struct Kinds {
     damaged_numbers: KindId,
     cut_bytes: KindId,
     refusals: Vec<KindId>,
+    order: order::Kinds,
     pairs: HashMap<(&'static str, u8, u8), KindId>,
 }
 
@@ -204,9 +210,10 @@ impl Kinds {
             damaged_questions: tally.kind("damaged bytes of questions", 200),
             damaged_numbers: tally.kind("damaged numbers", 200),
             cut_bytes: tally.kind("cut bytes", 200),
-            refusals: (1..=17)
+            refusals: REFUSALS
                 .map(|number| tally.kind(format!("refused by {number}"), 200))
-                .collect(),
+                .to_vec(),
+            order: order::Kinds::new(tally),
             pairs: HashMap::new(),
         }
     }
@@ -287,7 +294,7 @@ impl Matching {
     ) {
         let refused = wanted
             .refusal()
-            .map(|number| self.kinds.refusals[usize::from(number) - 1]);
+            .map(|number| self.kinds.refusals[refusal_place(number)]);
         for kind in kinds.iter().copied().chain(refused) {
             self.tally.saw(kind);
             if !right {
@@ -687,6 +694,16 @@ impl Matching {
         (one.rank < other.rank && one.apart(&other)).then_some((one, other))
     }
 
+    /// One of the cases, into which faults of these numbers can be put.
+    fn any_case(&mut self, cases: &[Case], numbers: &[u8]) -> Case {
+        loop {
+            let case = cases[self.random.below(cases.len())];
+            if numbers.iter().all(|&number| can_have(&case.sheet, number)) {
+                return case;
+            }
+        }
+    }
+
     /// All pairs of faults that can stand together.
     fn faults(&mut self) {
         let mut cases = Vec::new();
@@ -703,10 +720,13 @@ impl Matching {
         // Two faults in one sheet: by number up to 6, then in the file's order.
         let in_file = [(8, 7), (9, 7), (9, 8), (10, 7), (10, 8), (10, 9), (11, 7)];
         let twice = (6..=11).map(|number| (number, number));
+        let order = [(20, 7), (20, 11), (20, 20)];
         let pairs: Vec<(u8, u8)> = (1..=11)
             .flat_map(|first| (first + 1..=11).map(move |second| (first, second)))
             .chain(in_file)
             .chain(twice)
+            .chain((1..=11).map(|first| (first, 20)))
+            .chain(order)
             .collect();
         for (first, second) in pairs {
             let kind = self.pair("sheet", first, second);
@@ -714,7 +734,7 @@ impl Matching {
                 if self.tally.seen(kind) >= PAIRS {
                     break;
                 }
-                let case = cases[self.random.below(cases.len())];
+                let case = self.any_case(&cases, &[first, second]);
                 let layout_kept = second > 4;
                 let draw = |random: &mut Random, number: u8| {
                     sheet_fault(random, &case.sheet, number, layout_kept)
@@ -743,25 +763,27 @@ impl Matching {
         }
 
         // Faults of a sheet and of the call on it.
-        for first in 1..=11 {
+        for first in (1..=11).chain([20]) {
             for second in [12, 13, 14, 15] {
                 let kind = self.pair("sheet and question", first, second);
                 for _ in 0..PAIRS {
-                    let case = cases[self.random.below(cases.len())];
+                    let case = self.any_case(&cases, &[first]);
                     let mut bytes = sheet_bytes(&case.sheet);
                     sheet_fault(&mut self.random, &case.sheet, first, true).apply(&mut bytes);
                     let mut question = plain_question(&case);
                     question_fault(&mut self.random, &case.sheet, second).apply(&mut question);
-                    self.call_decide(&[kind], &bytes, &question);
+                    let answer = self.call_decide(&[kind], &bytes, &question);
+                    assert_eq!(answer.refusal(), Some(first));
                 }
             }
             for second in [14, 15, 16, 17] {
                 let kind = self.pair("sheet and reach", first, second);
                 for _ in 0..PAIRS {
-                    let case = cases[self.random.below(cases.len())];
+                    let case = self.any_case(&cases, &[first]);
                     let mut bytes = sheet_bytes(&case.sheet);
                     sheet_fault(&mut self.random, &case.sheet, first, true).apply(&mut bytes);
-                    self.faulty_reach(&[kind], &case, &bytes, &[second]);
+                    let answer = self.faulty_reach(&[kind], &case, &bytes, &[second]);
+                    assert_eq!(answer.refusal(), Some(first));
                 }
             }
         }
@@ -807,8 +829,8 @@ impl Matching {
     }
 
     fn writer_faults(&mut self, cases: &[Case]) {
-        let numbers = [2, 3, 4, 6, 8, 9, 10, 11];
-        let mut pairs: Vec<(u8, u8)> = vec![(9, 8), (10, 8), (10, 9)];
+        let numbers = [2, 3, 4, 6, 8, 9, 10, 11, 20];
+        let mut pairs: Vec<(u8, u8)> = vec![(9, 8), (10, 8), (10, 9), (20, 11)];
         for (place, &first) in numbers.iter().enumerate() {
             for &second in &numbers[place..] {
                 if first != second || first >= 6 {
@@ -822,7 +844,7 @@ impl Matching {
                 if self.tally.seen(kind) >= PAIRS {
                     break;
                 }
-                let case = cases[self.random.below(cases.len())];
+                let case = self.any_case(cases, &[first, second]);
                 let draw = |random: &mut Random, number: u8| {
                     number_fault(random, &case.sheet, number, second > 4)
                 };
@@ -842,7 +864,7 @@ impl Matching {
                 .into_iter()
                 .collect();
             for _ in 0..PAIRS {
-                let case = cases[self.random.below(cases.len())];
+                let case = self.any_case(cases, &[first]);
                 let mut numbers = case.sheet.numbers();
                 if first != 17 {
                     number_fault(&mut self.random, &case.sheet, first, true).put(&mut numbers);
@@ -1035,7 +1057,7 @@ type Part = (&'static str, fn(&mut Matching));
 
 fn main() {
     let mut matching = Matching::new();
-    let parts: [Part; 9] = [
+    let parts: [Part; 11] = [
         ("numbers", Matching::sizes),
         ("values at their bounds", Matching::bounds),
         ("pairs of faults", Matching::faults),
@@ -1045,6 +1067,8 @@ fn main() {
         ("many rounds", Matching::worst),
         ("long times", Matching::long),
         ("changes at their caps", Matching::aimed),
+        ("unsafe boxes in order and out of it", Matching::order),
+        ("the same boxes in another order", Matching::other_orders),
     ];
     for (name, part) in parts {
         let start = Instant::now();
