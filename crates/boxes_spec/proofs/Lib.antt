@@ -9,3 +9,4 @@ pub mod Count
 pub mod Cut
 pub mod Order
 pub mod Ranges
+pub mod Alike

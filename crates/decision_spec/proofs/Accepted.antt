@@ -1,11 +1,12 @@
--- What is accepted at its bound, and not past it: an allowance, and the last end box of an attempt; which of several faults counts; and that a
--- short tail has a line. Assumes nothing.
+-- What is accepted at its bound, and not past it: an allowance, the last end box of an attempt, and a swept box beside a no-go box, in either
+-- order of two; which of several faults counts; and that a short tail has a line. Assumes nothing.
 use mathlib.Core.Path.{_≡_, refl}
 use mathlib.Core.Bool.{Bool, true, false}
 use mathlib.Core.List.{List, [], _∷_, _++_}
-use Prim.Native.Nat.{ℕ}
+use Prim.Native.Nat.{ℕ, _+_}
 use lib.IntN.{ℤ, pos}
 use lib.Seq.{sets}
+use Rattle.sheet_spec.specs.Slots.{N, boxesSlot, unsafeSlot}
 use Rattle.sheet_spec.specs.Sheet.{values}
 use Rattle.sheet_spec.specs.SheetA.{fileA}
 use Rattle.sheet_spec.specs.Refusals.{Cause, number}
@@ -50,6 +51,19 @@ attempted v = succeeds (attempt true 100 v 4 (decisionPhases v (Command (pos 25)
 pub recovered : (attempted (sheet 12 20) ≡ true) × (attempted (sheet 13 20) ≡ false) × (attempted (sheet 12 19) ≡ false)
 unfolding everything
 recovered = (refl, refl, refl)
+
+-- sheet A's value with two no-go boxes, from a on and from b on, in this order. The same attempt sweeps to 20: both orders fail where one of the
+-- boxes holds 20, and both succeed where none does
+abbrev twoBoxes : ℕ → ℕ → List ℤ
+twoBoxes a b =
+    sets (sets (sets (sets (sets (values fileA)
+    boxesSlot (pos 2 ∷ []))
+    (unsafeSlot 0) (pos a ∷ [])) (unsafeSlot 0 + N) (pos 2000000 ∷ []))
+    (unsafeSlot 1) (pos b ∷ [])) (unsafeSlot 1 + N) (pos 2000000 ∷ [])
+
+pub either-order : (attempted (twoBoxes 130 20) ≡ false) × (attempted (twoBoxes 20 130) ≡ false) × (attempted (twoBoxes 130 21) ≡ true) × (attempted (twoBoxes 21 130) ≡ true)
+unfolding everything
+either-order = (refl, refl, refl, refl)
 
 -- a question on sheet A, and two bytes after it: two lines
 abbrev tail : List ℕ

@@ -1,0 +1,69 @@
+-- Sheets with the same no-go boxes in another order have the same machine: nothing that a rate reads is a side of a no-go box. Assumes nothing.
+use mathlib.Core.Path.{_≡_, sym, ap, _∙_, subst}
+use mathlib.Core.Bool.{Bool, true, false}
+use mathlib.Core.List.{List}
+use Prim.Native.Nat.{ℕ, _<_}
+use native.Mathlib.Omega.{arith}
+use lib.IntN.{ℤ, natAbs}
+use Rattle.sheet_spec.specs.Limits.{maxRecoverySide}
+use Rattle.sheet_spec.specs.Slots.{_!_, varsSlot, bandsSlot, bandVarSlot, edgeInBand, leastInBand, greatestInBand, bInRest, cInRest, dInRest, qInRest, restSize, recoverySlot, vars, bands, edge, row, recoveryBox}
+use Rattle.sheet_spec.specs.Layout.{_▸_, headFields, rowRest, rowFields, bandFields, sideFields}
+use Rattle.sheet_spec.specs.Valid.{ValidNumbers}
+use Rattle.sheet_spec.specs.Reordered.{Reordered}
+use Rattle.sheet_spec.proofs.Box.{box-lo, box-hi, box-length}
+use Rattle.sheet_spec.proofs.Streams.{each-low, each-high}
+use Rattle.sheet_spec.proofs.Records.{each-cap, each-row, each-side}
+use Rattle.sheet_spec.proofs.Places.{edge-slot}
+use Rattle.sheet_spec.proofs.Reordered.{same-head, same-number, same-band, same-recovery}
+use Rattle.machine_spec.specs.Box.{side}
+use Rattle.machine_spec.specs.Machine.{safetyEnd}
+use Rattle.machine_spec.proofs.Alike.{AlikeBoxes, AlikeRows, AlikeSheets}
+use Rattle.machine_spec.proofs.Facts.{room}
+
+module _ {σ : ℕ → ℕ} {v w : List ℤ} (o : Reordered σ v w) where
+  rows-alike : (k i : ℕ) → k < bands v → i < vars v → AlikeRows (vars v) (row v k i) (row w k i)
+  unfolding rowFields rowRest _▸_
+  rows-alike k i h g =
+      let e = each-row (vars v) k (same-band o k h) i g in
+      let a = each-low (vars v) restSize _ _ e in
+      let b = each-high (vars v) restSize _ _ e in
+      record { a = a .at; b = b .at bInRest (omega arith); c = b .at cInRest (omega arith); d = b .at dInRest (omega arith); q = b .at qInRest (omega arith) }
+
+  edges-alike : (k : ℕ) → k < bands v → edge v k ≡ edge w k
+  unfolding bandFields _▸_
+  edges-alike k h = subst (λ (i : ℕ). v ! i ≡ w ! i) (edge-slot k) (same-band o k h .at edgeInBand (omega arith))
+
+  safety-alike : (up : Bool) (k : ℕ) → k < bands v → safetyEnd up v k ≡ safetyEnd up w k
+  unfolding bandFields _▸_
+  safety-alike false k h = same-band o k h .at leastInBand (omega arith)
+  safety-alike true k h = same-band o k h .at greatestInBand (omega arith)
+
+  pub same-machine : ValidNumbers v → AlikeSheets v w
+  unfolding headFields _▸_
+  same-machine wf = record {
+    room = room wf;
+    var = wf .var;
+    vars-same = ap natAbs (same-number o varsSlot (omega arith));
+    bands-same = ap natAbs (same-number o bandsSlot (omega arith));
+    var-same = ap natAbs (same-number o bandVarSlot (omega arith));
+    caps = each-cap (vars v) (same-head o) .at;
+    edges = edges-alike;
+    safety = safety-alike;
+    rows = rows-alike;
+  }
+
+  -- and the same recovery box
+  recovery-sides : ValidNumbers v → (up : Bool) (i : ℕ) → i < vars v → side up (recoveryBox v) i ≡ side up (recoveryBox w) i
+  unfolding sideFields _▸_
+  recovery-sides wf false i h =
+      box-lo v recoverySlot i (omega (arith, room wf)) ∙ each-side (vars v) maxRecoverySide recoverySlot (same-recovery o) i h .at 0 (omega arith)
+      ∙ sym (box-lo w recoverySlot i (omega (arith, room wf)))
+  recovery-sides wf true i h =
+      box-hi v recoverySlot i (omega (arith, room wf)) ∙ each-side (vars v) maxRecoverySide recoverySlot (same-recovery o) i h .at 1 (omega arith)
+      ∙ sym (box-hi w recoverySlot i (omega (arith, room wf)))
+
+  pub same-recovery-box : ValidNumbers v → ValidNumbers w → AlikeBoxes (vars v) (recoveryBox v) (recoveryBox w)
+  same-recovery-box wf wf′ = record {
+    size = box-length v recoverySlot (omega (arith, wf .size)) ∙ sym (box-length w recoverySlot (omega (arith, wf′ .size)));
+    at = recovery-sides wf;
+  }

@@ -1,0 +1,126 @@
+-- Of sheets with the same no-go boxes at most one is valid (specs/Reordered, `OneOrder`): a permutation between two ascending lists keeps their
+-- order, and so moves nothing. Assumes nothing.
+use mathlib.Core.Path.{_≡_, refl, sym, ap, ap₂, _∙_, subst}
+use mathlib.Core.Bool.{true}
+use mathlib.Core.List.{List, _∷_, _++_}
+use mathlib.Core.Logic.{⊎-elim}
+use Prim.Native.Nat.{ℕ, zero, suc, _+_, _-_, _≤_, _<_}
+use native.Mathlib.Nat.{eq-or-lt-of-le}
+use native.Mathlib.Omega.{arith}
+use lib.IntN.{ℤ}
+use Rattle.sheet_spec.specs.Slots.{N, unsafeSlot, pairSize, vars, boxes, unsafeBox}
+use Rattle.sheet_spec.specs.Box.{SameSides}
+use Rattle.sheet_spec.specs.Order.{precedes, ascendsAt}
+use Rattle.sheet_spec.specs.Valid.{Ascending, Valid}
+use Rattle.sheet_spec.specs.Limits.{maxUnsafeSide}
+use Rattle.sheet_spec.specs.Fields.{Field, encoded, coded}
+use Rattle.sheet_spec.specs.declared.Shape.{Shape}
+use Rattle.sheet_spec.specs.Layout.{_▸_, sideFields, boxFields, mark, boxCount}
+use Rattle.sheet_spec.specs.File.{shape, records, recordAt, fieldsAt, fieldCountAt, codedAll}
+use Rattle.sheet_spec.specs.Sheet.{bytesOf}
+use Rattle.sheet_spec.specs.Reordered.{Permutation, Reordered, OneOrder}
+use Rattle.sheet_spec.proofs.Box.{box-lo, box-hi}
+use Rattle.sheet_spec.proofs.Order.{not-itself, precedes-then, precedes-sides}
+use Rattle.sheet_spec.proofs.Streams.{Each, each-next, each-groups, lt-or-le}
+use Rattle.sheet_spec.proofs.Records.{EachOf, EachField, each-field}
+use Rattle.sheet_spec.proofs.Same.{Equal}
+use Rattle.sheet_spec.proofs.Reordered.{same-head, same-band, same-recovery, shape-is}
+
+-- ---- a permutation that keeps the order moves nothing
+
+-- rises below n
+abbrev Rising : ℕ → (ℕ → ℕ) → Type 0
+Rising n f = (i j : ℕ) → i < j → j < n → f i < f j
+
+rising-least : {n : ℕ} (f : ℕ → ℕ) → Rising n f → (j : ℕ) → j < n → j ≤ f j
+rising-least f r zero l = omega arith
+rising-least f r (suc j) l = omega (arith, rising-least f r j (omega arith), r j (suc j) (omega arith) l)
+
+module _ {n : ℕ} {σ : ℕ → ℕ} (p : Permutation n σ) (rises : Rising n σ) where
+  origin-rises : Rising n (p .origin)
+  origin-rises i j l h =
+      let a = p .of-origin i (omega arith) in
+      let b = p .of-origin j h in
+      ⊎-elim (λ k. k)
+      (λ k. ⊎-elim (λ e. absurd (omega (arith, a, b, ap σ e))) (λ k. absurd (omega (arith, a, b, rises (p .origin j) (p .origin i) k (p .origin-inside i (omega arith))))) (eq-or-lt-of-le k))
+      (lt-or-le (p .origin i) (p .origin j))
+
+  pub moves-nothing : (j : ℕ) → j < n → σ j ≡ j
+  moves-nothing j l =
+      let a = rising-least (p .origin) origin-rises j l in
+      let b = rising-least σ rises (p .origin j) (p .origin-inside j l) in
+      let e : p .origin j ≡ j = omega (arith, a, b, p .of-origin j l) in
+      sym (ap σ e) ∙ p .of-origin j l
+
+-- ---- at most one order is valid
+
+ascends : {v : List ℤ} → Ascending v → (i d : ℕ) → i + suc d < boxes v → precedes (vars v) (unsafeBox v i) (unsafeBox v (i + suc d)) ≡ true
+unfolding ascendsAt
+ascends {v} a i zero l = let e : i + 1 ≡ suc i = omega arith in rw e (a .at i (omega arith))
+ascends {v} a i (suc d) l =
+    let e : i + suc (suc d) ≡ suc (i + suc d) = omega arith in
+    precedes-then (vars v) _ (unsafeBox v (i + suc d)) _ (ascends a i d (omega arith)) (rw e (a .at (i + suc d) (omega arith)))
+
+pub ascending-all : {v : List ℤ} → Ascending v → (i j : ℕ) → i < j → j < boxes v → precedes (vars v) (unsafeBox v i) (unsafeBox v j) ≡ true
+ascending-all {v} a i j l h = let e : i + suc (j - suc i) ≡ j = omega arith in subst (λ (j : ℕ). precedes (vars v) (unsafeBox v i) (unsafeBox v j) ≡ true) e (ascends a i (j - suc i) (omega arith))
+
+module _ {σ : ℕ → ℕ} {v w : List ℤ} (a : Valid v) (b : Valid w) (o : Reordered σ v w) where
+  abbrev n : ℕ
+  n = vars v
+
+  vars-same : vars v ≡ vars w
+  vars-same = ap (λ (s : Shape). s .vars) (shape-is o)
+
+  boxes-same : boxes v ≡ boxes w
+  boxes-same = ap (λ (s : Shape). s .boxes) (shape-is o)
+
+  w-ascends : (i j : ℕ) → i < j → j < boxes v → precedes n (unsafeBox w i) (unsafeBox w j) ≡ true
+  w-ascends i j l h = subst (λ (n : ℕ). precedes n (unsafeBox w i) (unsafeBox w j) ≡ true) (sym vars-same) (ascending-all (b .order) i j l (omega (arith, boxes-same)))
+
+  rises : Rising (boxes v) σ
+  rises i j l h =
+      let p = o .permutation in
+      let k : i < boxes v = omega arith in
+      let back : σ j < σ i → ⊥ = λ m. not-itself n (unsafeBox v i) (precedes-then n (unsafeBox v i) (unsafeBox v j) (unsafeBox v i) (ascending-all (a .order) i j l h)
+      (precedes-sides n (o .moved j h) (o .moved i k) ∙ w-ascends (σ j) (σ i) m (p .inside i k))) in
+      ⊎-elim (λ m. m)
+      (λ m. absurd (⊎-elim (λ e. omega (arith, ap (p .origin) e, p .origin-of i k, p .origin-of j h)) back (eq-or-lt-of-le m)))
+      (lt-or-le (σ i) (σ j))
+
+  same-box : (j : ℕ) → j < boxes v → SameSides n (unsafeBox v j) (unsafeBox w j)
+  same-box j l = subst (λ (i : ℕ). SameSides n (unsafeBox v j) (unsafeBox w i)) (moves-nothing (o .permutation) rises j l) (o .moved j l)
+
+  same-unsafe : (j : ℕ) → j < boxes v → Each (Equal v w) (boxFields maxUnsafeSide (unsafeSlot j)) (boxCount n)
+  unfolding boxFields sideFields _▸_
+  same-unsafe j l =
+      let at = unsafeSlot j in
+      each-groups n pairSize _ (λ i h. each-next _ _
+      (sym (box-lo v at i (room i h)) ∙ same-box j l .lower i h ∙ box-lo w at i (room i h))
+      (record { at = λ q k. sym (box-hi v at i (room i h)) ∙ same-box j l .upper i h ∙ box-hi w at i (room i h) }))
+    where
+      room : (i : ℕ) → i < n → i < N
+      room i h = omega (arith, a .numbers .vars-high)
+
+  same-everywhere : EachField (Equal v w) (shape v)
+  same-everywhere = each-field (shape v) (same-head o) (same-band o) same-unsafe (same-recovery o)
+
+-- equal numbers have equal bytes
+module _ (v w : List ℤ) where
+  coded-same : (p : ℕ → Field) (k : ℕ) → Each (Equal v w) p k → coded p v k ≡ coded p w k
+  unfolding coded
+  coded-same p zero e = refl
+  coded-same p (suc k) e = ap₂ _++_ (coded-same p k (record { at = λ j l. e .at j (omega arith) })) (ap (encoded (p k .kind)) (e .at k (omega arith)))
+
+  module _ (s : Shape) where
+    coded-all-same : (k : ℕ) → Each (EachOf (Equal v w) (s .vars)) (recordAt s) k → codedAll s v k ≡ codedAll s w k
+    unfolding codedAll
+    coded-all-same zero e = refl
+    coded-all-same (suc k) e =
+        ap₂ _++_ (coded-all-same k (record { at = λ r l. e .at r (omega arith) }))
+        (ap (λ (bs : List ℕ). mark (recordAt s k) .0 ∷ (mark (recordAt s k) .1 ∷ bs)) (coded-same (fieldsAt s k) (fieldCountAt s k) (e .at k (omega arith))))
+
+pub one-order : OneOrder
+unfolding bytesOf
+one-order σ v w a b o =
+    let e = same-everywhere a b o in
+    (record { same = λ r l j k. e .at r l .at j k }, coded-all-same v w (shape v) (records (shape v)) e ∙ ap (λ (s : Shape). codedAll s w (records s)) (shape-is o))
