@@ -1,6 +1,7 @@
 /* The greatest counts of a sheet, the slots of its numbers, and lengths in bytes ("document 01", "Sheet
- * layout"). guard.h and sheet.h include this file, and bindings/ reads it for Rust; no other file outside
- * the archive and the two guards of reference/ has these numbers.
+ * layout"; the order of the no-go boxes: "document 02", paper 2). guard.h and sheet.h include this file,
+ * and bindings/ reads it for Rust; no other file outside the archive and the two guards of reference/ has
+ * these numbers.
  *
  * For bindings/ each name stands in an enum with its value: numbers, earlier names, +, * and brackets. */
 #ifndef GUARD_FORMAT_H
@@ -61,7 +62,9 @@ static inline size_t guard_slot_row(size_t k, size_t i)
     return guard_slot_band(k) + GUARD_BAND_HEAD + GUARD_ROW_SIZE * i;
 }
 
-/* No-go box j's first lower side; its upper sides stand GUARD_VARIABLES further. */
+/* No-go box j's first lower side; its upper sides stand GUARD_VARIABLES further. Each box is greater than
+ * the one before, compared by first lower side, first upper side, second lower side and so on over the n
+ * variables. */
 static inline size_t guard_slot_unsafe(size_t j)
 {
     return GUARD_SLOT_UNSAFE + GUARD_BOX_SIZE * j;

@@ -1,6 +1,7 @@
 /* The calls of include/guard.h from C, linked with the archive alone: sheet A's answers, every refusal
- * with the lent buffers and arrays compared, empty, missing, overlong and overlapping slices, and the slots
- * and lengths of include/guard_format.h. The last line is `N passed, M failed`. */
+ * with the lent buffers and arrays compared, empty, missing, overlong and overlapping slices, the slots and
+ * lengths of include/guard_format.h, and no-go boxes in and out of order. The last line is
+ * `N passed, M failed`. */
 #include "guard.h"
 
 #include <stdio.h>
@@ -105,7 +106,7 @@ static void expect_unread(const char *what, int number, const uint8_t *sheet, si
 
 static void answers(void)
 {
-    for (uint32_t number = 1; number <= GUARD_REFUSED_ROOM; number++) {
+    for (uint32_t number = 1; number <= GUARD_REFUSED_ORDER; number++) {
         expect("refusal", (int)number, guard_refusal(refusal(number)), number);
         expect("length of a refusal", (int)number, guard_length(refusal(number)), 0);
     }
@@ -202,22 +203,35 @@ static const struct {
     {10, 48, 2, 4097}, {11, 52, 4, 2000001}, {11, 56, 4, 129}, {11, 62, 4, (uint32_t)-1000001},
     {11, 66, 4, 1000001}, {11, 66, 4, (uint32_t)-101}};
 
+/* Every call that reads a sheet refuses it before it looks at anything else, and writes nothing. */
+static void expect_sheet_refused(const char *what, int number, const uint8_t *sheet, size_t length)
+{
+    uint8_t question[QUESTION], start[8] = {0};
+    ask(question, 0, 0, 25, 100);
+    fill();
+    expect(what, number, guard_sheet(sheet, length), refusal((uint64_t)number));
+    expect(what, number, guard_recovery(sheet, length), refusal((uint64_t)number));
+    expect(what, number, guard_decide(sheet, length, question, QUESTION), refusal((uint64_t)number));
+    expect(what, number, guard_decide(sheet, length, NULL, 0), refusal((uint64_t)number));
+    expect_unread(what, number, sheet, length);
+    expect_refused(what, number, guard_reach(sheet, length, 1001, 0, 1, 26, NULL, 0, lent, 0));
+    expect_refused(what, number, guard_reach(sheet, length, 4, 4, 0, 0, start, 8, lent, ROOM));
+}
+
+/* Puts a number of so many bytes into a file. */
+static void put_bytes(uint8_t *place, size_t size, uint32_t value)
+{
+    for (size_t i = 0; i < size; i++)
+        place[i] = (uint8_t)(value >> 8 * (size - 1 - i));
+}
+
 static void refused_sheets(void)
 {
-    uint8_t sheet[SHEET], question[QUESTION], start[8] = {0};
-    ask(question, 0, 0, 25, 100);
+    uint8_t sheet[SHEET];
     for (size_t i = 0; i < sizeof faults / sizeof *faults; i++) {
-        int number = faults[i].number;
         memcpy(sheet, sheet_a, SHEET);
-        for (size_t j = 0; j < faults[i].size; j++)
-            sheet[faults[i].place + j] = (uint8_t)(faults[i].value >> 8 * (faults[i].size - 1 - j));
-        fill();
-        expect("fault", number, guard_sheet(sheet, SHEET), refusal((uint64_t)number));
-        expect("fault", number, guard_recovery(sheet, SHEET), refusal((uint64_t)number));
-        expect("fault", number, guard_decide(sheet, SHEET, question, QUESTION), refusal((uint64_t)number));
-        expect_unread("read", number, sheet, SHEET);
-        expect_refused("reach", number, guard_reach(sheet, SHEET, 1001, 0, 1, 26, NULL, 0, lent, 0));
-        expect_refused("reach", number, guard_reach(sheet, SHEET, 4, 4, 0, 0, start, 8, lent, ROOM));
+        put_bytes(sheet + faults[i].place, faults[i].size, faults[i].value);
+        expect_sheet_refused("fault", faults[i].number, sheet, SHEET);
     }
 }
 
@@ -480,6 +494,210 @@ static void reaches(void)
     expect_refused("room", 17, guard_reach(sheet_a, SHEET, 4, 4, 0, 0, start, 8, NULL, 0));
 }
 
+/* ---- no-go boxes in order: a sheet of two variables with three of them */
+
+enum {
+    BOXES = 3,
+    SIDES = 4,                      /* of a box: lower, upper, lower, upper */
+    RECORD = 2 + 2 * GUARD_PAIR,    /* the bytes of a box: mark, sides */
+    RECORDS = 20 + 2 * 2 + 14 + 32, /* where the first box stands: after the head, the caps and a band of two rows */
+    ORDERED = RECORDS + (BOXES + 1) * RECORD
+};
+
+static int32_t boxes[BOXES][SIDES];
+static uint8_t ordered[ORDERED];
+
+/* Sheet A with a second variable, which stays as it is. */
+static void numbers_of_ordered(void)
+{
+    numbers_of_a();
+    numbers[GUARD_SLOT_N] = 2;
+    numbers[GUARD_SLOT_UNSAFE_BOXES] = BOXES;
+    numbers[GUARD_SLOT_CAPS + 1] = 5;
+    numbers[guard_slot_row(0, 1) + GUARD_VARIABLES + 3] = 1;
+}
+
+static size_t slot_of_side(size_t j, size_t i)
+{
+    return guard_slot_unsafe(j) + i % 2 * GUARD_VARIABLES + i / 2;
+}
+
+/* Puts the boxes' sides at their slots and at their places in the file. */
+static void put_boxes(void)
+{
+    for (size_t j = 0; j < BOXES; j++)
+        for (size_t i = 0; i < SIDES; i++) {
+            numbers[slot_of_side(j, i)] = boxes[j][i];
+            guard_put(ordered + RECORDS + RECORD * j + 2, i, boxes[j][i]);
+        }
+}
+
+/* Three boxes of which each is greater than the one before, in every side. */
+static void boxes_in_order(void)
+{
+    static const int32_t first[SIDES] = {-305, -293, -303, -291};
+    for (size_t j = 0; j < BOXES; j++)
+        for (size_t i = 0; i < SIDES; i++)
+            boxes[j][i] = first[i] + 300 * (int32_t)j;
+    put_boxes();
+}
+
+static void expect_accepted(const char *what, int number)
+{
+    static const int32_t sides[SIDES] = {0};
+    uint8_t question[GUARD_LONGEST_QUESTION], start[2 * GUARD_PAIR] = {0};
+    size_t length = guard_question(question, 100, 25, sides, 2);
+    expect(what, number, guard_sheet(ordered, ORDERED), 0);
+    expect(what, number, guard_refusal(guard_recovery(ordered, ORDERED)), 0);
+    expect(what, number, guard_refusal(guard_decide(ordered, ORDERED, question, length)), 0);
+    expect_read(what, ordered, ORDERED, numbers);
+    expect(what, number, guard_reach(ordered, ORDERED, 0, 1, 0, 0, start, sizeof start, lent, ROOM), 0);
+    fill();
+    expect(what, number, guard_sheet_write(numbers, lent, ROOM, 7), ORDERED);
+    expect_lent(what, number, 7, ordered, ORDERED);
+    fill();
+    expect_refused(what, 17, guard_sheet_write(numbers, lent, ORDERED - 1, 0));
+}
+
+/* The writer refuses the numbers, before it looks at the room. */
+static void expect_unwritten(const char *what, int number)
+{
+    fill();
+    expect_refused(what, number, guard_sheet_write(numbers, lent, ROOM, 0));
+    expect_refused(what, number, guard_sheet_write(numbers, lent, ORDERED - 1, 0));
+    expect_refused(what, number, guard_sheet_write(numbers, NULL, 0, 0));
+}
+
+static void expect_boxes_refused(const char *what, int number)
+{
+    put_boxes();
+    expect_sheet_refused(what, number, ordered, ORDERED);
+    expect_unwritten(what, number);
+}
+
+/* A box is the one before with one side moved; the sides behind it move the other way, or not at all. */
+static void box_beside(size_t j, size_t side, int32_t by, int32_t rest)
+{
+    memcpy(boxes[j], boxes[j - 1], sizeof boxes[j]);
+    boxes[j][side] += by;
+    for (size_t i = side + 1; i < SIDES; i++)
+        boxes[j][i] += rest;
+    put_boxes();
+}
+
+/* The first side that differs decides, for the second box and for the third. */
+static void compared_sides(void)
+{
+    for (size_t j = 1; j < BOXES; j++)
+        for (size_t side = 0; side < SIDES; side++)
+            for (int32_t rest = 0; rest <= 1; rest++) {
+                boxes_in_order();
+                box_beside(j, side, 1, -rest);
+                expect_accepted("greater side", (int)side);
+                boxes_in_order();
+                box_beside(j, side, -1, rest);
+                expect_boxes_refused("less side", GUARD_REFUSED_ORDER);
+            }
+}
+
+/* Numbers are compared, not bytes; the order is that of neighbours. */
+static void compared_boxes(void)
+{
+    static const int32_t steps[] = {-2000000, -65537, -65536, -257, -256, -1, 0, 1, 255, 256, 65535, 65536, 2000000};
+    for (size_t i = 0; i + 1 < sizeof steps / sizeof *steps; i++) {
+        boxes_in_order();
+        for (size_t j = 0; j < 2; j++)
+            boxes[j][0] = boxes[j][1] = steps[i + j];
+        boxes[2][0] = boxes[2][1] = 2000000;
+        boxes[2][3] = 2000000;
+        put_boxes();
+        expect_accepted("step", (int)i);
+        boxes[0][0] = boxes[0][1] = steps[i + 1];
+        boxes[1][0] = boxes[1][1] = steps[i];
+        expect_boxes_refused("step down", GUARD_REFUSED_ORDER);
+    }
+    for (size_t j = 1; j < BOXES; j++) {
+        boxes_in_order();
+        memcpy(boxes[j], boxes[j - 1], sizeof boxes[j]);
+        expect_boxes_refused("equal boxes", GUARD_REFUSED_ORDER);
+    }
+    boxes_in_order();
+    memcpy(boxes[2], boxes[0], sizeof boxes[2]);
+    expect_boxes_refused("first and third equal", GUARD_REFUSED_ORDER);
+}
+
+/* Which fault of several counts: a number of the file is changed, and box j is equal to the one before. */
+static void order_and_other_faults(void)
+{
+    const struct {
+        int number;
+        size_t equal, place, size;
+        uint32_t value;
+    } both[] = {{2, 1, 5, 1, 2}, {3, 1, 6, 2, 0}, {4, 1, 12, 4, 26}, {5, 1, 3, 1, 2}, {6, 1, 22, 2, 0},
+                {7, 1, 24, 1, 'b'}, {8, 1, 26, 4, 0}, {9, 1, 30, 4, 1}, {10, 1, RECORDS - 2, 2, 0},
+                {7, 1, RECORDS + 1, 1, 'g'}, {11, 1, RECORDS + 6, 4, (uint32_t)-306},
+                {7, 1, RECORDS + RECORD, 1, 'n'}, {11, 1, RECORDS + RECORD + 14, 4, (uint32_t)-304},
+                {11, 1, RECORDS + RECORD + 2, 4, (uint32_t)-2000001}, {20, 1, RECORDS + 2 * RECORD, 1, 'n'},
+                {20, 1, RECORDS + 2 * RECORD + 6, 4, 2000001}, {7, 2, RECORDS + 2 * RECORD + 1, 1, 'g'},
+                {11, 2, RECORDS + 2 * RECORD + 14, 4, 2000001}, {20, 2, RECORDS + 3 * RECORD, 1, 'r'},
+                {20, 2, RECORDS + 3 * RECORD + 2, 4, 1000001}, {20, 2, RECORDS + 3 * RECORD + 14, 4, (uint32_t)-1}};
+    for (size_t i = 0; i < sizeof both / sizeof *both; i++) {
+        uint8_t sheet[ORDERED];
+        boxes_in_order();
+        box_beside(both[i].equal, 0, 0, 0);
+        memcpy(sheet, ordered, ORDERED);
+        put_bytes(sheet + both[i].place, both[i].size, both[i].value);
+        expect_sheet_refused("order and another fault", both[i].number, sheet, ORDERED);
+    }
+    boxes_in_order();
+    box_beside(1, 0, 0, 0);
+    expect_sheet_refused("order and length", GUARD_REFUSED_LENGTH, ordered, ORDERED - 1);
+}
+
+/* The same for the writer; numbers beyond the counts are not compared. */
+static void order_of_numbers(void)
+{
+    const struct {
+        int number;
+        size_t equal, slot;
+        int32_t value;
+    } both[] = {{2, 1, GUARD_SLOT_BAND_VARIABLE, 2}, {3, 1, GUARD_SLOT_RHO, 0}, {4, 1, GUARD_SLOT_LEAST_COMMAND, 26},
+                {6, 1, GUARD_SLOT_CAPS + 1, 0}, {8, 1, guard_slot_band(0), 0}, {9, 1, guard_slot_band(0) + 1, 1},
+                {10, 1, guard_slot_row(0, 1) + GUARD_VARIABLES + 3, 0}, {11, 1, slot_of_side(0, 3), -304},
+                {11, 1, slot_of_side(1, 3), -304}, {11, 1, slot_of_side(1, 0), INT32_MIN},
+                {20, 1, slot_of_side(2, 3), 2000001}, {11, 2, slot_of_side(2, 3), 2000001},
+                {20, 2, GUARD_SLOT_RECOVERY, 1000001}, {20, 2, GUARD_SLOT_RECOVERY + GUARD_VARIABLES + 1, -1},
+                {20, 1, guard_slot_unsafe(1) + 2, 1}, {20, 1, guard_slot_unsafe(1) + GUARD_VARIABLES + 3, 1}};
+    for (size_t i = 0; i < sizeof both / sizeof *both; i++) {
+        numbers_of_ordered();
+        boxes_in_order();
+        box_beside(both[i].equal, 0, 0, 0);
+        numbers[both[i].slot] = both[i].value;
+        expect_unwritten("order and another number", both[i].number);
+    }
+    numbers_of_ordered();
+    boxes_in_order();
+    numbers[guard_slot_unsafe(0) + 2] = 1;
+    numbers[guard_slot_unsafe(2) + GUARD_VARIABLES + 3] = -1;
+    numbers[guard_slot_unsafe(BOXES)] = -2000000;
+    fill();
+    expect("beyond", 1, guard_sheet_write(numbers, lent, ROOM, 0), ORDERED);
+    expect_lent("beyond", 1, 0, ordered, ORDERED);
+}
+
+static void orders(void)
+{
+    numbers_of_ordered();
+    boxes_in_order();
+    expect("ordered", 0, guard_sheet_write(numbers, ordered, ORDERED, 0), ORDERED);
+    expect_accepted("ordered", 0);
+    compared_sides();
+    compared_boxes();
+    order_and_other_faults();
+    order_of_numbers();
+    numbers_of_a();
+}
+
 int main(void)
 {
     answers();
@@ -494,6 +712,7 @@ int main(void)
         refused_writes();
         largest();
         reaches();
+        orders();
     }
     printf("%d passed, %d failed\n", passed, failed);
     return failed != 0;

@@ -1,7 +1,7 @@
 /* The calls of include/sheet.h from C, linked with the archive of the crate `sheet` beside that of the
- * guard: sheet A's numbers at each slot, and the refusal, with the array as it was, for each shorter file
- * and for each byte of it changed, as guard_sheet and guard_sheet_read answer. The last line is
- * `N passed, M failed`. */
+ * guard: sheet A's numbers at each slot, and the refusal, with the array as it was, for each shorter file,
+ * for each byte of it changed and for no-go boxes out of order, as guard_sheet and guard_sheet_read answer.
+ * The last line is `N passed, M failed`. */
 #include "guard.h"
 #include "sheet.h"
 
@@ -53,6 +53,28 @@ static void compare(const char *what, size_t number, const uint8_t *sheet, size_
     expect(what, number, numbers[SHEET_NUMBERS], FILL);
 }
 
+/* Sheet A with two no-go boxes: refused with 20 unless the second one is greater. */
+static void two_boxes(void)
+{
+    enum { BOX = 50, RECORD = 10, BOTH = SHEET + RECORD };
+    static const int32_t ascending[][2] = {{-300, -200}, {130, 131}, {130, 256}, {131, 131}, {255, 300}, {256, 256}};
+    static const size_t count = sizeof ascending / sizeof *ascending;
+    for (size_t pair = 0; pair < count * count; pair++) {
+        size_t first = pair / count, second = pair % count;
+        int32_t numbers[SHEET_NUMBERS];
+        uint8_t sheet[BOTH];
+        memcpy(sheet, sheet_a, BOX + RECORD);
+        memcpy(sheet + BOX + RECORD, sheet_a + BOX, 2 * RECORD);
+        sheet[4] = 2;
+        for (size_t side = 0; side < 2; side++) {
+            guard_put(sheet + BOX + 2, side, ascending[first][side]);
+            guard_put(sheet + BOX + RECORD + 2, side, ascending[second][side]);
+        }
+        expect("two boxes", pair, sheet_read(sheet, BOTH, numbers), first < second ? 0 : GUARD_REFUSED_ORDER);
+        compare("two boxes", pair, sheet, BOTH);
+    }
+}
+
 int main(void)
 {
     int32_t numbers[SHEET_NUMBERS];
@@ -74,6 +96,7 @@ int main(void)
         changed[at] ^= 0x80;
         compare("byte", at, changed, SHEET);
     }
+    two_boxes();
     printf("%d passed, %d failed\n", passed, failed);
     return failed != 0;
 }

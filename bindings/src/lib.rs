@@ -62,7 +62,7 @@ impl Answer {
         self.0 as u32
     }
 
-    /// Document 01's number where the call is refused.
+    /// The number of document 01 or 02 where the call is refused.
     pub fn refusal(self) -> Option<u8> {
         (self.code() == REFUSED).then_some(self.width() as u8)
     }
