@@ -67,6 +67,21 @@ other_order_packs() {
     "$sheet" text "$work/sheet.bin" --like "$other/leg_press.txt" | diff "$leg_press" -
 }
 
+# Record J of the leg press, counted from 0: of its last four records, with 18 bytes each, the first three are
+# its no-go records.
+leg_press_record() { tail -c "$((18 * (4 - $1)))" "$work/sheet.bin" | head -c 18; }
+
+# With its no-go records in another order the leg press is refused, and comes back byte for byte.
+records_come_back() {
+    old=$work/old
+    mkdir -p "$old" || return 1
+    { head -c -72 "$work/sheet.bin" && for j in 2 0 1 3; do leg_press_record "$j"; done; } >"$old/old.bin"
+    ! "$sheet" list "$old/old.bin" 2>"$old/said" && grep -q 'refused 20 .* sheet order' "$old/said" || return 1
+    (cd "$old" && "$sheet" order old.bin) >"$old/said" || return 1
+    echo "old.bin: no-go boxes put in order: sheet.bin has them in the order of records 2, 3, 1" |
+        diff - "$old/said" && cmp "$work/sheet.bin" "$old/sheet.bin"
+}
+
 packs_without_a_word() {
     "$sheet" pack "$root/examples/leg_press.txt" "$root/examples/leg_press.asks.txt" --to "$work" \
         >"$work/said_at_packing" && ! [ -s "$work/said_at_packing" ]
@@ -84,6 +99,7 @@ check "the tool builds" in_tools cargo build --offline
 package_tests
 check "the leg press packs" packs_without_a_word
 check "the leg press packs in another order" other_order_packs
+check "the leg press's records are put in order" records_come_back
 check "drive.c builds" compile "$work/drive" "$root/examples/drive.c"
 check "the drive prints its summary" drive_prints_its_summary
 check "the drive refuses no sheet" drive_refuses_no_sheet

@@ -1,13 +1,8 @@
 //! The order of a sheet's no-go boxes (document 02, paper 2): by the first variable's lower side, then its
 //! upper side, then the second variable's, and so on. Each box has to be greater than the one before.
 
-use crate::archive;
-use guard_bindings::format::PAIR;
 use second_guard::boxes::StateBox;
 use std::cmp::Ordering;
-
-/// The bytes of a record's mark.
-const MARK: usize = 2;
 
 /// The sides of n variables, in the order in which they are compared.
 fn sides(unsafe_box: &StateBox, n: usize) -> Vec<i64> {
@@ -52,34 +47,6 @@ pub fn words(found: Ordering) -> &'static str {
         Ordering::Less => "has to stand before",
         Ordering::Greater => "stands after",
     }
-}
-
-/// The no-go boxes of a file whose counts and length are those of a sheet.
-fn boxes_in(file: &[u8]) -> Option<Vec<StateBox>> {
-    let (n, count) = (usize::from(*file.get(2)?), usize::from(*file.get(4)?));
-    let record = MARK + PAIR * n;
-    // The recovery box is the last record.
-    let from = file.len().checked_sub(record * (count + 1))?;
-    let records = file[from..].chunks_exact(record).take(count);
-    Some(records.map(|r| archive::box_in(&r[MARK..])).collect())
-}
-
-/// Which no-go record of a file is not greater than the one before, in words. The guard refuses the file
-/// with 20, so that its counts, its length and all earlier records are in range.
-pub fn record_at_fault(file: &[u8]) -> Option<String> {
-    let boxes = boxes_in(file)?;
-    let n = usize::from(file[2]);
-    let found = |j: usize| compare(&boxes[j], &boxes[j - 1], n);
-    let j = (1..boxes.len()).find(|&j| found(j).is_le())?;
-    let hint = match found(j) {
-        Ordering::Less => " (sheet pack puts them in order: pack the sheet's text again)",
-        _ => "",
-    };
-    let words = words(found(j));
-    Some(format!(
-        "no-go record {} {words} no-go record {j}{hint}",
-        j + 1
-    ))
 }
 
 #[cfg(test)]

@@ -10,6 +10,7 @@ pub mod causes;
 pub mod listing;
 pub mod names;
 pub mod picture;
+pub mod record_order;
 pub mod refusal;
 pub mod sheet_parser;
 pub mod sheet_text;

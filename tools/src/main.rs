@@ -4,9 +4,9 @@ use second_guard::decision::Question;
 use sheet_tool::archive;
 use sheet_tool::asks_text::{self, Ask, Asked, AsksText};
 use sheet_tool::attempts::{attempts, Attempt, Attempts, Subject};
-use sheet_tool::box_order;
 use sheet_tool::listing::{listing, recovery_sentence, sentence};
 use sheet_tool::picture::picture;
+use sheet_tool::record_order;
 use sheet_tool::sheet_parser;
 use sheet_tool::sheet_text::{self, SheetText};
 use sheet_tool::show::show;
@@ -16,6 +16,7 @@ use std::process::ExitCode;
 
 const USAGE: &str = "\
 sheet pack SHEET [ASKS] [--to FOLDER]     write sheet.bin, and asks.bin, into the folder or here
+sheet order SHEET.bin [--to FOLDER]       write sheet.bin with the no-go records in ascending order
 sheet text sheet.bin [asks.bin]           print the sheet's text, or the questions'
       [--like SHEET [ASKS]]               with names and comments from there
 sheet list SHEET [ASKS]                   print the floor listing
@@ -54,6 +55,8 @@ fn run(words: &[String]) -> Result<String, String> {
         ("pack", [sheet, asks @ ..], Some(("--to", [folder]))) if asks.len() < 2 => {
             pack(sheet, asks.first(), folder)
         }
+        ("order", [sheet], None) => order(sheet, "."),
+        ("order", [sheet], Some(("--to", [folder]))) => order(sheet, folder),
         ("text", [sheet], None) => Ok(load_sheet(sheet)?.text.in_file_order().text()),
         ("text", [sheet], Some(("--like", [like]))) => text_like(sheet, like),
         ("text", [sheet, asks], None) => Ok(load_both(sheet, asks)?.1.text()),
@@ -91,24 +94,11 @@ fn read_text(path: &str) -> Result<String, String> {
     std::fs::read_to_string(path).map_err(|error| format!("{path}: {error}"))
 }
 
-/// The fault of bytes that are no sheet.
-fn refused_bytes(number: u8, bytes: &[u8]) -> Fault {
-    let record = match number {
-        20 => box_order::record_at_fault(bytes),
-        _ => None,
-    };
-    Fault {
-        line: None,
-        refusal: Some(number),
-        what: record.unwrap_or_else(|| format!("{} bytes", bytes.len())),
-    }
-}
-
 fn load_sheet(path: &str) -> Result<Loaded, String> {
     if path.ends_with(".bin") {
         let bytes = read_bytes(path)?;
-        let sheet =
-            archive::read(&bytes).map_err(|number| in_file(path)(refused_bytes(number, &bytes)))?;
+        let refused = |number| in_file(path)(record_order::refused(number, &bytes));
+        let sheet = archive::read(&bytes).map_err(refused)?;
         let text = sheet_text::from_sheet(&sheet);
         return Ok(Loaded { text, bytes });
     }
@@ -152,9 +142,28 @@ fn said_order(path: &str, text: &SheetText) -> String {
     if lines.is_sorted() {
         return String::new();
     }
-    let lines: Vec<String> = lines.iter().map(usize::to_string).collect();
-    let lines = lines.join(", ");
-    format!("{path}: no-go boxes put in order: sheet.bin has them in the order of lines {lines}\n")
+    said_put_in_order(path, "lines", &lines)
+}
+
+/// `old.bin: no-go boxes put in order: sheet.bin has them in the order of records 3, 1, 2`.
+fn said_put_in_order(path: &str, of: &str, numbers: &[usize]) -> String {
+    let numbers: Vec<String> = numbers.iter().map(usize::to_string).collect();
+    let numbers = numbers.join(", ");
+    format!("{path}: no-go boxes put in order: sheet.bin has them in the order of {of} {numbers}\n")
+}
+
+/// Writes a sheet's bytes with their no-go records in ascending order, and says what their order was.
+fn order(path: &str, folder: &str) -> Result<String, String> {
+    let bytes = read_bytes(path)?;
+    let Some(ordered) = record_order::in_order(&bytes).map_err(in_file(path))? else {
+        write_bytes(folder, "sheet.bin", &bytes)?;
+        return Ok(format!(
+            "{path}: no-go boxes in order already: sheet.bin has the same bytes\n"
+        ));
+    };
+    write_bytes(folder, "sheet.bin", &ordered.bytes)?;
+    let numbers: Vec<usize> = ordered.order.iter().map(|j| j + 1).collect();
+    Ok(said_put_in_order(path, "records", &numbers))
 }
 
 fn write_bytes(folder: &str, name: &str, bytes: &[u8]) -> Result<(), String> {

@@ -2,7 +2,7 @@
 
 mod common;
 
-use common::{example_text, load, shell, Folder, Numbers};
+use common::{example_text, load, shell, with_records, Folder, Numbers};
 use second_guard::boxes::StateBox;
 use sheet_tool::sheet_text::{self, SheetText};
 use sheet_tool::{archive, asks_text, sheet_parser};
@@ -416,18 +416,13 @@ fn records_in_order(order: [usize; 3]) -> Vec<u8> {
     let text = example_text("sheet_a.txt").replace(THE_END, boxes);
     let text = sheet_parser::parse(&text).expect("a sheet");
     let bytes = text.bytes().expect("an accepted sheet");
-    let (record, from) = (10, bytes.len() - 40);
-    let mut moved = bytes.clone();
-    for (j, k) in order.into_iter().enumerate() {
-        let taken = &bytes[from + record * k..][..record];
-        moved[from + record * j..][..record].copy_from_slice(taken);
-    }
-    moved
+    with_records(&bytes, &order)
 }
 
 #[test]
 fn bytes_with_boxes_out_of_order_are_refused_by_record() {
-    let hint = "(sheet pack puts them in order: pack the sheet's text again)";
+    let hint =
+        "(to put them in order, pack the sheet's text again, or run sheet order on this file)";
     let cases = [
         (
             [1, 0, 2],

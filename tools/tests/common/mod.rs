@@ -1,6 +1,8 @@
 //! What the tests share: the examples, the program, and a simple source of numbers.
 #![allow(dead_code)]
 
+pub mod sheets;
+
 use second_guard::sheet::Sheet;
 use sheet_tool::{asks_text, sheet_parser};
 use std::path::PathBuf;
@@ -85,6 +87,36 @@ pub fn shuffled(text: &str, numbers: &mut Numbers) -> String {
         })
         .map(|line| format!("{line}\n"))
         .collect()
+}
+
+/// The numbers from 0 to `count` - 1 in another order.
+pub fn random_order(count: usize, numbers: &mut Numbers) -> Vec<usize> {
+    let mut order: Vec<usize> = (0..count).collect();
+    for last in (1..count).rev() {
+        order.swap(last, numbers.whole(0, last as i64) as usize);
+    }
+    order
+}
+
+/// Where no-go record j begins in a sheet's bytes; the recovery record is the one after the last.
+pub fn record_at(bytes: &[u8], j: usize) -> usize {
+    let count = usize::from(bytes[4]);
+    bytes.len() - record_length(bytes) * (count + 1 - j)
+}
+
+fn record_length(bytes: &[u8]) -> usize {
+    2 + 8 * usize::from(bytes[2])
+}
+
+/// A sheet's bytes whose no-go record j is the one that had number `order[j]`.
+pub fn with_records(bytes: &[u8], order: &[usize]) -> Vec<u8> {
+    let length = record_length(bytes);
+    let mut moved = bytes.to_vec();
+    for (j, &k) in order.iter().enumerate() {
+        let taken = &bytes[record_at(bytes, k)..][..length];
+        moved[record_at(bytes, j)..][..length].copy_from_slice(taken);
+    }
+    moved
 }
 
 /// Numbers that look random and are the same each time.
