@@ -9,4 +9,3 @@ pub mod Count
 pub mod Cut
 pub mod Order
 pub mod Ranges
-pub mod Alike

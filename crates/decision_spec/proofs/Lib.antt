@@ -8,7 +8,6 @@ pub mod Attempts
 pub mod Failures
 pub mod Cover
 pub mod Attempt
-pub mod AnyOrder
 pub mod Allowance
 pub mod Spent
 pub mod Rounds

@@ -5,7 +5,6 @@ pub mod Numbers
 pub mod ReachCall
 pub mod Question
 pub mod Decision
-pub mod AnyOrder
 pub mod Spent
 pub mod Rounds
 pub mod Listing

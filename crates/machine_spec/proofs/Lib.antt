@@ -8,8 +8,6 @@ pub mod Neighborhood
 pub mod Bands
 pub mod Facts
 pub mod Part
-pub mod Alike
-pub mod Reordered
 pub mod Offers
 pub mod Sound
 pub mod Progress

@@ -17,8 +17,6 @@ pub mod Numbers
 pub mod Says
 pub mod Same
 pub mod RoundTrip
-pub mod Reordered
-pub mod OneOrder
 pub mod ReadWrite
 pub mod Everything
 pub mod Examples

@@ -100,13 +100,13 @@ module _ (n m w lo : ℕ) (g : ℕ → ℕ → Field) (z : 0 < m) (s : (i : ℕ)
 -- ---- the sheet's records
 
 -- the slots of a record start here, and the next record's here
-abbrev base : Record → ℕ
+abbrev pub base : Record → ℕ
 base Head = 0
 base (Band k) = bandSlot k
 base (Unsafe j) = unsafeSlot j
 base Recovery = recoverySlot
 
-abbrev limit : Record → ℕ
+abbrev pub limit : Record → ℕ
 limit Head = bandSlot 0
 limit (Band k) = bandSlot (suc k)
 limit (Unsafe j) = unsafeSlot (suc j)
@@ -171,7 +171,7 @@ module _ (n : ℕ) (l : n ≤ N) where
     apart = λ i j a b e. omega (arith, side-slot h s i, side-slot h s j);
   }
 
-  spread-record : (x : Record) → Spread (fields n x) (fieldCount n x) (base x) (limit x)
+  pub spread-record : (x : Record) → Spread (fields n x) (fieldCount n x) (base x) (limit x)
   unfolding fields
   spread-record Head = spread-run 0 head-slot (omega arith)
   spread-record (Band k) = spread-band k

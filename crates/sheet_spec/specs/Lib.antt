@@ -9,7 +9,6 @@ pub mod Sizes
 pub mod Layout
 pub mod File
 pub mod Sheet
-pub mod Reordered
 pub mod SheetA
 pub mod Written
 pub mod ReadWrite

@@ -4,13 +4,11 @@ use mathlib.Core.Bool.{Bool, true, false}
 use mathlib.Core.List.{List}
 use Prim.Native.Nat.{ℕ, _<_}
 use lib.IntN.{ℤ}
 use Rattle.sheet_spec.specs.Slots.{_!_, vars, boxes, unsafeBox}
 use Rattle.sheet_spec.specs.Box.{SameSides}
-use Rattle.sheet_spec.specs.Valid.{Valid}
 use Rattle.sheet_spec.specs.declared.Record.{Record}
 use Rattle.sheet_spec.specs.declared.Record.the-variants.{Head, Band, Unsafe, Recovery}
 use Rattle.sheet_spec.specs.File.{shape, records, recordAt, fieldsAt, fieldCountAt}
-use Rattle.sheet_spec.specs.Sheet.{bytesOf, Same}
 
 -- σ is a permutation of the numbers below n, and `origin` undoes it
 pub record Permutation (n : ℕ) (σ : ℕ → ℕ) : Type 0 where
@@ -33,8 +31,3 @@ pub record Reordered (σ : ℕ → ℕ) (v w : List ℤ) : Type 0 where
       → v ! fieldsAt (shape v) r j .slot ≡ w ! fieldsAt (shape v) r j .slot
   pub permutation : Permutation (boxes v) σ
   pub moved : (j : ℕ) → j < boxes v → SameSides (vars v) (unsafeBox v j) (unsafeBox w (σ j))
-
--- of sheets with the same no-go boxes, in whatever order, at most one is valid: two that are valid are the same sheet and have the same bytes. So two
--- prints of one machine are equal
-abbrev pub OneOrder : Type 0
-OneOrder = (σ : ℕ → ℕ) (v w : List ℤ) → Valid v → Valid w → Reordered σ v w → Same v w × (bytesOf v ≡ bytesOf w)

@@ -5,9 +5,9 @@ use mathlib.Core.List.{List}
 use Prim.Native.Nat.{ℕ}
 use lib.IntN.{ℤ}
 use Rattle.sheet_spec.specs.Valid.{ValidNumbers}
-use Rattle.sheet_spec.specs.Reordered.{Reordered}
+use Rattle.any_order.specs.Reordered.{Reordered}
 use Rattle.machine_spec.specs.declared.Law.{Law}
 use Rattle.decision_spec.specs.Decision.{recoveryOf, decisionOf}
 
 -- the replies are equal: verdict, width and rounds
 pub record SameReplies (v w : List ℤ) : Type 0 where

@@ -1,58 +1,32 @@
--- Of sheets with the same no-go boxes at most one is valid (specs/Reordered, `OneOrder`): a permutation between two ascending lists keeps their
+-- Of sheets with the same no-go boxes at most one is valid (specs/OneOrder): a permutation between two ascending lists keeps their
 -- order, and so moves nothing. Assumes nothing.
 use mathlib.Core.Path.{_≡_, refl, sym, ap, ap₂, _∙_, subst}
 use mathlib.Core.Bool.{true}
 use mathlib.Core.List.{List, _∷_, _++_}
 use mathlib.Core.Logic.{⊎-elim}
-use Prim.Native.Nat.{ℕ, zero, suc, _+_, _-_, _≤_, _<_}
+use Prim.Native.Nat.{ℕ, zero, suc, _+_, _-_, _<_}
 use native.Mathlib.Nat.{eq-or-lt-of-le}
 use native.Mathlib.Omega.{arith}
 use lib.IntN.{ℤ}
 use Rattle.sheet_spec.specs.Slots.{N, unsafeSlot, pairSize, vars, boxes, unsafeBox}
 use Rattle.sheet_spec.specs.Box.{SameSides}
 use Rattle.sheet_spec.specs.Order.{precedes, ascendsAt}
 use Rattle.sheet_spec.specs.Valid.{Ascending, Valid}
 use Rattle.sheet_spec.specs.Limits.{maxUnsafeSide}
 use Rattle.sheet_spec.specs.Fields.{Field, encoded, coded}
 use Rattle.sheet_spec.specs.declared.Shape.{Shape}
 use Rattle.sheet_spec.specs.Layout.{_▸_, sideFields, boxFields, mark, boxCount}
 use Rattle.sheet_spec.specs.File.{shape, records, recordAt, fieldsAt, fieldCountAt, codedAll}
 use Rattle.sheet_spec.specs.Sheet.{bytesOf}
-use Rattle.sheet_spec.specs.Reordered.{Permutation, Reordered, OneOrder}
+use Rattle.any_order.specs.Reordered.{Reordered}
+use Rattle.any_order.specs.OneOrder.{OneOrder}
 use Rattle.sheet_spec.proofs.Box.{box-lo, box-hi}
 use Rattle.sheet_spec.proofs.Order.{not-itself, precedes-then, precedes-sides}
 use Rattle.sheet_spec.proofs.Streams.{Each, each-next, each-groups, lt-or-le}
 use Rattle.sheet_spec.proofs.Records.{EachOf, EachField, each-field}
 use Rattle.sheet_spec.proofs.Same.{Equal}
-use Rattle.sheet_spec.proofs.Reordered.{same-head, same-band, same-recovery, shape-is}
-
--- ---- a permutation that keeps the order moves nothing
-
--- rises below n
-abbrev Rising : ℕ → (ℕ → ℕ) → Type 0
-Rising n f = (i j : ℕ) → i < j → j < n → f i < f j
-
-rising-least : {n : ℕ} (f : ℕ → ℕ) → Rising n f → (j : ℕ) → j < n → j ≤ f j
-rising-least f r zero l = omega arith
-rising-least f r (suc j) l = omega (arith, rising-least f r j (omega arith), r j (suc j) (omega arith) l)
-
-module _ {n : ℕ} {σ : ℕ → ℕ} (p : Permutation n σ) (rises : Rising n σ) where
-  origin-rises : Rising n (p .origin)
-  origin-rises i j l h =
-      let a = p .of-origin i (omega arith) in
-      let b = p .of-origin j h in
-      ⊎-elim (λ k. k)
-      (λ k. ⊎-elim (λ e. absurd (omega (arith, a, b, ap σ e))) (λ k. absurd (omega (arith, a, b, rises (p .origin j) (p .origin i) k (p .origin-inside i (omega arith))))) (eq-or-lt-of-le k))
-      (lt-or-le (p .origin i) (p .origin j))
-
-  pub moves-nothing : (j : ℕ) → j < n → σ j ≡ j
-  moves-nothing j l =
-      let a = rising-least (p .origin) origin-rises j l in
-      let b = rising-least σ rises (p .origin j) (p .origin-inside j l) in
-      let e : p .origin j ≡ j = omega (arith, a, b, p .of-origin j l) in
-      sym (ap σ e) ∙ p .of-origin j l
-
--- ---- at most one order is valid
+use Rattle.any_order.proofs.Permutations.{Rising, moves-nothing}
+use Rattle.any_order.proofs.Reordered.{same-head, same-band, same-recovery, shape-is}
 
 ascends : {v : List ℤ} → Ascending v → (i d : ℕ) → i + suc d < boxes v → precedes (vars v) (unsafeBox v i) (unsafeBox v (i + suc d)) ≡ true
 unfolding ascendsAt

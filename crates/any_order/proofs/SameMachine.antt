@@ -9,16 +9,16 @@ use Rattle.sheet_spec.specs.Limits.{maxRecoverySide}
 use Rattle.sheet_spec.specs.Slots.{_!_, varsSlot, bandsSlot, bandVarSlot, edgeInBand, leastInBand, greatestInBand, bInRest, cInRest, dInRest, qInRest, restSize, recoverySlot, vars, bands, edge, row, recoveryBox}
 use Rattle.sheet_spec.specs.Layout.{_▸_, headFields, rowRest, rowFields, bandFields, sideFields}
 use Rattle.sheet_spec.specs.Valid.{ValidNumbers}
-use Rattle.sheet_spec.specs.Reordered.{Reordered}
+use Rattle.any_order.specs.Reordered.{Reordered}
 use Rattle.sheet_spec.proofs.Box.{box-lo, box-hi, box-length}
 use Rattle.sheet_spec.proofs.Streams.{each-low, each-high}
 use Rattle.sheet_spec.proofs.Records.{each-cap, each-row, each-side}
 use Rattle.sheet_spec.proofs.Places.{edge-slot}
-use Rattle.sheet_spec.proofs.Reordered.{same-head, same-number, same-band, same-recovery}
+use Rattle.any_order.proofs.Reordered.{same-head, same-number, same-band, same-recovery}
 use Rattle.machine_spec.specs.Box.{side}
 use Rattle.machine_spec.specs.Machine.{safetyEnd}
-use Rattle.machine_spec.proofs.Alike.{AlikeBoxes, AlikeRows, AlikeSheets}
+use Rattle.any_order.proofs.Rates.{AlikeBoxes, AlikeRows, AlikeSheets}
 use Rattle.machine_spec.proofs.Facts.{room}
 
 module _ {σ : ℕ → ℕ} {v w : List ℤ} (o : Reordered σ v w) where
   rows-alike : (k i : ℕ) → k < bands v → i < vars v → AlikeRows (vars v) (row v k i) (row w k i)

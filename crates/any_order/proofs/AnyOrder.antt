@@ -11,21 +11,22 @@ use Rattle.sheet_spec.specs.Slots.{boxesSlot, δSlot, αSlot, ρSlot, vars, box
 use Rattle.sheet_spec.specs.Layout.{_▸_, headFields}
 use Rattle.sheet_spec.specs.Box.{any, meets}
 use Rattle.sheet_spec.specs.Valid.{ValidNumbers}
-use Rattle.sheet_spec.specs.Reordered.{Reordered}
+use Rattle.any_order.specs.Reordered.{Reordered}
 use Rattle.sheet_spec.proofs.Box.{meets-same}
-use Rattle.sheet_spec.proofs.Reordered.{any-moved, same-number}
+use Rattle.any_order.proofs.Permutations.{any-moved}
+use Rattle.any_order.proofs.Reordered.{same-number}
 use Rattle.machine_spec.specs.Box.{within}
 use Rattle.machine_spec.specs.declared.Law.{Law}
 use Rattle.machine_spec.specs.declared.Law.the-variants.{Baseline}
-use Rattle.machine_spec.proofs.Alike.{AlikeBoxes, alike-refl}
-use Rattle.machine_spec.proofs.Reordered.{same-machine, same-recovery-box}
+use Rattle.any_order.proofs.Rates.{AlikeBoxes, alike-refl}
+use Rattle.any_order.proofs.SameMachine.{same-machine, same-recovery-box}
 use Rattle.boxes_spec.specs.Step.{Result}
 use Rattle.boxes_spec.specs.Reach.{clear}
-use Rattle.boxes_spec.proofs.Alike.{within-same, Agree, values, failures, ends, agree-then, agree-if, reach-same}
+use Rattle.any_order.proofs.Reaches.{within-same, Agree, values, failures, ends, agree-then, agree-if, reach-same}
 use Rattle.decision_spec.specs.declared.Phase.{Phase}
 use Rattle.decision_spec.specs.Decision.{phase, finish, follow, attempt, attempts, finest, Reply, answered, lastReply, decisionPhases, decisionOf, recoveryPhases, recoveryOf}
-use Rattle.decision_spec.specs.AnyOrder.{AnyOrder}
+use Rattle.any_order.specs.AnyOrder.{AnyOrder}
 use Rattle.decision_spec.proofs.Attempts.{outcome, replyFrom, reply-none, reply-turn}
 
 -- ---- the attempts at ever smaller widths
 
@@ -55,7 +56,7 @@ module _ {σ : ℕ → ℕ} {v w : List ℤ} (wf : ValidNumbers v) (wf′ : Vali
   unfolding clear headFields _▸_
   clear-same B =
       ap not
-      (any-moved (o .permutation) (λ j. meets (vars v) B (unsafeBox v j)) (λ j. meets (vars v) B (unsafeBox w j)) (λ j h. meets-same (vars v) B (o .moved j h))
+      (any-moved (o .permutation) (λ j. meets (vars v) B (unsafeBox v j)) (λ j. meets (vars v) B (unsafeBox w j)) (λ j h. meets-same (vars v) B (o .moved j (omega arith)))
       ∙ ap₂ (λ (n count : ℕ). any count (λ j. meets n B (unsafeBox w j))) vars-same (ap natAbs (same-number o boxesSlot (omega arith))))
 
   module _ (limited : Bool) (allowance width : ℕ) where

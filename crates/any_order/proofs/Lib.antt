@@ -1,0 +1,9 @@
+pub mod Permutations
+pub mod Reordered
+pub mod Rates
+pub mod SameMachine
+pub mod Reaches
+pub mod AnyOrder
+pub mod OneOrder
+pub mod EveryOrder
+pub mod SomeOrder

@@ -1,0 +1,3 @@
+pub mod Reordered
+pub mod AnyOrder
+pub mod OneOrder

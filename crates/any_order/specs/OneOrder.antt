@@ -1,0 +1,40 @@
+-- Of all orders of a sheet's no-go boxes just one is valid, if no two boxes are equal (document 02, paper 2). proofs/OneOrder and proofs/SomeOrder
+-- prove it.
+use mathlib.Core.Path.{_≡_}
+use mathlib.Core.List.{List}
+use Prim.Native.Nat.{ℕ, _<_}
+use lib.IntN.{ℤ}
+use Rattle.sheet_spec.specs.Slots.{vars, boxes, unsafeBox}
+use Rattle.sheet_spec.specs.Box.{SameSides}
+use Rattle.sheet_spec.specs.Valid.{ValidNumbers, Valid}
+use Rattle.sheet_spec.specs.Sheet.{bytesOf, Same}
+use Rattle.any_order.specs.Reordered.{Permutation, Reordered}
+
+-- at most one: two that are valid are the same sheet and have the same bytes. So two prints of one machine are equal
+abbrev pub OneOrder : Type 0
+OneOrder = (σ : ℕ → ℕ) (v w : List ℤ) → Valid v → Valid w → Reordered σ v w → Same v w × (bytesOf v ≡ bytesOf w)
+
+-- no two no-go boxes are equal
+pub record Distinct (v : List ℤ) : Type 0 where
+  pub apart : (i j : ℕ) → i < j → j < boxes v → SameSides (vars v) (unsafeBox v i) (unsafeBox v j) → ⊥
+
+-- a valid sheet that has v's no-go boxes, box j as box `place j`
+pub record InOrder (v : List ℤ) : Type 0 where
+  pub sheet : List ℤ
+  pub place : ℕ → ℕ
+  pub reordered : Reordered place v sheet
+  pub valid : Valid sheet
+
+-- at least one: boxes that all differ can be put in order. So no machine is left without a sheet
+abbrev pub SomeOrder : Type 0
+SomeOrder = (v : List ℤ) → ValidNumbers v → Distinct v → InOrder v
+
+-- a value in another order
+pub record Rearranged (σ : ℕ → ℕ) (v : List ℤ) : Type 0 where
+  pub sheet : List ℤ
+  pub numbers : ValidNumbers sheet
+  pub reordered : Reordered σ v sheet
+
+-- and every order of the boxes is one that some value has, so that `AnyOrder` speaks of all
+abbrev pub EveryOrder : Type 0
+EveryOrder = (σ : ℕ → ℕ) (v : List ℤ) → ValidNumbers v → Permutation (boxes v) σ → Rearranged σ v
