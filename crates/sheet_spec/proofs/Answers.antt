@@ -2,7 +2,7 @@
 use mathlib.Core.Path.{_≡_, refl, sym, ap, _∙_}
 use mathlib.Core.Bool.{Bool, true, false, _&&_}
 use mathlib.Core.List.{List}
-use Prim.Native.Nat.{ℕ, _+_, _≤_, _<_}
+use Prim.Native.Nat.{ℕ, zero, suc, _+_, _≤_, _<_}
 use native.Mathlib.Omega.{arith}
 use lib.Dec.{leb}
 use lib.IntN.{ℤ}
@@ -14,8 +14,9 @@ use Rattle.sheet_spec.specs.Refusals.{Cause, number, refuseUnless, unles
 use Rattle.sheet_spec.specs.Fields.{bad, test}
 use Rattle.sheet_spec.specs.Sizes.{capsAt}
 use Rattle.sheet_spec.specs.declared.Record.the-variants.{Head}
+use Rattle.sheet_spec.specs.declared.Shape.{Shape}
 use Rattle.sheet_spec.specs.Layout.{_▸_, headFields, fields}
-use Rattle.sheet_spec.specs.File.{shape, records, recordAt, recordStart, marked, markedAt, badRecord, badAll}
+use Rattle.sheet_spec.specs.File.{shape, records, recordAt, recordStart, marked, markedAt, closing, badNumbers, badRecord, badAll}
 use Rattle.sheet_spec.specs.Sheet.{headOf, shapeOf, contents, stage, stages, refusal, valueRefusal, length-of, bytesOf, writeRefusal, written}
 use Rattle.sheet_spec.proofs.Laws.{goes-on, stops, first-next, first-keep, number-is}
 
@@ -57,13 +58,19 @@ module _ (f : List ℕ) where
 
 -- ---- writing
 
+-- the head as a whole is not refused, so its fields decide
+head-numbers : (v : List ℤ) (s : Shape) (c : ℕ) → bad headFields v (headSize + s .vars) ≡ c → badNumbers v s Head ≡ c
+unfolding fields closing unlessRefused
+head-numbers v s zero e = rw e refl
+head-numbers v s (suc c) e = rw e refl
+
 -- a bad number of the head decides before the counts count
 pub value-head : (v : List ℤ) (c : ℕ) → c ≡ bad headFields v headSize → (c ≡ 0 → ⊥) → c ≡ valueRefusal v
 unfolding valueRefusal badAll bad fields recordAt _▸_ firstRefusal unlessRefused
 value-head v c e n =
     let s = shape v in
     let d = first-keep (λ j. test v (headFields j)) headSize (headSize + vars v) c (omega arith) n (sym e) in
-    first-keep (badRecord (λ r. true) s v) 1 (records s) c (omega arith) n (first-next (badRecord (λ r. true) s v) 0 c refl (d ∙ sym (stops (λ c. c) _ (λ z. n (d ∙ z)))))
+    first-keep (badRecord (λ r. true) s v) 1 (records s) c (omega arith) n (first-next (badRecord (λ r. true) s v) 0 c refl (sym (head-numbers v s c (sym d))))
 
 -- a buffer of k bytes has no room for n, or has room
 no-room : (n k : ℕ) → k < n → number Cause.room ≡ refuseUnless (leb n k) Cause.room

@@ -45,8 +45,9 @@ unfolding badAll
 all-most marks s v =
     first-most (badRecord marks s v)
     (λ r.
-    either-most _ _ (unless-most (marks r) Cause.mark)
-    (either-most _ _ (bad-most (fieldsAt s r) v (fieldCountAt s r)) (closing-most v s (recordAt s r))))
+    let p = bad-most (fieldsAt s r) v (fieldCountAt s r) in
+    let q = closing-most v s (recordAt s r) in
+    either-most _ _ (unless-most (marks r) Cause.mark) (either-most _ _ (omega (arith, p, q)) (omega (arith, p, q))))
 
 stage-most : (f : List ℕ) (i : ℕ) → stage f i ≤ greatestNumber
 unfolding stage

@@ -3,6 +3,7 @@ use mathlib.Core.Path.{_≡_, refl, sym, ap, _∙_}
 use mathlib.Core.Bool.{Bool, true, _&&_}
 use mathlib.Core.List.{List}
 use Prim.Native.Nat.{ℕ, _<_}
+use native.Mathlib.Omega.{arith}
 use lib.IntN.{ℤ}
 use lib.Signed.{leZ, _≤ℤ_, _<ℤ_}
 use Rattle.integers.proofs.Z.{le-true}
@@ -68,10 +69,11 @@ module _ (marks : ℕ → Bool) (s : Shape) (v : List ℤ) (k : ℕ) where
     pub mark-right : marks r ≡ true
     mark-right = unless-zero (marks r) Cause.mark (passed .0)
 
+    -- by facts on numbers, whichever of its two tests comes first
     record-good : Good v s (recordAt s r)
     record-good =
-        let b = none-either (bad (fieldsAt s r) v (fieldCountAt s r)) (closing v s (recordAt s r)) (passed .1) in
-        record { ranges = bad-ranges (fieldsAt s r) v (fieldCountAt s r) (b .0); closed = b .1 }
+        let b = none-either _ _ (passed .1) in
+        record { ranges = bad-ranges (fieldsAt s r) v (fieldCountAt s r) (omega (arith, b .0, b .1)); closed = omega (arith, b .0, b .1) }
 
   pub all-good : badAll marks s v k ≡ 0 → Each (Good v s) (recordAt s) k
   all-good e = record { at = record-good e }
@@ -81,8 +83,9 @@ module _ (marks : ℕ → Bool) (s : Shape) (v : List ℤ) (k : ℕ) where
   good-all m g =
       none-first (badRecord marks s v) k (record {
         at = λ r l.
-            goes-on (λ c. c) _ (ap (λ (b : Bool). refuseUnless b Cause.mark) (m r l))
-            ∙ goes-on (λ c. c) _ (ranges-bad (fieldsAt s r) v (fieldCountAt s r) (g .at r l .ranges)) ∙ g .at r l .closed;
+            let p = ranges-bad (fieldsAt s r) v (fieldCountAt s r) (g .at r l .ranges) in
+            let q = g .at r l .closed in
+            goes-on (λ c. c) _ (ap (λ (b : Bool). refuseUnless b Cause.mark) (m r l)) ∙ goes-on (λ c. c) _ (omega (arith, p, q)) ∙ omega (arith, p, q);
       })
 
 -- every number of a sheet, up to its counts, lies in its range; every record is good
