@@ -9,10 +9,12 @@ use native.Mathlib.Omega.{arith}
 use lib.IntN.{ℤ}
 use Rattle.sheet_spec.specs.Slots.{vars, boxes, unsafeBox}
 use Rattle.sheet_spec.specs.Order.{precedes, ascendsAt}
-use Rattle.sheet_spec.specs.Valid.{ValidNumbers, Ascending}
+use Rattle.sheet_spec.specs.Valid.{ValidNumbers, Ascending, Valid}
 use Rattle.sheet_spec.specs.declared.Shape.{Shape}
 use Rattle.sheet_spec.proofs.Box.{is-false}
 use Rattle.sheet_spec.proofs.Order.{not-itself, precedes-then, precedes-sides, either-way}
+use Rattle.sheet_spec.proofs.Validity.{valid-accepted}
+use Rattle.sheet_spec.proofs.RoundTrip.{read-write}
 use Rattle.any_order.specs.Reordered.{Reordered}
 use Rattle.any_order.specs.OneOrder.{Distinct, SomeOrder}
 use Rattle.any_order.proofs.Permutations.{StrictOrder, rank, ranked, ranked-before}
@@ -56,4 +58,5 @@ pub some-order : SomeOrder
 some-order v wf d =
     let s = strict v d in
     let r = every-order (rank s) v wf (ranked s) in
-    record { sheet = r .sheet; place = rank s; reordered = r .reordered; valid = record { numbers = r .numbers; order = placed-ascends v d (r .sheet) (r .reordered) } }
+    let a : Valid (r .sheet) = record { numbers = r .numbers; order = placed-ascends v d (r .sheet) (r .reordered) } in
+    record { sheet = r .sheet; place = rank s; reordered = r .reordered; valid = a; accepted = read-write (r .sheet) (valid-accepted a) .0 }

@@ -7,7 +7,7 @@ use lib.IntN.{ℤ}
 use Rattle.sheet_spec.specs.Slots.{vars, boxes, unsafeBox}
 use Rattle.sheet_spec.specs.Box.{SameSides}
 use Rattle.sheet_spec.specs.Valid.{ValidNumbers, Valid}
-use Rattle.sheet_spec.specs.Sheet.{bytesOf, Same}
+use Rattle.sheet_spec.specs.Sheet.{refusal, bytesOf, Same}
 use Rattle.any_order.specs.Reordered.{Permutation, Reordered}
 
 -- at most one: two that are valid are the same sheet and have the same bytes. So two prints of one machine are equal
@@ -18,12 +18,13 @@ OneOrder = (σ : ℕ → ℕ) (v w : List ℤ) → Valid v → Valid w → Reord
 pub record Distinct (v : List ℤ) : Type 0 where
   pub apart : (i j : ℕ) → i < j → j < boxes v → SameSides (vars v) (unsafeBox v i) (unsafeBox v j) → ⊥
 
--- a valid sheet that has v's no-go boxes, box j as box `place j`
+-- a valid sheet that has v's no-go boxes, box j as box `place j`, and whose bytes the reader accepts
 pub record InOrder (v : List ℤ) : Type 0 where
   pub sheet : List ℤ
   pub place : ℕ → ℕ
   pub reordered : Reordered place v sheet
   pub valid : Valid sheet
+  pub accepted : refusal (bytesOf sheet) ≡ 0
 
 -- at least one: boxes that all differ can be put in order. So no machine is left without a sheet
 abbrev pub SomeOrder : Type 0

@@ -11,6 +11,7 @@ pub mod Filled
 pub mod Ranges
 pub mod Accepted
 pub mod Valid
+pub mod Validity
 pub mod Answers
 pub mod Length
 pub mod Numbers

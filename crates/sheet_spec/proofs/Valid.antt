@@ -90,7 +90,7 @@ module _ (v : List ℤ) (g : AllInRange v) where
   edge-high zero l = omega (ints, edge-at 0 l .high)
   edge-high (suc k) l = edge-at (suc k) l .high
 
-  numbers-of : length v ≡ slots → ((i : ℕ) → SFits w32 (v ! i)) → ValidNumbers v
+  pub numbers-of : length v ≡ slots → ((i : ℕ) → SFits w32 (v ! i)) → ValidNumbers v
   unfolding headFields bandFields edgeField _▸_
   numbers-of size fits =
       let h = each-head (shape v) g in
@@ -108,7 +108,7 @@ module _ (v : List ℤ) (g : AllInRange v) where
         fits = fits;
         head = head-pos;
         vars-low = abs-in (v ! varsSlot) n .0;
-        vars-high = abs-in (v ! varsSlot) n .1;
+        vars-high = omega (arith, abs-in (v ! varsSlot) n .1);
         bands-low = abs-in (v ! bandsSlot) b .0;
         bands-high = abs-in (v ! bandsSlot) b .1;
         boxes-low = abs-in (v ! boxesSlot) c .0;
@@ -118,7 +118,7 @@ module _ (v : List ℤ) (g : AllInRange v) where
         α-low = omega (ints, abs-is αSlot (omega arith), a .low);
         sum-high = omega (ints, abs-is δSlot (omega arith), abs-is αSlot (omega arith), simp flat at (a .high));
         ρ-low = abs-in (v ! ρSlot) r .0;
-        ρ-high = abs-in (v ! ρSlot) r .1;
+        ρ-high = omega (arith, abs-in (v ! ρSlot) r .1);
         commands = u .low;
         commands-low = l .low;
         commands-high = u .high;
@@ -135,12 +135,12 @@ module _ (v : List ℤ) (g : AllInRange v) where
       }
 
 -- the no-go boxes of a sheet whose records are good ascend
-ascending : (v : List ℤ) → AllGood v → Ascending v
+pub ascending : (v : List ℤ) → AllGood v → Ascending v
 unfolding closing orderTest
 ascending v g = record {
   at = λ j l.
       let s = shape v in
-      let c = subst (λ (x : Record). closing v s x ≡ 0) (unsafe-at s (suc j) l) (g .at (1 + (s .bands + suc j)) (omega arith) .closed) in
+      let c = subst (λ (x : Record). closing v s x ≡ 0) (unsafe-at s (suc j) (omega arith)) (g .at (1 + (s .bands + suc j)) (omega arith) .closed) in
       unless-zero (ascendsAt (s .vars) v j) Cause.order c;
 }
 
