@@ -124,18 +124,28 @@ noGo l h = 78 ∷ 71 ∷ encoded i32 l ++ encoded i32 h
 pub withBoxes : ℕ → List ℕ → List ℕ
 withBoxes count records = sets headA 4 (count ∷ []) ++ (bandA ++ (records ++ drop 10 boxesA))
 
+pub ascending : refusal (withBoxes 2 (noGo (negsuc 199) (negsuc 149) ++ noGo (pos 130) (pos 140))) ≡ 0
+unfolding everything withBoxes noGo
+ascending = refl
+
+pub equalBoxes : refusal (withBoxes 2 (noGo (pos 130) (pos 140) ++ noGo (pos 130) (pos 140))) ≡ number Cause.order
+unfolding everything withBoxes noGo
+equalBoxes = refl
+
+-- a record's own sides come before its order
+pub sideFirst : refusal (withBoxes 2 (noGo (pos 130) (pos 140) ++ noGo (pos 120) (pos 119))) ≡ number Cause.side
+unfolding everything withBoxes noGo
+sideFirst = refl
+
 pub ordered : List (List ℕ × ℕ)
 ordered =
-    (withBoxes 2 (noGo (negsuc 199) (negsuc 149) ++ noGo (pos 130) (pos 140)), 0)
-    ∷ (withBoxes 2 (noGo (pos 130) (pos 140) ++ noGo (negsuc 199) (negsuc 149)), 20)
+    (withBoxes 2 (noGo (pos 130) (pos 140) ++ noGo (negsuc 199) (negsuc 149)), 20)
     ∷ (withBoxes 2 (noGo (pos 130) (pos 140) ++ noGo (pos 130) (pos 141)), 0)
     ∷ (withBoxes 2 (noGo (pos 130) (pos 141) ++ noGo (pos 130) (pos 140)), 20)
-    -- equal boxes
-    ∷ (withBoxes 2 (noGo (pos 130) (pos 140) ++ noGo (pos 130) (pos 140)), 20)
+    -- the last two are equal
     ∷ (withBoxes 3 (noGo (pos 130) (pos 140) ++ (noGo (pos 130) (pos 141) ++ noGo (pos 130) (pos 141))), 20)
-    -- after the record's own mark and sides
+    -- after the record's own mark
     ∷ (withBoxes 2 (noGo (pos 130) (pos 140) ++ (78 ∷ 72 ∷ drop 2 (noGo (pos 120) (pos 140)))), 7)
-    ∷ (withBoxes 2 (noGo (pos 130) (pos 140) ++ noGo (pos 120) (pos 119)), 11)
     -- before the next record's
     ∷ (withBoxes 3 (noGo (pos 130) (pos 140) ++ (noGo (pos 120) (pos 140) ++ (78 ∷ 72 ∷ drop 2 (noGo (pos 150) (pos 160))))), 20)
     ∷ (withBoxes 3 (noGo (pos 130) (pos 140) ++ (noGo (pos 120) (pos 140) ++ noGo (pos 160) (pos 150))), 20)
