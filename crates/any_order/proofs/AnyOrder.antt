@@ -6,27 +6,26 @@ use mathlib.Core.List.{List, [], _∷_}
 use Prim.Native.Nat.{ℕ, zero, suc, _/_, max}
 use native.Mathlib.Omega.{arith}
 use lib.Dec.{leb}
-use lib.IntN.{ℤ, natAbs}
-use Rattle.sheet_spec.specs.Slots.{boxesSlot, δSlot, αSlot, ρSlot, vars, boxes, δ, α, ρ, unsafeBox, recoveryBox}
-use Rattle.sheet_spec.specs.Layout.{_▸_, headFields}
+use lib.IntN.{ℤ}
+use Rattle.sheet_spec.specs.Slots.{δSlot, αSlot, ρSlot, vars, boxes, δ, α, ρ, unsafeBox, recoveryBox}
 use Rattle.sheet_spec.specs.Box.{any, meets}
 use Rattle.sheet_spec.specs.Valid.{ValidNumbers}
-use Rattle.any_order.specs.Reordered.{Reordered}
 use Rattle.sheet_spec.proofs.Box.{meets-same}
-use Rattle.any_order.proofs.Permutations.{any-moved}
-use Rattle.any_order.proofs.Reordered.{same-number}
 use Rattle.machine_spec.specs.Box.{within}
 use Rattle.machine_spec.specs.declared.Law.{Law}
 use Rattle.machine_spec.specs.declared.Law.the-variants.{Baseline}
-use Rattle.any_order.proofs.Rates.{AlikeBoxes, alike-refl}
-use Rattle.any_order.proofs.SameMachine.{same-machine, same-recovery-box}
 use Rattle.boxes_spec.specs.Step.{Result}
 use Rattle.boxes_spec.specs.Reach.{clear}
-use Rattle.any_order.proofs.Reaches.{within-same, Agree, values, failures, ends, agree-then, agree-if, reach-same}
 use Rattle.decision_spec.specs.declared.Phase.{Phase}
 use Rattle.decision_spec.specs.Decision.{phase, finish, follow, attempt, attempts, finest, Reply, answered, lastReply, decisionPhases, decisionOf, recoveryPhases, recoveryOf}
-use Rattle.any_order.specs.AnyOrder.{AnyOrder}
 use Rattle.decision_spec.proofs.Attempts.{outcome, replyFrom, reply-none, reply-turn}
+use Rattle.any_order.specs.Reordered.{Reordered}
+use Rattle.any_order.specs.AnyOrder.{AnyOrder}
+use Rattle.any_order.proofs.Permutations.{any-moved}
+use Rattle.any_order.proofs.Reordered.{same-count, vars-same, boxes-same}
+use Rattle.any_order.proofs.Rates.{AlikeBoxes, alike-refl}
+use Rattle.any_order.proofs.SameMachine.{same-machine, same-recovery-box}
+use Rattle.any_order.proofs.Reaches.{within-same, Agree, values, failures, ends, agree-then, agree-if, reach-same}
 
 -- ---- the attempts at ever smaller widths
 
@@ -48,16 +47,13 @@ module _ {n : ℕ} (f g : ℕ → ℕ → Result (List ℤ)) (same : (w c : ℕ)
 -- ---- two sheets
 
 module _ {σ : ℕ → ℕ} {v w : List ℤ} (wf : ValidNumbers v) (wf′ : ValidNumbers w) (o : Reordered σ v w) where
-  vars-same : vars v ≡ vars w
-  vars-same = same-machine o wf .vars-same
-
   -- the test of a swept box
   clear-same : (B : List ℤ) → clear (vars v) v (boxes v) B ≡ clear (vars w) w (boxes w) B
-  unfolding clear headFields _▸_
+  unfolding clear
   clear-same B =
       ap not
       (any-moved (o .permutation) (λ j. meets (vars v) B (unsafeBox v j)) (λ j. meets (vars v) B (unsafeBox w j)) (λ j h. meets-same (vars v) B (o .moved j (omega arith)))
-      ∙ ap₂ (λ (n count : ℕ). any count (λ j. meets n B (unsafeBox w j))) vars-same (ap natAbs (same-number o boxesSlot (omega arith))))
+      ∙ ap₂ (λ (n count : ℕ). any count (λ j. meets n B (unsafeBox w j))) (vars-same o) (boxes-same o))
 
   module _ (limited : Bool) (allowance width : ℕ) where
     follow-same : (ps : List Phase) {S T : List ℤ} (c : ℕ) → AlikeBoxes (vars v) S T → Agree (AlikeBoxes (vars v)) (follow limited allowance v width ps S c) (follow limited allowance w width ps T c)
@@ -69,37 +65,25 @@ module _ {σ : ℕ → ℕ} {v w : List ℤ} (wf : ValidNumbers v) (wf′ : Vali
     finish-same : {E F : List ℤ} (c : ℕ) → AlikeBoxes (vars v) E F → Agree (AlikeBoxes (vars v)) (finish v E c) (finish w F c)
     unfolding finish
     finish-same {F} c e =
-        agree-if (within-same e (same-recovery-box o wf wf′) ∙ ap (λ (n : ℕ). within n F (recoveryBox w)) vars-same) (values e) failures
+        agree-if (within-same e (same-recovery-box o wf wf′) ∙ ap (λ (n : ℕ). within n F (recoveryBox w)) (vars-same o)) (values e) failures
 
     attempt-same : (ps : List Phase) {S T : List ℤ} (c : ℕ) → AlikeBoxes (vars v) S T → Agree (AlikeBoxes (vars v)) (attempt limited allowance v width ps S c) (attempt limited allowance w width ps T c)
     unfolding attempt
     attempt-same ps c e = agree-then (follow-same ps c e) (λ E F c′ e. finish-same c′ e)
-
-  δ-same : δ v ≡ δ w
-  unfolding headFields _▸_
-  δ-same = ap natAbs (same-number o δSlot (omega arith))
-
-  α-same : α v ≡ α w
-  unfolding headFields _▸_
-  α-same = ap natAbs (same-number o αSlot (omega arith))
-
-  ρ-same : ρ v ≡ ρ w
-  unfolding headFields _▸_
-  ρ-same = ap natAbs (same-number o ρSlot (omega arith))
 
   decision-same : (B : List ℤ) (l : Law) (allowance : ℕ) → decisionOf v B l allowance ≡ decisionOf w B l allowance
   unfolding decisionOf decisionPhases
   decision-same B l allowance =
       let at : ℕ → ℕ → ℕ → ℕ → Result (List ℤ) = λ d a width c. attempt true allowance w width (phase l d ∷ phase Baseline a ∷ []) B c in
       reply-same _ (at (δ v) (α v)) (λ width c. attempt-same true allowance width (decisionPhases v l) c (alike-refl B)) (max (δ v) (α v)) (max (δ v) (α v)) 0
-      ∙ ap₂ (λ (d a : ℕ). lastReply (attempts (at d a) (max d a) (max d a) 0)) δ-same α-same
+      ∙ ap₂ (λ (d a : ℕ). lastReply (attempts (at d a) (max d a) (max d a) 0)) (same-count o δSlot (omega arith)) (same-count o αSlot (omega arith))
 
   recovery-same : recoveryOf v ≡ recoveryOf w
   unfolding recoveryOf recoveryPhases
   recovery-same =
       let at : ℕ → ℕ → ℕ → Result (List ℤ) = λ r width c. attempt false 0 w width (phase Baseline r ∷ []) (recoveryBox w) c in
       reply-same _ (at (ρ v)) (λ width c. attempt-same false 0 width (recoveryPhases v) c (same-recovery-box o wf wf′)) (ρ v) (ρ v) 0
-      ∙ ap (λ (r : ℕ). lastReply (attempts (at r) r r 0)) ρ-same
+      ∙ ap (λ (r : ℕ). lastReply (attempts (at r) r r 0)) (same-count o ρSlot (omega arith))
 
 pub any-order : AnyOrder
 any-order σ v w wf wf′ o = record { recovery = recovery-same wf wf′ o; decision = decision-same wf wf′ o }

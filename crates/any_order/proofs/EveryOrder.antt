@@ -1,7 +1,7 @@
 -- For every permutation of a sheet's no-go boxes there is a value that has them in that order (specs/OneOrder, `EveryOrder`): the numbers of the
 -- sheet, each no-go box taken from where it stood. Assumes nothing.
 use mathlib.Core.Path.{_≡_, refl, sym, ap, _∙_, subst}
-use mathlib.Core.Bool.{true, false}
+use mathlib.Core.Bool.{false}
 use mathlib.Core.List.{List, [], _∷_}
 use mathlib.Core.Logic.{⊎-elim}
 use Prim.Native.Nat.{ℕ, zero, suc, _+_, _*_, _≤_, _<_}
@@ -13,19 +13,18 @@ use mir.Val.{SFits}
 use Rattle.integers.proofs.Z.{ints}
 use Rattle.sheet_spec.specs.Limits.{maxBoxes, maxRecoverySide, maxUnsafeSide}
 use Rattle.sheet_spec.specs.Slots.{_!_, N, boxSize, slots, varsSlot, bandsSlot, boxesSlot, bandVarSlot, δSlot, αSlot, ρSlot, leastSlot, greatestSlot, capSlot, bandSize, leastInBand, greatestInBand, bandSlot, recoverySlot, unsafeSlot, vars, bands, boxes, row, unsafeBox}
-use Rattle.sheet_spec.specs.Box.{lo, hi, SameSides}
+use Rattle.sheet_spec.specs.Box.{SameSides}
 use Rattle.sheet_spec.specs.Valid.{Between, ValidRow, ValidBox, ValidNumbers}
 use Rattle.sheet_spec.specs.Layout.{first, groups, fields, fieldCount}
 use Rattle.sheet_spec.specs.File.{shape, Small, records, recordAt, fieldsAt, fieldCountAt}
 use Rattle.sheet_spec.specs.declared.Shape.{Shape}
-use Rattle.sheet_spec.specs.declared.Record.{Record}
-use Rattle.sheet_spec.specs.declared.Record.the-variants.{Head, Band, Unsafe, Recovery}
+use Rattle.sheet_spec.specs.declared.Record.the-variants.{Head, Band, Recovery}
 use Rattle.sheet_spec.proofs.Streams.{first-low, first-after, groups-at, lt-or-le}
 use Rattle.sheet_spec.proofs.Box.{differ, box-lo, box-hi}
 use Rattle.sheet_spec.proofs.Records.{record-cases}
 use Rattle.sheet_spec.proofs.Places.{spread-record}
-use Rattle.any_order.specs.Reordered.{Permutation, isUnsafe, Reordered}
-use Rattle.any_order.specs.OneOrder.{Rearranged, EveryOrder}
+use Rattle.any_order.specs.Reordered.{isUnsafe}
+use Rattle.any_order.specs.OneOrder.{EveryOrder}
 
 -- ---- a list by its numbers
 
@@ -58,35 +57,35 @@ box-kept n low high b = record {
 
 module _ (from : ℕ → ℕ) (v : List ℤ) where
   -- the slot of v whose number stands in slot i
-  unfoldable source : ℕ → ℕ
-  source = first (unsafeSlot 0) (λ i. i) (groups boxSize (λ j q. unsafeSlot (from j) + q))
+  unfoldable movedFrom : ℕ → ℕ
+  movedFrom = first (unsafeSlot 0) (λ i. i) (groups boxSize (λ j q. unsafeSlot (from j) + q))
 
   unfoldable arranged : List ℤ
-  arranged = listed slots (λ i. v ! source i)
+  arranged = listed slots (λ i. v ! movedFrom i)
 
-  arranged-at : (i : ℕ) → i < slots → arranged ! i ≡ v ! source i
+  arranged-at : (i : ℕ) → i < slots → arranged ! i ≡ v ! movedFrom i
   unfolding arranged
-  arranged-at = listed-at slots (λ i. v ! source i)
+  arranged-at = listed-at slots (λ i. v ! movedFrom i)
 
   arranged-length : length arranged ≡ slots
   unfolding arranged
-  arranged-length = listed-length slots (λ i. v ! source i)
+  arranged-length = listed-length slots (λ i. v ! movedFrom i)
 
   -- up to the no-go boxes nothing is moved
   arranged-below : (i : ℕ) → i < unsafeSlot 0 → arranged ! i ≡ v ! i
-  unfolding source
+  unfolding movedFrom
   arranged-below i l = arranged-at i (omega arith) ∙ ap (λ (s : ℕ). v ! s) (first-low (unsafeSlot 0) _ _ i l)
 
   arranged-side : (j q : ℕ) → j < maxBoxes → q < boxSize → arranged ! (unsafeSlot j + q) ≡ v ! (unsafeSlot (from j) + q)
-  unfolding source
+  unfolding movedFrom
   arranged-side j q l h =
       let e : unsafeSlot j + q ≡ unsafeSlot 0 + (j * boxSize + q) = omega arith in
       arranged-at (unsafeSlot j + q) (omega arith)
-      ∙ ap (λ (s : ℕ). v ! s) (ap source e ∙ first-after (unsafeSlot 0) _ _ (j * boxSize + q) ∙ groups-at boxSize _ j q h)
+      ∙ ap (λ (s : ℕ). v ! s) (ap movedFrom e ∙ first-after (unsafeSlot 0) _ _ (j * boxSize + q) ∙ groups-at boxSize _ j q h)
 
   arranged-fits : ValidNumbers v → (i : ℕ) → SFits w32 (arranged ! i)
   arranged-fits wf i =
-      ⊎-elim (λ (l : i < slots). subst (SFits w32) (sym (arranged-at i l)) (wf .fits (source i)))
+      ⊎-elim (λ (l : i < slots). subst (SFits w32) (sym (arranged-at i l)) (wf .fits (movedFrom i)))
       (λ (l : slots ≤ i).
       subst (SFits w32) (List·getD-eq-default v (pos 0) {n = i} (omega (arith, wf .size)) ∙ sym (List·getD-eq-default arranged (pos 0) {n = i} (omega (arith, arranged-length)))) (wf .fits i))
       (lt-or-le i slots)

@@ -18,15 +18,15 @@ use Rattle.sheet_spec.specs.declared.Shape.{Shape}
 use Rattle.sheet_spec.specs.Layout.{_▸_, sideFields, boxFields, mark, boxCount}
 use Rattle.sheet_spec.specs.File.{shape, records, recordAt, fieldsAt, fieldCountAt, codedAll}
 use Rattle.sheet_spec.specs.Sheet.{bytesOf}
-use Rattle.any_order.specs.Reordered.{Reordered}
-use Rattle.any_order.specs.OneOrder.{OneOrder}
 use Rattle.sheet_spec.proofs.Box.{box-lo, box-hi}
 use Rattle.sheet_spec.proofs.Order.{not-itself, precedes-then, precedes-sides}
 use Rattle.sheet_spec.proofs.Streams.{Each, each-next, each-groups, lt-or-le}
 use Rattle.sheet_spec.proofs.Records.{EachOf, EachField, each-field}
 use Rattle.sheet_spec.proofs.Same.{Equal}
+use Rattle.any_order.specs.Reordered.{Reordered}
+use Rattle.any_order.specs.OneOrder.{OneOrder}
 use Rattle.any_order.proofs.Permutations.{Rising, moves-nothing}
-use Rattle.any_order.proofs.Reordered.{same-head, same-band, same-recovery, shape-is}
+use Rattle.any_order.proofs.Reordered.{same-head, vars-same, boxes-same, same-band, same-recovery, shape-is}
 
 ascends : {v : List ℤ} → Ascending v → (i d : ℕ) → i + suc d < boxes v → precedes (vars v) (unsafeBox v i) (unsafeBox v (i + suc d)) ≡ true
 unfolding ascendsAt
@@ -42,14 +42,8 @@ module _ {σ : ℕ → ℕ} {v w : List ℤ} (a : Valid v) (b : Valid w) (o : Re
   abbrev n : ℕ
   n = vars v
 
-  vars-same : vars v ≡ vars w
-  vars-same = ap (λ (s : Shape). s .vars) (shape-is o)
-
-  boxes-same : boxes v ≡ boxes w
-  boxes-same = ap (λ (s : Shape). s .boxes) (shape-is o)
-
   w-ascends : (i j : ℕ) → i < j → j < boxes v → precedes n (unsafeBox w i) (unsafeBox w j) ≡ true
-  w-ascends i j l h = subst (λ (n : ℕ). precedes n (unsafeBox w i) (unsafeBox w j) ≡ true) (sym vars-same) (ascending-all (b .order) i j l (omega (arith, boxes-same)))
+  w-ascends i j l h = subst (λ (n : ℕ). precedes n (unsafeBox w i) (unsafeBox w j) ≡ true) (sym (vars-same o)) (ascending-all (b .order) i j l (omega (arith, boxes-same o)))
 
   rises : Rising (boxes v) σ
   rises i j l h =

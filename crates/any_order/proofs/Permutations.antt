@@ -1,7 +1,7 @@
 -- Permutations of the numbers below n: what makes a map one, one that rises, and the one that a strict order makes. Assumes nothing.
 use mathlib.Core.Path.{_≡_, refl, sym, ap, _∙_}
 use mathlib.Core.Bool.{Bool, true, false}
-use mathlib.Core.Logic.{_⊎_, inl, inr, ⊎-elim}
+use mathlib.Core.Logic.{_⊎_, ⊎-elim}
 use Prim.Native.Nat.{ℕ, zero, suc, _+_, _-_, _≤_, _<_}
 use native.Mathlib.Decide.{ℕ-discrete}
 use native.Mathlib.Nat.{eq-or-lt-of-le}
@@ -9,9 +9,9 @@ use native.Mathlib.Omega.{arith}
 use lib.Dec.{ltb, eqb}
 use borrow.Author.Tests.{ltb-true, ltb-false, eqb-true, eq-eqb}
 use Rattle.sheet_spec.specs.Box.{any, lowestPassing}
-use Rattle.any_order.specs.Reordered.{Permutation}
 use Rattle.sheet_spec.proofs.Box.{differ, any-at, any-none, any-of-none, lowest-found, any-is}
 use Rattle.sheet_spec.proofs.Streams.{lt-or-le}
+use Rattle.any_order.specs.Reordered.{Permutation}
 
 -- ---- tests in another order
 

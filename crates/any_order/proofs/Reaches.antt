@@ -16,9 +16,9 @@ use Rattle.machine_spec.specs.declared.Law.{Law}
 use Rattle.machine_spec.specs.Machine.{machine}
 use Rattle.machine_spec.specs.Rate.{rates}
 use Rattle.machine_spec.proofs.Box.{sides-same}
-use Rattle.any_order.proofs.Rates.{AlikeBoxes, alike-refl, alike-is, AlikeSheets, rates-same}
 use Rattle.boxes_spec.specs.Step.{lifted, settles, endBox, grown, Failure, unsafe, Result, ok, failed, exhausted, andThen, retry, isExhausted, Step, rounds, halving, step, swept}
 use Rattle.boxes_spec.specs.Reach.{Reached, testedStep, steps, reach}
+use Rattle.any_order.proofs.Rates.{AlikeBoxes, alike-refl, alike-is, AlikeSheets, rates-same}
 
 -- ---- boxes that are made of alike boxes are equal
 

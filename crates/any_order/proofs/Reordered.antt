@@ -4,18 +4,19 @@ use mathlib.Core.Bool.{false}
 use mathlib.Core.List.{List}
 use Prim.Native.Nat.{ℕ, _+_, _<_}
 use native.Mathlib.Omega.{arith}
-use lib.IntN.{ℤ}
-use Rattle.sheet_spec.specs.Slots.{_!_, headSize, varsSlot, bandsSlot, boxesSlot, recoverySlot}
+use lib.IntN.{ℤ, natAbs}
+use Rattle.sheet_spec.specs.Slots.{_!_, headSize, varsSlot, bandsSlot, boxesSlot, recoverySlot, vars, boxes}
 use Rattle.sheet_spec.specs.Limits.{maxRecoverySide}
 use Rattle.sheet_spec.specs.declared.Record.{Record}
 use Rattle.sheet_spec.specs.declared.Shape.{Shape}
-use Rattle.sheet_spec.specs.Layout.{_▸_, headFields, bandFields, boxFields, fields, bandCount, boxCount}
+use Rattle.sheet_spec.specs.Layout.{headFields, bandFields, boxFields, fields, bandCount, boxCount}
 use Rattle.sheet_spec.specs.File.{shape, records, recordAt}
-use Rattle.any_order.specs.Reordered.{isUnsafe, Reordered}
 use Rattle.sheet_spec.proofs.Streams.{Each}
 use Rattle.sheet_spec.proofs.Records.{EachOf, head-at, band-at, recovery-at}
+use Rattle.sheet_spec.proofs.Places.{head-slot}
 use Rattle.sheet_spec.proofs.Same.{Equal}
 use Rattle.sheet_spec.proofs.Accepted.{shape-same}
+use Rattle.any_order.specs.Reordered.{isUnsafe, Reordered}
 
 module _ {σ : ℕ → ℕ} {v w : List ℤ} (o : Reordered σ v w) where
   abbrev s : Shape
@@ -38,10 +39,18 @@ module _ {σ : ℕ → ℕ} {v w : List ℤ} (o : Reordered σ v w) where
   unfolding fields
   same-recovery = same-record (1 + (s .bands + s .boxes)) (omega arith) (recovery-at s) refl
 
-  -- the head's numbers
-  pub same-number : (i : ℕ) → i < headSize → v ! headFields i .slot ≡ w ! headFields i .slot
-  same-number i l = same-head .at i (omega arith)
+  -- the head's numbers, and what is counted
+  same-number : (i : ℕ) → i < headSize → v ! i ≡ w ! i
+  same-number i l = let e : headFields i .slot ≡ i = omega (arith, head-slot i) in subst (λ (i : ℕ). v ! i ≡ w ! i) e (same-head .at i (omega arith))
+
+  pub same-count : (i : ℕ) → i < headSize → natAbs (v ! i) ≡ natAbs (w ! i)
+  same-count i l = ap natAbs (same-number i l)
+
+  pub vars-same : vars v ≡ vars w
+  vars-same = same-count varsSlot (omega arith)
+
+  pub boxes-same : boxes v ≡ boxes w
+  boxes-same = same-count boxesSlot (omega arith)
 
   pub shape-is : shape v ≡ shape w
-  unfolding headFields _▸_
   shape-is = shape-same v w (same-number varsSlot (omega arith)) (same-number bandsSlot (omega arith)) (same-number boxesSlot (omega arith))

@@ -1,24 +1,24 @@
 -- Sheets with the same no-go boxes in another order have the same machine: nothing that a rate reads is a side of a no-go box. Assumes nothing.
-use mathlib.Core.Path.{_≡_, sym, ap, _∙_, subst}
+use mathlib.Core.Path.{_≡_, sym, _∙_, subst}
 use mathlib.Core.Bool.{Bool, true, false}
 use mathlib.Core.List.{List}
 use Prim.Native.Nat.{ℕ, _<_}
 use native.Mathlib.Omega.{arith}
-use lib.IntN.{ℤ, natAbs}
+use lib.IntN.{ℤ}
 use Rattle.sheet_spec.specs.Limits.{maxRecoverySide}
-use Rattle.sheet_spec.specs.Slots.{_!_, varsSlot, bandsSlot, bandVarSlot, edgeInBand, leastInBand, greatestInBand, bInRest, cInRest, dInRest, qInRest, restSize, recoverySlot, vars, bands, edge, row, recoveryBox}
-use Rattle.sheet_spec.specs.Layout.{_▸_, headFields, rowRest, rowFields, bandFields, sideFields}
+use Rattle.sheet_spec.specs.Slots.{_!_, bandsSlot, bandVarSlot, edgeInBand, leastInBand, greatestInBand, bInRest, cInRest, dInRest, qInRest, restSize, recoverySlot, vars, bands, edge, row, recoveryBox}
+use Rattle.sheet_spec.specs.Layout.{_▸_, rowRest, rowFields, bandFields, sideFields}
 use Rattle.sheet_spec.specs.Valid.{ValidNumbers}
-use Rattle.any_order.specs.Reordered.{Reordered}
 use Rattle.sheet_spec.proofs.Box.{box-lo, box-hi, box-length}
 use Rattle.sheet_spec.proofs.Streams.{each-low, each-high}
 use Rattle.sheet_spec.proofs.Records.{each-cap, each-row, each-side}
 use Rattle.sheet_spec.proofs.Places.{edge-slot}
-use Rattle.any_order.proofs.Reordered.{same-head, same-number, same-band, same-recovery}
 use Rattle.machine_spec.specs.Box.{side}
 use Rattle.machine_spec.specs.Machine.{safetyEnd}
-use Rattle.any_order.proofs.Rates.{AlikeBoxes, AlikeRows, AlikeSheets}
 use Rattle.machine_spec.proofs.Facts.{room}
+use Rattle.any_order.specs.Reordered.{Reordered}
+use Rattle.any_order.proofs.Reordered.{same-head, same-count, vars-same, same-band, same-recovery}
+use Rattle.any_order.proofs.Rates.{AlikeBoxes, AlikeRows, AlikeSheets}
 
 module _ {σ : ℕ → ℕ} {v w : List ℤ} (o : Reordered σ v w) where
   rows-alike : (k i : ℕ) → k < bands v → i < vars v → AlikeRows (vars v) (row v k i) (row w k i)
@@ -39,13 +39,12 @@ module _ {σ : ℕ → ℕ} {v w : List ℤ} (o : Reordered σ v w) where
   safety-alike true k h = same-band o k h .at greatestInBand (omega arith)
 
   pub same-machine : ValidNumbers v → AlikeSheets v w
-  unfolding headFields _▸_
   same-machine wf = record {
     room = room wf;
     var = wf .var;
-    vars-same = ap natAbs (same-number o varsSlot (omega arith));
-    bands-same = ap natAbs (same-number o bandsSlot (omega arith));
-    var-same = ap natAbs (same-number o bandVarSlot (omega arith));
+    vars-same = vars-same o;
+    bands-same = same-count o bandsSlot (omega arith);
+    var-same = same-count o bandVarSlot (omega arith);
     caps = each-cap (vars v) (same-head o) .at;
     edges = edges-alike;
     safety = safety-alike;

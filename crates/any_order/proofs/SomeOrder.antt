@@ -1,16 +1,15 @@
 -- Boxes that all differ can be put in order (specs/OneOrder, `SomeOrder`): each goes to the place that the number of boxes before it says.
 -- Assumes nothing.
-use mathlib.Core.Path.{_≡_, sym, ap, _∙_, subst}
-use mathlib.Core.Bool.{Bool, true, false}
+use mathlib.Core.Path.{_≡_, sym, _∙_, subst}
+use mathlib.Core.Bool.{Bool, true}
 use mathlib.Core.List.{List}
-use mathlib.Core.Logic.{_⊎_, ⊎-elim}
+use mathlib.Core.Logic.{⊎-elim}
 use Prim.Native.Nat.{ℕ, suc, _<_}
 use native.Mathlib.Omega.{arith}
 use lib.IntN.{ℤ}
 use Rattle.sheet_spec.specs.Slots.{vars, boxes, unsafeBox}
 use Rattle.sheet_spec.specs.Order.{precedes, ascendsAt}
-use Rattle.sheet_spec.specs.Valid.{ValidNumbers, Ascending, Valid}
-use Rattle.sheet_spec.specs.declared.Shape.{Shape}
+use Rattle.sheet_spec.specs.Valid.{Ascending, Valid}
 use Rattle.sheet_spec.proofs.Box.{is-false}
 use Rattle.sheet_spec.proofs.Order.{not-itself, precedes-then, precedes-sides, either-way}
 use Rattle.sheet_spec.proofs.Validity.{valid-accepted}
@@ -18,7 +17,7 @@ use Rattle.sheet_spec.proofs.RoundTrip.{read-write}
 use Rattle.any_order.specs.Reordered.{Reordered}
 use Rattle.any_order.specs.OneOrder.{Distinct, SomeOrder}
 use Rattle.any_order.proofs.Permutations.{StrictOrder, rank, ranked, ranked-before}
-use Rattle.any_order.proofs.Reordered.{shape-is}
+use Rattle.any_order.proofs.Reordered.{vars-same, boxes-same}
 use Rattle.any_order.proofs.EveryOrder.{every-order}
 
 module _ (v : List ℤ) (d : Distinct v) where
@@ -35,14 +34,8 @@ module _ (v : List ℤ) (d : Distinct v) where
   -- a sheet that has each box at its place ascends
   placed-ascends : (w : List ℤ) → Reordered (rank strict) v w → Ascending w
   unfolding ascendsAt
-  placed-ascends w o = record { at = λ j l. subst (λ (n : ℕ). precedes n (unsafeBox w j) (unsafeBox w (suc j)) ≡ true) vars-same (next j (omega (arith, boxes-same))) }
+  placed-ascends w o = record { at = λ j l. subst (λ (n : ℕ). precedes n (unsafeBox w j) (unsafeBox w (suc j)) ≡ true) (vars-same o) (next j (omega (arith, boxes-same o))) }
     where
-      vars-same : vars v ≡ vars w
-      vars-same = ap (λ (s : Shape). s .vars) (shape-is o)
-
-      boxes-same : boxes v ≡ boxes w
-      boxes-same = ap (λ (s : Shape). s .boxes) (shape-is o)
-
       next : (j : ℕ) → suc j < boxes v → precedes (vars v) (unsafeBox w j) (unsafeBox w (suc j)) ≡ true
       next j l =
           let p = o .permutation in
@@ -59,4 +52,4 @@ some-order v wf d =
     let s = strict v d in
     let r = every-order (rank s) v wf (ranked s) in
     let a : Valid (r .sheet) = record { numbers = r .numbers; order = placed-ascends v d (r .sheet) (r .reordered) } in
-    record { sheet = r .sheet; place = rank s; reordered = r .reordered; valid = a; accepted = read-write (r .sheet) (valid-accepted a) .0 }
+    record { sheet = r .sheet; σ = rank s; reordered = r .reordered; valid = a; accepted = read-write (r .sheet) (valid-accepted a) .0 }

@@ -18,11 +18,11 @@ OneOrder = (σ : ℕ → ℕ) (v w : List ℤ) → Valid v → Valid w → Reord
 pub record Distinct (v : List ℤ) : Type 0 where
   pub apart : (i j : ℕ) → i < j → j < boxes v → SameSides (vars v) (unsafeBox v i) (unsafeBox v j) → ⊥
 
--- a valid sheet that has v's no-go boxes, box j as box `place j`, and whose bytes the reader accepts
+-- a valid sheet that has v's no-go boxes, box j as box σ j, and whose bytes the reader accepts
 pub record InOrder (v : List ℤ) : Type 0 where
   pub sheet : List ℤ
-  pub place : ℕ → ℕ
-  pub reordered : Reordered place v sheet
+  pub σ : ℕ → ℕ
+  pub reordered : Reordered σ v sheet
   pub valid : Valid sheet
   pub accepted : refusal (bytesOf sheet) ≡ 0
 

@@ -124,9 +124,9 @@ noGo l h = 78 ∷ 71 ∷ encoded i32 l ++ encoded i32 h
 pub withBoxes : ℕ → List ℕ → List ℕ
 withBoxes count records = sets headA 4 (count ∷ []) ++ (bandA ++ (records ++ drop 10 boxesA))
 
-pub ascending : refusal (withBoxes 2 (noGo (negsuc 199) (negsuc 149) ++ noGo (pos 130) (pos 140))) ≡ 0
+pub inOrder : refusal (withBoxes 2 (noGo (negsuc 199) (negsuc 149) ++ noGo (pos 130) (pos 140))) ≡ 0
 unfolding everything withBoxes noGo
-ascending = refl
+inOrder = refl
 
 pub equalBoxes : refusal (withBoxes 2 (noGo (pos 130) (pos 140) ++ noGo (pos 130) (pos 140))) ≡ number Cause.order
 unfolding everything withBoxes noGo

@@ -1,12 +1,12 @@
 -- What it tells that every number of a sheet lies in its range: the counts are small, and each number fits its kind. Assumes nothing.
-use mathlib.Core.Path.{subst}
+use mathlib.Core.Path.{_≡_, refl, subst}
 use mathlib.Core.Bool.{_&&_}
 use mathlib.Core.List.{List}
 use Prim.Native.Nat.{ℕ, zero, suc, _+_, _*_, _≤_, _<_}
 use native.Mathlib.Omega.{arith}
 use lib.Dec.{T}
 use lib.IntN.{ℤ, pos, negsuc, negℤ, natAbs}
-use lib.Signed.{leZ, leZ-yes}
+use lib.Signed.{_≤ℤ_, leZ, leZ-yes}
 use mir.Facts.{and-yes}
 use Rattle.integers.proofs.Z.{ints, flat}
 use Rattle.sheet_spec.specs.Slots.{_!_, headSize, bandSlot, rowSlot, recoverySlot, unsafeSlot, vars, bands, boxes, varsSlot, bandsSlot, boxesSlot, bandVarSlot, δSlot, αSlot, ρSlot, leastSlot, greatestSlot, restSize, pairSize, bInRest, cInRest, dInRest, qInRest, edgeInBand, leastInBand, greatestInBand}
@@ -22,6 +22,15 @@ use Rattle.sheet_spec.proofs.Records.{EachField, each-field, each-head,
 pub abs-in : {l h : ℕ} (z : ℤ) → Between (pos l) (pos h) z → (l ≤ natAbs z) × (natAbs z ≤ h)
 abs-in (pos n) r = (omega (ints, r .low), omega (ints, r .high))
 abs-in {l} (negsuc n) r = absurd (let z : ⊥ = omega (ints, r .low) in z)
+
+-- and the way back, of a number that is not below 0
+pub in-abs : {l h : ℕ} (z : ℤ) → pos 0 ≤ℤ z → l ≤ natAbs z → natAbs z ≤ h → Between (pos l) (pos h) z
+in-abs (pos n) p a b = record { low = omega ints; high = omega ints }
+in-abs (negsuc n) p a b = absurd (p .le)
+
+pub abs-is : (z : ℤ) → pos 0 ≤ℤ z → z ≡ pos (natAbs z)
+abs-is (pos n) p = refl
+abs-is (negsuc n) p = absurd (p .le)
 
 pub small : (v : List ℤ) → Each (InRange v) headFields headSize → Small (shape v)
 unfolding headFields _▸_

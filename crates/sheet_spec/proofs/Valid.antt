@@ -4,7 +4,7 @@ use mathlib.Core.List.{List}
 use mathlib.Core.Logic.{_⊎_, inl, inr, ⊎-elim}
 use Prim.Native.Nat.{ℕ, zero, suc, _+_, _*_, _≤_, _<_}
 use native.Mathlib.Omega.{arith}
-use lib.IntN.{ℤ, pos, negsuc, natAbs}
+use lib.IntN.{ℤ, pos, natAbs}
 use lib.Signed.{_≤ℤ_}
 use lib.ListN.{length, replicate}
 use mir.Syntax.{w32}
@@ -27,7 +27,7 @@ use Rattle.sheet_spec.proofs.Tests.{InRange, AllInRange, AllGood, good-
 use Rattle.sheet_spec.proofs.Records.{unsafe-at, each-head, each-band, each-unsafe, each-recovery, each-cap, each-row, each-side}
 use Rattle.sheet_spec.proofs.Places.{head-slot, recovery-free}
 use Rattle.sheet_spec.proofs.Filled.{TakenAll, origin-all, length-all}
-use Rattle.sheet_spec.proofs.Ranges.{abs-in, Fit, all-fit}
+use Rattle.sheet_spec.proofs.Ranges.{abs-in, abs-is, Fit, all-fit}
 use Rattle.sheet_spec.proofs.Accepted.{Accepted, accepted, contents-good, same-shape, length-zeros, zeros-at}
 
 fits-kind : (k : Kind) {z : ℤ} → Fit k z → SFits w32 z
@@ -74,12 +74,8 @@ module _ (v : List ℤ) (g : AllInRange v) where
   head-pos : (i : ℕ) → i < leastSlot → pos 0 ≤ℤ v ! i
   head-pos i l = subst (λ (i : ℕ). pos 0 ≤ℤ v ! i) (let e : headFields i .slot ≡ i = omega (arith, head-slot i) in e) (not-below .at i l)
 
-  abs-is : (i : ℕ) → i < leastSlot → v ! i ≡ pos (natAbs (v ! i))
-  abs-is i l = go (v ! i) (head-pos i l)
-    where
-      go : (z : ℤ) → pos 0 ≤ℤ z → z ≡ pos (natAbs z)
-      go (pos n) h = refl
-      go (negsuc n) h = absurd (h .le)
+  is-count : (i : ℕ) → i < leastSlot → v ! i ≡ pos (natAbs (v ! i))
+  is-count i l = abs-is (v ! i) (head-pos i l)
 
   edge-at : (k : ℕ) → k < bands v → InRange v (edgeField k)
   unfolding bandFields _▸_
@@ -113,10 +109,10 @@ module _ (v : List ℤ) (g : AllInRange v) where
         bands-high = abs-in (v ! bandsSlot) b .1;
         boxes-low = abs-in (v ! boxesSlot) c .0;
         boxes-high = abs-in (v ! boxesSlot) c .1;
-        var = omega (ints, abs-is bandVarSlot (omega arith), abs-is varsSlot (omega arith), simp flat at (x .high));
+        var = omega (ints, is-count bandVarSlot (omega arith), is-count varsSlot (omega arith), simp flat at (x .high));
         δ-low = abs-in (v ! δSlot) d .0;
-        α-low = omega (ints, abs-is αSlot (omega arith), a .low);
-        sum-high = omega (ints, abs-is δSlot (omega arith), abs-is αSlot (omega arith), simp flat at (a .high));
+        α-low = omega (ints, is-count αSlot (omega arith), a .low);
+        sum-high = omega (ints, is-count δSlot (omega arith), is-count αSlot (omega arith), simp flat at (a .high));
         ρ-low = abs-in (v ! ρSlot) r .0;
         ρ-high = omega (arith, abs-in (v ! ρSlot) r .1);
         commands = u .low;

@@ -1,11 +1,10 @@
--- `Valid` is just what the writer accepts (specs/ExactlyValid). proofs/Valid shows that what is accepted is valid; here is the way back. Assumes nothing.
+-- `Valid` is just what the writer accepts (specs/Validity). proofs/Valid shows that what is accepted is valid; here is the way back. Assumes nothing.
 use mathlib.Core.Path.{_≡_, refl, ap, subst}
 use mathlib.Core.Bool.{Bool}
 use mathlib.Core.List.{List}
 use Prim.Native.Nat.{ℕ, zero, suc, _*_, _+_, _≤_, _<_}
 use native.Mathlib.Omega.{arith}
-use lib.IntN.{ℤ, pos, negsuc, natAbs}
-use lib.Signed.{_≤ℤ_}
+use lib.IntN.{ℤ, pos, natAbs}
 use Rattle.integers.proofs.Z.{ints, flat}
 use Rattle.sheet_spec.specs.Limits.{maxUnsafeSide, maxRecoverySide}
 use Rattle.sheet_spec.specs.Slots.{_!_, headSize, rowSlot, recoverySlot, unsafeSlot, vars, bands, varsSlot, bandsSlot, boxesSlot, bandVarSlot, δSlot, αSlot, ρSlot, leastSlot, restSize, pairSize}
@@ -14,27 +13,18 @@ use Rattle.sheet_spec.specs.Refusals.{Cause, refuseUnless}
 use Rattle.sheet_spec.specs.Layout.{headFields, edgeField, rowRest, rowFields, bandFields, sideFields, boxFields, rowCount, bandCount, boxCount}
 use Rattle.sheet_spec.specs.File.{shape, records, recordAt, fieldsAt, fieldCountAt, orderTest, closing}
 use Rattle.sheet_spec.specs.Sheet.{valueRefusal}
-use Rattle.sheet_spec.specs.ExactlyValid.{Array, NumbersPass, ExactlyValid}
+use Rattle.sheet_spec.specs.Validity.{ExactlyValid}
 use Rattle.sheet_spec.proofs.Streams.{Each, each-next, each-first, each-groups, rows-more, caps-more}
 use Rattle.sheet_spec.proofs.Records.{record-cases, each-field}
-use Rattle.sheet_spec.proofs.Tests.{InRange, AllInRange, AllGood, bad-ranges, ranges-bad, value-good, good-value, good-ranges}
+use Rattle.sheet_spec.proofs.Tests.{InRange, AllInRange, bad-ranges, ranges-bad, value-good, good-value, good-ranges}
+use Rattle.sheet_spec.proofs.Ranges.{abs-is, in-abs}
 use Rattle.sheet_spec.proofs.Valid.{numbers-of, ascending}
-
--- ---- numbers that are not below 0
-
-from-abs : {l h : ℕ} (z : ℤ) → pos 0 ≤ℤ z → l ≤ natAbs z → natAbs z ≤ h → Between (pos l) (pos h) z
-from-abs (pos n) p a b = record { low = omega ints; high = omega ints }
-from-abs (negsuc n) p a b = absurd (p .le)
-
-abs-is : (z : ℤ) → pos 0 ≤ℤ z → z ≡ pos (natAbs z)
-abs-is (pos n) p = refl
-abs-is (negsuc n) p = absurd (p .le)
 
 -- ---- each number of a valid value lies in its range
 
 module _ {v : List ℤ} (wf : ValidNumbers v) where
   counted : {l h : ℕ} (i : ℕ) → i < leastSlot → l ≤ natAbs (v ! i) → natAbs (v ! i) ≤ h → Between (pos l) (pos h) (v ! i)
-  counted i l = from-abs (v ! i) (wf .head i l)
+  counted i l = in-abs (v ! i) (wf .head i l)
 
   is-count : (i : ℕ) → i < leastSlot → v ! i ≡ pos (natAbs (v ! i))
   is-count i l = abs-is (v ! i) (wf .head i l)
