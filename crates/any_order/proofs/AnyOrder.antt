@@ -8,14 +8,13 @@ use native.Mathlib.Omega.{arith}
 use lib.Dec.{leb}
 use lib.IntN.{ℤ}
 use Rattle.sheet_spec.specs.Slots.{δSlot, αSlot, ρSlot, vars, boxes, δ, α, ρ, unsafeBox, recoveryBox}
-use Rattle.sheet_spec.specs.Box.{any, meets}
+use Rattle.sheet_spec.specs.Box.{any, meets, clear}
 use Rattle.sheet_spec.specs.Valid.{ValidNumbers}
-use Rattle.sheet_spec.proofs.Box.{meets-same}
+use Rattle.sheet_spec.proofs.Box.{same-self, meets-sides}
 use Rattle.machine_spec.specs.Box.{within}
 use Rattle.machine_spec.specs.declared.Law.{Law}
 use Rattle.machine_spec.specs.declared.Law.the-variants.{Baseline}
 use Rattle.boxes_spec.specs.Step.{Result}
-use Rattle.boxes_spec.specs.Reach.{clear}
 use Rattle.decision_spec.specs.declared.Phase.{Phase}
 use Rattle.decision_spec.specs.Decision.{phase, finish, follow, attempt, attempts, finest, Reply, answered, lastReply, decisionPhases, decisionOf, recoveryPhases, recoveryOf}
 use Rattle.decision_spec.proofs.Attempts.{outcome, replyFrom, reply-none, reply-turn}
@@ -52,7 +51,7 @@ module _ {σ : ℕ → ℕ} {v w : List ℤ} (wf : ValidNumbers v) (wf′ : Vali
   unfolding clear
   clear-same B =
       ap not
-      (any-moved (o .permutation) (λ j. meets (vars v) B (unsafeBox v j)) (λ j. meets (vars v) B (unsafeBox w j)) (λ j h. meets-same (vars v) B (o .moved j (omega arith)))
+      (any-moved (o .permutation) (λ j. meets (vars v) B (unsafeBox v j)) (λ j. meets (vars v) B (unsafeBox w j)) (λ j h. meets-sides (vars v) (same-self (vars v) B) (o .moved j (omega arith)))
       ∙ ap₂ (λ (n count : ℕ). any count (λ j. meets n B (unsafeBox w j))) (vars-same o) (boxes-same o))
 
   module _ (limited : Bool) (allowance width : ℕ) where

@@ -1,21 +1,25 @@
 -- What two sheets with the same no-go boxes in another order have in common. Assumes nothing.
-use mathlib.Core.Path.{_≡_, refl, ap, _∙_, subst}
+use mathlib.Core.Path.{_≡_, refl, sym, ap, _∙_, subst}
 use mathlib.Core.Bool.{false}
 use mathlib.Core.List.{List}
 use Prim.Native.Nat.{ℕ, _+_, _<_}
 use native.Mathlib.Omega.{arith}
 use lib.IntN.{ℤ, natAbs}
-use Rattle.sheet_spec.specs.Slots.{_!_, headSize, varsSlot, bandsSlot, boxesSlot, recoverySlot, vars, boxes}
+use Rattle.sheet_spec.specs.Slots.{_!_, headSize, varsSlot, bandsSlot, boxesSlot, recoverySlot, vars, boxes, recoveryBox, unsafeBox}
 use Rattle.sheet_spec.specs.Limits.{maxRecoverySide}
 use Rattle.sheet_spec.specs.declared.Record.{Record}
 use Rattle.sheet_spec.specs.declared.Shape.{Shape}
 use Rattle.sheet_spec.specs.Layout.{headFields, bandFields, boxFields, fields, bandCount, boxCount}
 use Rattle.sheet_spec.specs.File.{shape, records, recordAt}
+use Rattle.sheet_spec.specs.Box.{SameSides, meets}
+use Rattle.sheet_spec.specs.Valid.{ValidNumbers, RecoveryClear}
+use Rattle.sheet_spec.proofs.Box.{meets-sides}
 use Rattle.sheet_spec.proofs.Streams.{Each}
 use Rattle.sheet_spec.proofs.Records.{EachOf, head-at, band-at, recovery-at}
 use Rattle.sheet_spec.proofs.Places.{head-slot}
-use Rattle.sheet_spec.proofs.Same.{Equal}
+use Rattle.sheet_spec.proofs.Same.{Equal, box-same}
 use Rattle.sheet_spec.proofs.Accepted.{shape-same}
+use Rattle.machine_spec.proofs.Facts.{room}
 use Rattle.any_order.specs.Reordered.{isUnsafe, Reordered}
 
 module _ {σ : ℕ → ℕ} {v w : List ℤ} (o : Reordered σ v w) where
@@ -54,3 +58,22 @@ module _ {σ : ℕ → ℕ} {v w : List ℤ} (o : Reordered σ v w) where
 
   pub shape-is : shape v ≡ shape w
   shape-is = shape-same v w (same-number varsSlot (omega arith)) (same-number bandsSlot (omega arith)) (same-number boxesSlot (omega arith))
+
+  -- ---- the recovery box
+
+  module _ (wf : ValidNumbers v) where
+    pub recovery-sides : SameSides (vars v) (recoveryBox v) (recoveryBox w)
+    recovery-sides = box-same v w (vars v) maxRecoverySide recoverySlot (room wf) same-recovery
+
+    -- it shares no state with a no-go box, in whatever order they are
+    pub clear-moved : RecoveryClear v → RecoveryClear w
+    clear-moved a = record {
+      at = λ j l.
+          let p = o .permutation in
+          let h : j < boxes v = omega (arith, boxes-same, l) in
+          let k = p .origin j in
+          let i = p .origin-inside j h in
+          subst (λ (n : ℕ). meets n (recoveryBox w) (unsafeBox w j) ≡ false) vars-same
+          (subst (λ (x : ℕ). meets (vars v) (recoveryBox w) (unsafeBox w x) ≡ false) (p .of-origin j h)
+          (sym (meets-sides (vars v) recovery-sides (o .moved k i)) ∙ a .at k i));
+    }

@@ -5,19 +5,18 @@ use mathlib.Core.List.{List}
 use Prim.Native.Nat.{ℕ, _<_}
 use native.Mathlib.Omega.{arith}
 use lib.IntN.{ℤ}
-use Rattle.sheet_spec.specs.Limits.{maxRecoverySide}
 use Rattle.sheet_spec.specs.Slots.{_!_, bandsSlot, bandVarSlot, edgeInBand, leastInBand, greatestInBand, bInRest, cInRest, dInRest, qInRest, restSize, recoverySlot, vars, bands, edge, row, recoveryBox}
-use Rattle.sheet_spec.specs.Layout.{_▸_, rowRest, rowFields, bandFields, sideFields}
+use Rattle.sheet_spec.specs.Layout.{_▸_, rowRest, rowFields, bandFields}
 use Rattle.sheet_spec.specs.Valid.{ValidNumbers}
-use Rattle.sheet_spec.proofs.Box.{box-lo, box-hi, box-length}
+use Rattle.sheet_spec.proofs.Box.{box-length}
 use Rattle.sheet_spec.proofs.Streams.{each-low, each-high}
-use Rattle.sheet_spec.proofs.Records.{each-cap, each-row, each-side}
+use Rattle.sheet_spec.proofs.Records.{each-cap, each-row}
 use Rattle.sheet_spec.proofs.Places.{edge-slot}
 use Rattle.machine_spec.specs.Box.{side}
 use Rattle.machine_spec.specs.Machine.{safetyEnd}
 use Rattle.machine_spec.proofs.Facts.{room}
 use Rattle.any_order.specs.Reordered.{Reordered}
-use Rattle.any_order.proofs.Reordered.{same-head, same-count, vars-same, same-band, same-recovery}
+use Rattle.any_order.proofs.Reordered.{same-head, same-count, vars-same, same-band, recovery-sides}
 use Rattle.any_order.proofs.Rates.{AlikeBoxes, AlikeRows, AlikeSheets}
 
 module _ {σ : ℕ → ℕ} {v w : List ℤ} (o : Reordered σ v w) where
@@ -52,17 +51,12 @@ module _ {σ : ℕ → ℕ} {v w : List ℤ} (o : Reordered σ v w) where
   }
 
   -- and the same recovery box
-  recovery-sides : ValidNumbers v → (up : Bool) (i : ℕ) → i < vars v → side up (recoveryBox v) i ≡ side up (recoveryBox w) i
-  unfolding sideFields _▸_
-  recovery-sides wf false i h =
-      box-lo v recoverySlot i (omega (arith, room wf)) ∙ each-side (vars v) maxRecoverySide recoverySlot (same-recovery o) i h .at 0 (omega arith)
-      ∙ sym (box-lo w recoverySlot i (omega (arith, room wf)))
-  recovery-sides wf true i h =
-      box-hi v recoverySlot i (omega (arith, room wf)) ∙ each-side (vars v) maxRecoverySide recoverySlot (same-recovery o) i h .at 1 (omega arith)
-      ∙ sym (box-hi w recoverySlot i (omega (arith, room wf)))
+  recovery-side : ValidNumbers v → (up : Bool) (i : ℕ) → i < vars v → side up (recoveryBox v) i ≡ side up (recoveryBox w) i
+  recovery-side wf false = recovery-sides o wf .lower
+  recovery-side wf true = recovery-sides o wf .upper
 
   pub same-recovery-box : ValidNumbers v → ValidNumbers w → AlikeBoxes (vars v) (recoveryBox v) (recoveryBox w)
   same-recovery-box wf wf′ = record {
     size = box-length v recoverySlot (omega (arith, wf .size)) ∙ sym (box-length w recoverySlot (omega (arith, wf′ .size)));
-    at = recovery-sides wf;
+    at = recovery-side wf;
   }

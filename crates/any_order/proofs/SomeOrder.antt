@@ -17,7 +17,7 @@ use Rattle.sheet_spec.proofs.RoundTrip.{read-write}
 use Rattle.any_order.specs.Reordered.{Reordered}
 use Rattle.any_order.specs.OneOrder.{Distinct, SomeOrder}
 use Rattle.any_order.proofs.Permutations.{StrictOrder, rank, ranked, ranked-before}
-use Rattle.any_order.proofs.Reordered.{vars-same, boxes-same}
+use Rattle.any_order.proofs.Reordered.{vars-same, boxes-same, clear-moved}
 use Rattle.any_order.proofs.EveryOrder.{every-order}
 
 module _ (v : List ℤ) (d : Distinct v) where
@@ -48,8 +48,8 @@ module _ (v : List ℤ) (d : Distinct v) where
           ∙ ranked-before strict (p .origin j) (p .origin (suc j)) (p .origin-inside j h) (p .origin-inside (suc j) l) (omega (arith, a, b))))
 
 pub some-order : SomeOrder
-some-order v wf d =
+some-order v wf d clear =
     let s = strict v d in
     let r = every-order (rank s) v wf (ranked s) in
-    let a : Valid (r .sheet) = record { numbers = r .numbers; order = placed-ascends v d (r .sheet) (r .reordered) } in
+    let a : Valid (r .sheet) = record { numbers = r .numbers; order = placed-ascends v d (r .sheet) (r .reordered); clear = clear-moved (r .reordered) wf clear } in
     record { sheet = r .sheet; σ = rank s; reordered = r .reordered; valid = a; accepted = read-write (r .sheet) (valid-accepted a) .0 }

@@ -1,4 +1,4 @@
--- Of all orders of a sheet's no-go boxes just one is valid, if no two boxes are equal (document 02, paper 2). proofs/OneOrder, SomeOrder and
+-- Of all orders of a sheet's no-go boxes just one is valid, if no two boxes are equal and none is on the recovery box (document 02, paper 2). proofs/OneOrder, SomeOrder and
 -- EveryOrder prove it.
 use mathlib.Core.Path.{_≡_}
 use mathlib.Core.List.{List}
@@ -6,7 +6,7 @@ use Prim.Native.Nat.{ℕ, _<_}
 use lib.IntN.{ℤ}
 use Rattle.sheet_spec.specs.Slots.{vars, boxes, unsafeBox}
 use Rattle.sheet_spec.specs.Box.{SameSides}
-use Rattle.sheet_spec.specs.Valid.{ValidNumbers, Valid}
+use Rattle.sheet_spec.specs.Valid.{ValidNumbers, RecoveryClear, Valid}
 use Rattle.sheet_spec.specs.Sheet.{refusal, bytesOf, Same}
 use Rattle.any_order.specs.Reordered.{Permutation, Reordered}
 
@@ -26,9 +26,10 @@ pub record InOrder (v : List ℤ) : Type 0 where
   pub valid : Valid sheet
   pub accepted : refusal (bytesOf sheet) ≡ 0
 
--- at least one: boxes that all differ can be put in order. So no machine is left without a sheet
+-- at least one: boxes that all differ, and share no state with the recovery box, can be put in order. So no machine that could run is left
+-- without a sheet
 abbrev pub SomeOrder : Type 0
-SomeOrder = (v : List ℤ) → ValidNumbers v → Distinct v → InOrder v
+SomeOrder = (v : List ℤ) → ValidNumbers v → Distinct v → RecoveryClear v → InOrder v
 
 -- a value in another order
 pub record Rearranged (σ : ℕ → ℕ) (v : List ℤ) : Type 0 where

@@ -7,6 +7,7 @@ use lib.IntN.{ℤ}
 use Rattle.sheet_spec.specs.Limits.{maxTicks, maxWidth, maxSide}
 use Rattle.sheet_spec.specs.Slots.{vars}
 use Rattle.sheet_spec.specs.Valid.{ValidNumbers}
+use Rattle.sheet_spec.specs.Box.{clear}
 use Rattle.sheet_spec.proofs.FirstRefusal.{found-stops, found-none}
 use Rattle.machine_spec.specs.Box.{Sized, trim}
 use Rattle.machine_spec.specs.declared.Law.{Law}
@@ -18,7 +19,7 @@ use Rattle.machine_spec.proofs.Ranges.{trim-near, sized-as}
 use Rattle.boxes.specs.declared.steps.ReachResult.{ReachResult}
 use Rattle.boxes.specs.declared.steps.ReachResult.the-variants.{Ended, Unsettled, Unsafe, Exhausted}
 use Rattle.boxes.specs.ReachResult.{resultOf, reachedOf}
-use Rattle.boxes_spec.specs.Reach.{reach, clear, reachRefusal, refused, answer, reachOf}
+use Rattle.boxes_spec.specs.Reach.{reach, reachRefusal, refused, answer, reachOf}
 use Rattle.boxes_spec.proofs.Refusals.{reach-passes}
 use Rattle.boxes_spec.proofs.Ranges.{lawful, start-sized}
 

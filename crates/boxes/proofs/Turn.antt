@@ -11,7 +11,7 @@ use lib.Dec.{leb, ltb}
 use lib.IntN.{ℤ}
 use denote.Enum.Declared.{tagOf}
 use Rattle.integers.proofs.Tests.{pick-yes, pick-no, suc-of}
-use Rattle.sheet_spec.specs.Box.{lowestMet}
+use Rattle.sheet_spec.specs.Box.{lowestMet, clear}
 use Rattle.machine_spec.specs.Box.{hull, moved}
 use Rattle.machine_spec.specs.Machine.{Machine, varsOf}
 use Rattle.boxes_step.specs.declared.StepResult.{StepResult}
@@ -21,7 +21,7 @@ use Rattle.boxes.specs.declared.steps.ReachResult.{ReachResult}
 use Rattle.boxes.specs.declared.steps.ReachResult.the-variants.{Ended, Unsafe}
 use Rattle.boxes.specs.declared.steps.ReachResult.the-variants as result
 use Rattle.boxes_spec.specs.Step.{Result, ok, failed, unsafe, andThen, Step, step, swept}
-use Rattle.boxes_spec.specs.Reach.{Reached, clear, testedStep, steps, reach}
+use Rattle.boxes_spec.specs.Reach.{Reached, testedStep, steps, reach}
 use Rattle.boxes.specs.ReachResult.{resultOf, testedStepOf, reachedOf, isEnded}
 use Rattle.boxes.proofs.steps.ReachResult.{the-type}
 use Rattle.sheet_spec.proofs.Box.{differ, any-is}

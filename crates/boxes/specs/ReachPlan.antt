@@ -4,10 +4,10 @@ use mathlib.Core.List.{List}
 use Prim.Native.Nat.{ℕ}
 use lib.IntN.{ℤ}
 use Rattle.sheet_spec.specs.Slots.{vars}
-use Rattle.sheet_spec.specs.Box.{lowestMet}
+use Rattle.sheet_spec.specs.Box.{lowestMet, clear}
 use Rattle.machine_spec.specs.Machine.{Machine, machine}
 use Rattle.boxes_spec.specs.Step.{Result, Step}
-use Rattle.boxes_spec.specs.Reach.{Reached, clear, testedStep, reach}
+use Rattle.boxes_spec.specs.Reach.{Reached, testedStep, reach}
 use Rattle.boxes.specs.declared.steps.ReachPlan.{ReachPlan}
 
 -- the plan's machine on the sheet v, its test of a swept box, and the lowest number of a no-go box that a swept box meets

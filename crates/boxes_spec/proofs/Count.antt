@@ -8,16 +8,16 @@ use lib.IntN.{ℤ}
 use Rattle.sheet_spec.specs.Limits.{maxTicks, maxWidth}
 use Rattle.sheet_spec.specs.Slots.{N, vars}
 use Rattle.sheet_spec.specs.Valid.{ValidNumbers}
-use Rattle.sheet_spec.specs.Box.{any}
+use Rattle.sheet_spec.specs.Box.{clear}
 use Rattle.machine_spec.specs.Box.{trim}
 use Rattle.machine_spec.specs.declared.Law.{Law}
 use Rattle.machine_spec.specs.Machine.{Machine, machine, varsOf}
-use Rattle.sheet_spec.proofs.Box.{differ}
+use Rattle.sheet_spec.proofs.Box.{differ, clear-none}
 use Rattle.sheet_spec.proofs.Laws.{goes-on}
 use Rattle.machine_spec.proofs.Inside.{trim-holds}
 use Rattle.machine_spec.proofs.Facts.{room}
 use Rattle.boxes_spec.specs.Step.{Failure, unsettled, Result, ok, failed, exhausted, step}
-use Rattle.boxes_spec.specs.Reach.{Reached, reach, clear, reachRefusal, refused, answer, reachOf}
+use Rattle.boxes_spec.specs.Reach.{Reached, reach, reachRefusal, refused, answer, reachOf}
 use Rattle.boxes_spec.proofs.Stages.{Counted, Takes, value, failure, spent, failure-of, has-value}
 use Rattle.boxes_spec.proofs.Sound.{Reaches, ends-reach, reaches-part}
 use Rattle.boxes_spec.proofs.Refusals.{reach-passes}
@@ -57,10 +57,6 @@ module _ (l : Bool) (a : ℕ) (m : Machine) (room : varsOf m ≤ N) where
   reach-settles clear w S ticks c z e = let r = reach-stops clear w S ticks c z e .hits .reason in let n : _≡_ {A = ℕ} 0 1 = cc r in omega arith
 
 -- ---- the public reach: if nothing is refused it reaches
-
-pub clear-none : (n : ℕ) (v B : List ℤ) → clear n v 0 B ≡ true
-unfolding clear any
-clear-none n v B = refl
 
 pub record Answered (v : List ℤ) (ticks w : ℕ) (l : Law) (B : List ℤ) : Type 0 where
   pub reached : Reached

@@ -9,11 +9,12 @@ use Rattle.sheet_spec.specs.Slots.{N}
 use Rattle.sheet_spec.specs.Sheet.{values}
 use Rattle.sheet_spec.specs.SheetA.{fileA}
 use Rattle.sheet_spec.specs.Refusals.{Cause, number}
+use Rattle.sheet_spec.specs.Box.{clear}
 use Rattle.machine_spec.specs.declared.Law.{Law}
 use Rattle.machine_spec.specs.declared.Law.the-variants.{Baseline, Command}
 use Rattle.machine_spec.specs.Machine.{machine}
 use Rattle.boxes_spec.specs.Step.{Result, Step, ok, failed, unsafe}
-use Rattle.boxes_spec.specs.Reach.{Reached, testedStep, reach, clear, Answer, refused, reachFile}
+use Rattle.boxes_spec.specs.Reach.{Reached, testedStep, reach, Answer, refused, reachFile}
 use Rattle.boxes_spec.proofs.Everything.{everything}
 
 -- a box of one variable

@@ -13,7 +13,7 @@ use Rattle.integers.proofs.Z.{ints, le-true, bound-sum, bound-sub, bound-less, 
 use Rattle.sheet_spec.specs.Limits.{maxVars, maxCommand, maxCap, maxEdge, maxCoefficient, maxConstant, maxSpread, maxRecoverySide, maxSide, maxTicks}
 use Rattle.sheet_spec.specs.Slots.{N, vars, leastCommand, greatestCommand, recoverySlot, recoveryBox}
 use Rattle.sheet_spec.specs.Refusals.{Cause, unlessRefused}
-use Rattle.sheet_spec.specs.Box.{lo, hi}
+use Rattle.sheet_spec.specs.Box.{lo, hi, clear}
 use Rattle.machine_spec.specs.Box.{side, Near, Ordered, Sized, trim, hull}
 use Rattle.sheet_spec.specs.Valid.{ValidNumbers}
 use Rattle.machine_spec.specs.declared.Law.{Law}
@@ -28,7 +28,7 @@ use Rattle.machine_spec.proofs.Facts.{room}
 use Rattle.machine_spec.proofs.Part.{part-within, part-ordered}
 use Rattle.machine_spec.proofs.Ranges.{near-less, sized-part, above-first, zero-near, trim-near, hull-near, moved-near, rates-near, limit-near, number-near}
 use Rattle.boxes_spec.specs.Step.{lifted, grown, endBox, Failure, Result, Step, swept}
-use Rattle.boxes_spec.specs.Reach.{maxReached, Reached, reach, clear, lawRefusal, sidesRefusal, reachRefusal, Answer, refused, answer, reachOf}
+use Rattle.boxes_spec.specs.Reach.{maxReached, Reached, reach, lawRefusal, sidesRefusal, reachRefusal, Answer, refused, answer, reachOf}
 use Rattle.boxes_spec.proofs.Settled.{Working, starts, grows, Settled, Place, firstPlace, StepsTo, here, next, steps-less, Ends, reach-takes}
 use Rattle.boxes_spec.proofs.Stages.{Takes, value, failure, spent}
 use Rattle.boxes_spec.proofs.Refusals.{reach-passes}

@@ -12,18 +12,18 @@ use lib.Signed.{_≤ℤ_}
 use Rattle.integers.proofs.Z.{ints, flat}
 use Rattle.sheet_spec.specs.Slots.{_!_, N, unsafeBox}
 use Rattle.sheet_spec.specs.Valid.{ValidNumbers}
+use Rattle.sheet_spec.specs.Box.{clear}
 use Rattle.machine_spec.specs.Box.{side, In, hull, moved}
 use Rattle.machine_spec.specs.Machine.{Machine, varsOf, cap, Tick}
 use Rattle.machine_spec.specs.Rate.{outer, neutral, faceRate, rates}
-use borrow.Author.Tests.{not-true}
-use Rattle.sheet_spec.proofs.Box.{differ, any-none}
+use Rattle.sheet_spec.proofs.Box.{differ, clear-at}
 use Rattle.machine_spec.proofs.Face.{Beyond, beyond-refl, beyond-trans, beyond-flip, beyond-back, beyond-or, beyond-sum, beyond-times, beyond-more, outer-left, outer-right}
 use Rattle.machine_spec.proofs.Inside.{hull-side, lift-side, in-side, in-by, meets-by, Inside, inside-in, within-inside, hull-left, hull-right}
 use Rattle.machine_spec.proofs.Neighborhood.{inward, near-in}
 use Rattle.machine_spec.proofs.Facts.{room, cap-low}
 use Rattle.machine_spec.proofs.Sound.{rate-bounds, cap-bounds, beyond-neutral, rate-between}
 use Rattle.boxes_spec.specs.Step.{lifted, settles, endBox, ok, Step, step, swept}
-use Rattle.boxes_spec.specs.Reach.{Reached, reach, clear}
+use Rattle.boxes_spec.specs.Reach.{Reached, reach}
 use Rattle.boxes_spec.proofs.Stages.{value-of}
 use Rattle.boxes_spec.proofs.Settled.{Settled, still, below-power, step-takes, Place, firstPlace, lastPlace, afterStep, StepsTo, here, next, steps-less, Ends, reach-takes, reach-zero}
 
@@ -212,5 +212,4 @@ reaches-part s r = record { sweeps = λ x b. r .sweeps x (inside-in s b); clears
 
 -- a state of a box that is clear is in none of the first `count` no-go boxes
 pub cleared-avoids : {n : ℕ} (v : List ℤ) (count : ℕ) {x : List ℤ} → Cleared n (clear n v count) x → (j : ℕ) → j < count → In n (unsafeBox v j) x → ⊥
-unfolding clear
-cleared-avoids v count c j h b = differ (meets-by (c .holds) b) (any-none count _ j (not-true _ (c .clears)) h)
+cleared-avoids {n} v count c j h b = differ (meets-by (c .holds) b) (clear-at n v count (c .box) (c .clears) j h)

@@ -1,5 +1,5 @@
 -- The reach (document 01, "One lifted step", its last paragraph), and the public reach with its refusals. All of it computes.
-use mathlib.Core.Bool.{Bool, true, false, not, _&&_}
+use mathlib.Core.Bool.{Bool, true, false, _&&_}
 use mathlib.Core.List.{List, [], _∷_}
 use Prim.Native.Nat.{ℕ, zero, suc, _+_, _*_, _-_, min}
 use lib.Dec.{leb}
@@ -7,10 +7,10 @@ use lib.IntN.{ℤ, pos, negℤ}
 use lib.Signed.{leZ}
 use lib.ListN.{replicate}
 use Rattle.sheet_spec.specs.Limits.{maxSide, maxTicks, maxWidth, maxCap}
-use Rattle.sheet_spec.specs.Slots.{boxSize, vars, leastCommand, greatestCommand, unsafeBox}
+use Rattle.sheet_spec.specs.Slots.{boxSize, vars, leastCommand, greatestCommand}
 use Rattle.sheet_spec.specs.Refusals.{Cause, refuseUnless, unlessRefused, firstOf}
 use Rattle.sheet_spec.specs.Sheet.{refusal, values}
-use Rattle.sheet_spec.specs.Box.{lo, hi, all, any, meets}
+use Rattle.sheet_spec.specs.Box.{lo, hi, all, clear}
 use Rattle.machine_spec.specs.Box.{hull, trim}
 use Rattle.machine_spec.specs.declared.Law.{Law}
 use Rattle.machine_spec.specs.declared.Law.the-variants.{Baseline, Command}
@@ -46,10 +46,6 @@ module _ (limited : Bool) (allowance : ℕ) (m : Machine) (clear : List ℤ → 
   -- a reach of `ticks` ticks from S, after c rounds
   unfoldable pub reach : List ℤ → ℕ → ℕ → Result Reached
   reach S ticks c = steps (suc ticks) S S ticks c
-
--- the box shares no state with the first `count` no-go boxes of the sheet v
-unfoldable pub clear : ℕ → List ℤ → ℕ → List ℤ → Bool
-clear n v count B = not (any count (λ j. meets n B (unsafeBox v j)))
 
 -- ---- the public reach of a sheet v: no boxes to keep clear of, no allowance
 

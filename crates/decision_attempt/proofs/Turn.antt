@@ -13,7 +13,7 @@ use lib.ListN.{getD, length, take, drop, length-take}
 use lib.Seq.{drop-cons, getD-take}
 use Rattle.sheet_spec.specs.Slots.{N, vars, boxes, recoveryBox}
 use Rattle.sheet_spec.specs.Valid.{ValidNumbers}
-use Rattle.sheet_spec.specs.Box.{all, lowestMet}
+use Rattle.sheet_spec.specs.Box.{all, lowestMet, clear}
 use Rattle.machine_spec.specs.Box.{Sized, trim, within}
 use Rattle.machine_spec.specs.declared.Law.{Law}
 use Rattle.machine_spec.specs.Machine.{machine}
@@ -23,7 +23,7 @@ use Rattle.boxes.specs.declared.steps.ReachResult.the-variants.{Ended, Unsettle
 use Rattle.boxes.specs.declared.steps.ReachResult.the-variants as result
 use Rattle.boxes_spec.specs.Step.{Result, ok, failed, exhausted, unrecovered, andThen}
 use Rattle.sheet_spec.specs.Limits.{maxSide, maxTicks, maxWidth}
-use Rattle.boxes_spec.specs.Reach.{Reached, reach, clear}
+use Rattle.boxes_spec.specs.Reach.{Reached, reach}
 use Rattle.boxes.specs.ReachResult.{resultOf, reachedOf, Names}
 use Rattle.boxes_spec.proofs.Stages.{value, failure, spent}
 use Rattle.machine_spec.proofs.Ranges.{sized-less}

@@ -14,6 +14,7 @@ use Rattle.sheet_spec.specs.Limits.{maxAllowance, maxTicks, maxWidth}
 use Rattle.sheet_spec.specs.Refusals.{Cause, greatestNumber, unlessRefused}
 use Rattle.sheet_spec.specs.Sheet.{refusal, values}
 use Rattle.sheet_spec.specs.Valid.{ValidNumbers}
+use Rattle.sheet_spec.specs.Box.{clear}
 use Rattle.sheet_spec.proofs.Valid.{valid-numbers}
 use Rattle.sheet_spec.proofs.Causes.{refusal-most}
 use Rattle.sheet_spec.proofs.Laws.{unless-most}
@@ -24,7 +25,6 @@ use Rattle.machine_spec.specs.Machine.{machine}
 use Rattle.sheet_spec.proofs.Box.{differ}
 use Rattle.machine_spec.proofs.Facts.{room}
 use Rattle.boxes_spec.specs.Step.{Result, ok, failed, exhausted}
-use Rattle.boxes_spec.specs.Reach.{clear}
 use Rattle.boxes_spec.proofs.Refusals.{law-most, sides-most}
 use Rattle.boxes_spec.proofs.Stages.{Counted, Takes, value, failure, spent, counted-none, counted-less, counted-on, takes-map, takes-then, takes-if}
 use Rattle.boxes_spec.proofs.Settled.{reach-takes}

@@ -12,12 +12,12 @@ use Rattle.sheet_spec.specs.Slots.{vars, boxes, δ, α, ρ, recoveryBox}
 use Rattle.sheet_spec.specs.Refusals.{unlessRefused}
 use Rattle.sheet_spec.specs.Sheet.{refusal, values}
 use Rattle.sheet_spec.specs.Valid.{ValidNumbers}
+use Rattle.sheet_spec.specs.Box.{clear}
 use Rattle.machine_spec.specs.Box.{In}
 use Rattle.machine_spec.specs.declared.Law.{Law}
 use Rattle.machine_spec.specs.declared.Law.the-variants.{Baseline}
 use Rattle.machine_spec.proofs.Inside.{inside-in, within-inside}
 use Rattle.boxes_spec.specs.Step.{Result, ok, failed, exhausted, andThen}
-use Rattle.boxes_spec.specs.Reach.{clear}
 use Rattle.boxes_spec.proofs.Sound.{reach-sound, cleared-avoids}
 use Rattle.decision_spec.specs.Question.{questionRefusal, questionOf}
 use Rattle.decision_spec.specs.declared.Phase.{Phase}

@@ -17,6 +17,7 @@ use Rattle.sheet_spec.specs.Sizes.{letters, upperAt, pairBytes}
 use Rattle.sheet_spec.specs.Limits.{maxAllowance}
 use Rattle.sheet_spec.specs.Refusals.{Cause, unlessRefused}
 use Rattle.sheet_spec.specs.Sheet.{refusal, values}
+use Rattle.sheet_spec.specs.Box.{clear}
 use Rattle.sheet_spec.proofs.Laws.{unless-zero}
 use Rattle.machine_spec.specs.Box.{boxOf, within}
 use Rattle.machine_spec.specs.declared.Law.{Law}
@@ -24,7 +25,6 @@ use Rattle.machine_spec.specs.declared.Law.the-variants.{Command}
 use Rattle.machine_spec.specs.Machine.{machine}
 use Rattle.sheet_spec.proofs.Box.{differ}
 use Rattle.boxes_spec.specs.Step.{Result, ok, failed, exhausted}
-use Rattle.boxes_spec.specs.Reach.{clear}
 use Rattle.boxes_spec.proofs.Count.{count}
 use Rattle.boxes_spec.proofs.Cut.{Cut, value, failure, spent, CutFrom, cut-value, cut-failure, cut-if, cut-then, reach-cut}
 use Rattle.decision_spec.specs.Question.{commandAt, sidesAt, formRefusal, allowanceRefusal, headRefusal, questionRefusal, allowanceOf, commandOf, pairs, measured}

@@ -7,12 +7,13 @@ use lib.IntN.{ℤ}
 use Rattle.sheet_spec.specs.Slots.{vars, boxes, δ, α, ρ, recoveryBox}
 use Rattle.sheet_spec.specs.Refusals.{unlessRefused}
 use Rattle.sheet_spec.specs.Sheet.{refusal, values}
+use Rattle.sheet_spec.specs.Box.{clear}
 use Rattle.machine_spec.specs.Box.{within}
 use Rattle.machine_spec.specs.declared.Law.{Law}
 use Rattle.machine_spec.specs.declared.Law.the-variants.{Baseline}
 use Rattle.machine_spec.specs.Machine.{machine}
 use Rattle.boxes_spec.specs.Step.{Failure, unsettled, unrecovered, Result, ok, failed, exhausted, andThen}
-use Rattle.boxes_spec.specs.Reach.{Reached, reach, clear}
+use Rattle.boxes_spec.specs.Reach.{Reached, reach}
 use Rattle.decision_spec.specs.declared.Phase.{Phase}
 use Rattle.decision_spec.specs.declared.Question.{Question}
 use Rattle.decision_spec.specs.Question.{questionOf, questionRefusal}

@@ -9,12 +9,12 @@ use Rattle.integers.specs.Division.{floorDiv, ceilDiv}
 use Rattle.sheet_spec.specs.Slots.{N, bandSlot, bandSize}
 use Rattle.sheet_spec.specs.Sheet.{values}
 use Rattle.sheet_spec.specs.SheetA.{fileA}
-use Rattle.sheet_spec.specs.Box.{lo, hi, meets}
+use Rattle.sheet_spec.specs.Box.{lo, hi, meets, clear}
 use Rattle.machine_spec.specs.declared.Law.{Law}
 use Rattle.machine_spec.specs.declared.Law.the-variants.{Baseline, Command}
 use Rattle.machine_spec.specs.Machine.{machine, bandMeets, clamp}
 use Rattle.boxes_spec.specs.Step.{Result, ok, failed, exhausted}
-use Rattle.boxes_spec.specs.Reach.{Reached, reach, clear}
+use Rattle.boxes_spec.specs.Reach.{Reached, reach}
 use Rattle.decision_spec.specs.Decision.{packed, decide, checkRecovery}
 use Rattle.decision_spec.specs.Listing.{listing}
 

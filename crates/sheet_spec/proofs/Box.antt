@@ -1,7 +1,7 @@
 -- Laws about tests of each number below a count, and about the boxes of a sheet. Assumes nothing.
 use mathlib.Core.Path.{_≡_, refl, sym, ap, ap₂, _∙_, subst}
 use mathlib.Core.Logic.{⊎-elim}
-use mathlib.Core.Bool.{Bool, true, false, _&&_, _||_}
+use mathlib.Core.Bool.{Bool, true, false, not, _&&_, _||_}
 use mathlib.Core.List.{List}
 use Prim.Native.Nat.{ℕ, zero, suc, _+_, _≤_, _<_}
 use native.Mathlib.Nat.{eq-or-lt-of-le}
@@ -12,10 +12,10 @@ use lib.IntN.{ℤ, pos}
 use lib.Signed.{leZ, _≤ℤ_, _<ℤ_}
 use lib.ListN.{length, drop, length-drop}
 use lib.Seq.{getD-take, getD-drop, length-take-le}
-use borrow.Author.Tests.{ltb-true, ltb-false}
+use borrow.Author.Tests.{ltb-true, ltb-false, not-true, not-false}
 use Rattle.integers.proofs.Z.{ints, le-true}
-use Rattle.sheet_spec.specs.Slots.{_!_, N, boxSize, boxAt}
-use Rattle.sheet_spec.specs.Box.{lo, hi, all, any, lowestPassing, SameSides, meets}
+use Rattle.sheet_spec.specs.Slots.{_!_, N, boxSize, boxAt, unsafeBox}
+use Rattle.sheet_spec.specs.Box.{lo, hi, all, any, lowestPassing, SameSides, meets, clear, lowestMet}
 use Rattle.sheet_spec.proofs.Streams.{lt-or-le}
 
 -- ---- tests
@@ -98,6 +98,11 @@ unfolding any
 any-of-none zero f h = refl
 any-of-none (suc n) f h = rw (any-of-none n f (λ i l. h i (omega arith)), h n (omega arith)) refl
 
+pub any-same : (n : ℕ) (f g : ℕ → Bool) → ((i : ℕ) → i < n → f i ≡ g i) → any n f ≡ any n g
+unfolding any
+any-same zero f g h = refl
+any-same (suc n) f g h = ap₂ _||_ (any-same n f g (λ i l. h i (omega arith))) (h n (omega arith))
+
 -- ---- the lowest i below n that passes
 
 -- none below i passes; i does, or it is n
@@ -158,10 +163,13 @@ module _ (v : List ℤ) (at i : ℕ) (h : i < N) where
   pub box-hi : hi (boxAt v at) i ≡ v ! (at + i + N)
   box-hi = let q : at + (i + N) ≡ at + i + N = omega arith in box-at v at (i + N) (omega arith) ∙ rw q refl
 
--- a box with the same sides meets the same boxes
-pub meets-same : (n : ℕ) (B : List ℤ) {A A′ : List ℤ} → SameSides n A A′ → meets n B A ≡ meets n B A′
+pub same-self : (n : ℕ) (A : List ℤ) → SameSides n A A
+same-self n A = record { lower = λ i h. refl; upper = λ i h. refl }
+
+-- whether two boxes share a state goes by their sides
+pub meets-sides : (n : ℕ) {A A′ B B′ : List ℤ} → SameSides n A A′ → SameSides n B B′ → meets n A B ≡ meets n A′ B′
 unfolding meets
-meets-same n B s = all-same n _ _ (λ i h. ap₂ _&&_ (ap (leZ (lo B i)) (s .upper i h)) (ap (λ (x : ℤ). leZ x (hi B i)) (s .lower i h)))
+meets-sides n a b = all-same n _ _ (λ i h. ap₂ _&&_ (ap₂ leZ (a .lower i h) (b .upper i h)) (ap₂ leZ (b .lower i h) (a .upper i h)))
 
 pub box-length : (v : List ℤ) (at : ℕ) → at + boxSize ≤ length v → length (boxAt v at) ≡ boxSize
 box-length v at h = length-take-le boxSize (drop at v) (omega (arith, length-drop at v))
@@ -170,3 +178,38 @@ module _ (n : ℕ) (A B : List ℤ) (i : ℕ) (h : i < n) where
   pub meets-at : meets n A B ≡ true → (lo A i ≤ℤ hi B i) × (lo B i ≤ℤ hi A i)
   unfolding meets
   meets-at e = let b = and-both _ _ (all-at n _ i e h) in (le-true _ _ (b .0), le-true _ _ (b .1))
+
+-- ---- clear of the first `count` no-go boxes of a sheet
+
+pub clear-none : (n : ℕ) (v B : List ℤ) → clear n v 0 B ≡ true
+unfolding clear any
+clear-none n v B = refl
+
+pub clear-more : (n : ℕ) (v : List ℤ) (j : ℕ) (B : List ℤ) → clear n v j B ≡ true → meets n B (unsafeBox v j) ≡ false → clear n v (j + 1) B ≡ true
+unfolding clear
+clear-more n v j B e f = ap not (any-more j _ (not-true _ e) f)
+
+module _ (n : ℕ) (v : List ℤ) (count : ℕ) (B : List ℤ) where
+  pub clear-at : clear n v count B ≡ true → (j : ℕ) → j < count → meets n B (unsafeBox v j) ≡ false
+  unfolding clear
+  clear-at e j h = any-none count _ j (not-true _ e) h
+
+  pub clear-of : ((j : ℕ) → j < count → meets n B (unsafeBox v j) ≡ false) → clear n v count B ≡ true
+  unfolding clear
+  clear-of h = ap not (any-of-none count _ h)
+
+  pub not-clear : (j : ℕ) → j < count → meets n B (unsafeBox v j) ≡ true → clear n v count B ≡ false
+  unfolding clear
+  not-clear j h e = ap not (any-at count _ j h e)
+
+  -- where B is not clear, the lowest number that it meets is one
+  pub lowest-met : clear n v count B ≡ false → (lowestMet n v count B < count) × (meets n B (unsafeBox v (lowestMet n v count B)) ≡ true)
+  unfolding clear lowestMet
+  lowest-met e =
+      let below = ltb-true _ _ (sym (any-is count (λ j. meets n B (unsafeBox v j))) ∙ not-false _ e) in
+      (below, lowest-found count _ .passes below)
+
+pub clear-sides : (n : ℕ) (v w : List ℤ) (count : ℕ) {A B : List ℤ} → SameSides n A B
+    → ((j : ℕ) → j < count → SameSides n (unsafeBox v j) (unsafeBox w j)) → clear n v count A ≡ clear n w count B
+unfolding clear
+clear-sides n v w count a s = ap not (any-same count _ _ (λ j h. meets-sides n a (s j h)))

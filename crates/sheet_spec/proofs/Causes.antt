@@ -7,7 +7,8 @@ use lib.Dec.{eqb, leb}
 use lib.IntN.{ℤ}
 use lib.ListN.{length}
 use lib.Signed.{leZ}
-use Rattle.sheet_spec.specs.Slots.{_!_, headSize}
+use Rattle.sheet_spec.specs.Slots.{_!_, headSize, recoveryBox}
+use Rattle.sheet_spec.specs.Box.{clear}
 use Rattle.sheet_spec.specs.Order.{ascendsAt}
 use Rattle.sheet_spec.specs.Refusals.{Cause, greatestNumber}
 use Rattle.sheet_spec.specs.Fields.{Field, test, bad}
@@ -16,7 +17,7 @@ use Rattle.sheet_spec.specs.declared.Record.{Record}
 use Rattle.sheet_spec.specs.declared.Record.the-variants.{Head, Band, Unsafe, Recovery}
 use Rattle.sheet_spec.specs.Layout.{headFields}
 use Rattle.sheet_spec.specs.declared.Shape.{Shape}
-use Rattle.sheet_spec.specs.File.{shape, records, recordAt, fieldsAt, fieldCountAt, recordStart, marked, markedAt, orderTest, closing, badRecord, badAll}
+use Rattle.sheet_spec.specs.File.{shape, records, recordAt, fieldsAt, fieldCountAt, recordStart, marked, markedAt, orderTest, overlapTest, closing, badRecord, badAll}
 use Rattle.sheet_spec.specs.Sheet.{headOf, shapeOf, contents, stage, stages, refusal, valueRefusal, length-of, writeRefusal}
 use Rattle.sheet_spec.proofs.Laws.{either-most, first-most, unless-most}
 
@@ -33,12 +34,16 @@ unfolding orderTest
 order-most n v zero = omega arith
 order-most n v (suc j) = unless-most (ascendsAt n v j) Cause.order
 
+overlap-most : (n : ℕ) (v : List ℤ) (count : ℕ) → overlapTest n v count ≤ greatestNumber
+unfolding overlapTest
+overlap-most n v count = unless-most (clear n v count (recoveryBox v)) Cause.overlap
+
 closing-most : (v : List ℤ) (s : Shape) (x : Record) → closing v s x ≤ greatestNumber
 unfolding closing
 closing-most v s Head = omega arith
 closing-most v s (Band k) = omega arith
 closing-most v s (Unsafe j) = order-most (s .vars) v j
-closing-most v s Recovery = omega arith
+closing-most v s Recovery = overlap-most (s .vars) v (s .boxes)
 
 all-most : (marks : ℕ → Bool) (s : Shape) (v : List ℤ) (k : ℕ) → badAll marks s v k ≤ greatestNumber
 unfolding badAll

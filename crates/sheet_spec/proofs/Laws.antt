@@ -103,6 +103,7 @@ number-range Cause.start = (omega arith, omega arith)
 number-range Cause.reach = (omega arith, omega arith)
 number-range Cause.room = (omega arith, omega arith)
 number-range Cause.order = (omega arith, omega arith)
+number-range Cause.overlap = (omega arith, omega arith)
 
 pub number-is : (c : Cause) → number c ≡ 0 → ⊥
 number-is c e = omega (arith, number-range c .0)

@@ -1,5 +1,6 @@
 pub mod Box
 pub mod Order
+pub mod Overlap
 pub mod Streams
 pub mod Laws
 pub mod FirstRefusal

@@ -6,19 +6,19 @@ use Prim.Native.Nat.{ℕ, zero, suc, _+_, _*_, _≤_, _<_}
 use native.Mathlib.Omega.{arith}
 use lib.IntN.{ℤ}
 use lib.Signed.{_≤ℤ_}
-use Rattle.sheet_spec.specs.Slots.{_!_, N, headSize, bandSlot, rowSlot, recoverySlot, unsafeSlot, unsafeBox, vars, bands, varsSlot, δSlot, leastSlot, greatestSlot, restSize, pairSize, edgeInBand, leastInBand}
+use Rattle.sheet_spec.specs.Slots.{_!_, N, headSize, bandSlot, rowSlot, recoverySlot, unsafeSlot, boxAt, unsafeBox, vars, bands, varsSlot, δSlot, leastSlot, greatestSlot, restSize, pairSize, edgeInBand, leastInBand}
 use Rattle.sheet_spec.specs.Fields.{Field}
 use Rattle.sheet_spec.specs.Limits.{maxUnsafeSide, maxRecoverySide}
 use Rattle.sheet_spec.specs.Layout.{_▸_, headFields, edgeField, rowRest, rowFields, bandFields, sideFields, boxFields, rowCount, bandCount, boxCount}
 use Rattle.sheet_spec.specs.declared.Shape.{Shape}
 use Rattle.sheet_spec.specs.Box.{SameSides}
 use Rattle.sheet_spec.specs.Refusals.{Cause, refuseUnless}
-use Rattle.sheet_spec.specs.File.{records, recordAt, orderTest, closing}
+use Rattle.sheet_spec.specs.File.{records, recordAt, orderTest, overlapTest, closing}
 use Rattle.sheet_spec.proofs.Streams.{Each, each-next, each-first, each-groups, rows-more, caps-more}
 use Rattle.sheet_spec.proofs.Records.{record-cases, EachField, each-field, each-head, each-band, each-unsafe, each-recovery, each-side}
 use Rattle.sheet_spec.proofs.Tests.{InRange, Good, good-ranges}
 use Rattle.sheet_spec.proofs.Places.{edge-slot}
-use Rattle.sheet_spec.proofs.Box.{box-lo, box-hi}
+use Rattle.sheet_spec.proofs.Box.{box-lo, box-hi, clear-sides}
 use Rattle.sheet_spec.proofs.Order.{ascends-sides}
 
 -- ---- a field: its value is the same in both, and so are the ends of its range
@@ -72,6 +72,16 @@ module _ (v w : List ℤ) where
   box-ends n h s e =
       each-groups n pairSize _ (λ i l. each-next _ _ (given refl refl) (record { at = λ j k. given (each-side n h s e i l .at 0 (omega arith)) refl }))
 
+  -- the boxes themselves
+  pub box-same : (n h s : ℕ) → n ≤ N → Each Equal (boxFields h s) (boxCount n) → SameSides n (boxAt v s) (boxAt w s)
+  unfolding sideFields _▸_
+  box-same n h s room e =
+      let p = each-side n h s e in
+      record {
+        lower = λ i l. box-lo v s i (omega arith) ∙ p i l .at 0 (omega arith) ∙ sym (box-lo w s i (omega arith));
+        upper = λ i l. box-hi v s i (omega arith) ∙ p i l .at 1 (omega arith) ∙ sym (box-hi w s i (omega arith));
+      }
+
   -- ---- sheets
 
   module _ (s : Shape) (e : EachField Equal s) where
@@ -102,14 +112,7 @@ module _ (v w : List ℤ) where
 
     module _ (room : s .vars ≤ N) where
       unsafe-same : (j : ℕ) → j < s .boxes → SameSides (s .vars) (unsafeBox v j) (unsafeBox w j)
-      unfolding sideFields _▸_
-      unsafe-same j l =
-          let at = unsafeSlot j in
-          let p = each-side (s .vars) maxUnsafeSide at (each-unsafe s e j l) in
-          record {
-            lower = λ i h. box-lo v at i (omega arith) ∙ p i h .at 0 (omega arith) ∙ sym (box-lo w at i (omega arith));
-            upper = λ i h. box-hi v at i (omega arith) ∙ p i h .at 1 (omega arith) ∙ sym (box-hi w at i (omega arith));
-          }
+      unsafe-same j l = box-same (s .vars) maxUnsafeSide (unsafeSlot j) room (each-unsafe s e j l)
 
       -- the test of a whole record goes by the sheet's numbers up to the counts
       same-order : (j : ℕ) → j < s .boxes → orderTest (s .vars) v j ≡ orderTest (s .vars) w j
@@ -117,9 +120,15 @@ module _ (v w : List ℤ) where
       same-order zero l = refl
       same-order (suc j) l = ap (λ (b : Bool). refuseUnless b Cause.order) (ascends-sides (s .vars) v w j (unsafe-same j (omega arith)) (unsafe-same (suc j) l))
 
+      same-overlap : overlapTest (s .vars) v (s .boxes) ≡ overlapTest (s .vars) w (s .boxes)
+      unfolding overlapTest
+      same-overlap =
+          let recovery = box-same (s .vars) maxRecoverySide recoverySlot room (each-recovery s e) in
+          ap (λ (b : Bool). refuseUnless b Cause.overlap) (clear-sides (s .vars) v w (s .boxes) recovery unsafe-same)
+
       pub same-closing : (r : ℕ) → r < records s → closing v s (recordAt s r) ≡ closing w s (recordAt s r)
       unfolding closing
-      same-closing = record-cases s (λ r x. closing v s x ≡ closing w s x) refl (λ k l. refl) same-order refl
+      same-closing = record-cases s (λ r x. closing v s x ≡ closing w s x) refl (λ k l. refl) same-order same-overlap
 
       pub same-good : Each (Good v s) (recordAt s) (records s) → Each (Good w s) (recordAt s) (records s)
       same-good g = record { at = λ r l. record { ranges = same-ranges (good-ranges v s g) .at r l; closed = sym (same-closing r l) ∙ g .at r l .closed } }

@@ -10,21 +10,23 @@ use lib.ListN.{length, replicate}
 use mir.Syntax.{w32}
 use mir.Val.{SFits}
 use Rattle.integers.proofs.Z.{ints, flat}
-use Rattle.sheet_spec.specs.Slots.{_!_, N, slots, bandSlot, recoverySlot, unsafeSlot, vars, bands, row, varsSlot, bandsSlot, boxesSlot, bandVarSlot, δSlot, αSlot, ρSlot, leastSlot, greatestSlot, restSize, pairSize, bInRest, cInRest, dInRest, qInRest, edgeInBand, leastInBand, greatestInBand}
-use Rattle.sheet_spec.specs.Valid.{ValidRow, ValidBox, ValidNumbers, Ascending, Valid}
+use Rattle.sheet_spec.specs.Slots.{_!_, N, slots, bandSlot, recoverySlot, unsafeSlot, vars, bands, row, recoveryBox, varsSlot, bandsSlot, boxesSlot, bandVarSlot, δSlot, αSlot, ρSlot, leastSlot, greatestSlot, restSize, pairSize, bInRest, cInRest, dInRest, qInRest, edgeInBand, leastInBand, greatestInBand}
+use Rattle.sheet_spec.specs.Valid.{ValidRow, ValidBox, ValidNumbers, Ascending, RecoveryClear, Valid}
 use Rattle.sheet_spec.specs.Refusals.{Cause}
+use Rattle.sheet_spec.specs.Box.{clear}
 use Rattle.sheet_spec.specs.Order.{ascendsAt}
 use Rattle.sheet_spec.specs.Fields.{Kind, u8, u16, i16, i32}
 use Rattle.sheet_spec.specs.Limits.{maxEdge, maxUnsafeSide, maxRecoverySide}
 use Rattle.sheet_spec.specs.Layout.{_▸_, headFields, edgeField, rowRest, rowFields, bandFields, sideFields, boxFields, boxCount}
 use Rattle.sheet_spec.specs.declared.Record.{Record}
 use Rattle.sheet_spec.specs.declared.Shape.{Shape}
-use Rattle.sheet_spec.specs.File.{shape, records, fieldsAt, orderTest, closing}
+use Rattle.sheet_spec.specs.File.{shape, records, fieldsAt, orderTest, overlapTest, closing}
 use Rattle.sheet_spec.specs.Sheet.{zeros, shapeOf, contents, refusal, values}
 use Rattle.sheet_spec.proofs.Streams.{Each, each-next, each-low, each-high}
 use Rattle.sheet_spec.proofs.Laws.{stops, unless-zero}
+use Rattle.sheet_spec.proofs.Box.{clear-at}
 use Rattle.sheet_spec.proofs.Tests.{InRange, AllInRange, AllGood, good-ranges}
-use Rattle.sheet_spec.proofs.Records.{unsafe-at, each-head, each-band, each-unsafe, each-recovery, each-cap, each-row, each-side}
+use Rattle.sheet_spec.proofs.Records.{unsafe-at, recovery-at, each-head, each-band, each-unsafe, each-recovery, each-cap, each-row, each-side}
 use Rattle.sheet_spec.proofs.Places.{head-slot, recovery-free}
 use Rattle.sheet_spec.proofs.Filled.{TakenAll, origin-all, length-all}
 use Rattle.sheet_spec.proofs.Ranges.{abs-in, abs-is, Fit, all-fit}
@@ -140,6 +142,14 @@ ascending v g = record {
       unless-zero (ascendsAt (s .vars) v j) Cause.order c;
 }
 
+-- and none of them shares a state with the recovery box
+pub recovery-clear : (v : List ℤ) → AllGood v → RecoveryClear v
+unfolding closing overlapTest
+recovery-clear v g =
+    let s = shape v in
+    let c = subst (λ (x : Record). closing v s x ≡ 0) (recovery-at s) (g .at (1 + (s .bands + s .boxes)) (omega arith) .closed) in
+    record { at = clear-at (s .vars) v (s .boxes) (recoveryBox v) (unless-zero (clear (s .vars) v (s .boxes) (recoveryBox v)) Cause.overlap c) }
+
 module _ (f : List ℕ) (a : Accepted f) where
   in-range : AllInRange (contents f)
   in-range = good-ranges (contents f) (shape (contents f)) (contents-good f a)
@@ -164,6 +174,7 @@ module _ (f : List ℕ) (a : Accepted f) where
   contents-valid = record {
     numbers = numbers-of (contents f) in-range (length-all (shapeOf f) f (records (shapeOf f)) zeros ∙ length-zeros) contents-fit;
     order = ascending (contents f) (contents-good f a);
+    clear = recovery-clear (contents f) (contents-good f a);
   }
 
 pub valid : (f : List ℕ) → refusal f ≡ 0 → Valid (values f)

@@ -7,18 +7,19 @@ use native.Mathlib.Omega.{arith}
 use lib.IntN.{ℤ, pos, natAbs}
 use Rattle.integers.proofs.Z.{ints, flat}
 use Rattle.sheet_spec.specs.Limits.{maxUnsafeSide, maxRecoverySide}
-use Rattle.sheet_spec.specs.Slots.{_!_, headSize, rowSlot, recoverySlot, unsafeSlot, vars, bands, varsSlot, bandsSlot, boxesSlot, bandVarSlot, δSlot, αSlot, ρSlot, leastSlot, restSize, pairSize}
+use Rattle.sheet_spec.specs.Slots.{_!_, headSize, rowSlot, recoverySlot, unsafeSlot, recoveryBox, vars, bands, varsSlot, bandsSlot, boxesSlot, bandVarSlot, δSlot, αSlot, ρSlot, leastSlot, restSize, pairSize}
 use Rattle.sheet_spec.specs.Valid.{Between, ValidBox, ValidNumbers, Valid}
 use Rattle.sheet_spec.specs.Refusals.{Cause, refuseUnless}
 use Rattle.sheet_spec.specs.Layout.{headFields, edgeField, rowRest, rowFields, bandFields, sideFields, boxFields, rowCount, bandCount, boxCount}
-use Rattle.sheet_spec.specs.File.{shape, records, recordAt, fieldsAt, fieldCountAt, orderTest, closing}
+use Rattle.sheet_spec.specs.File.{shape, records, recordAt, fieldsAt, fieldCountAt, orderTest, overlapTest, closing}
 use Rattle.sheet_spec.specs.Sheet.{valueRefusal}
 use Rattle.sheet_spec.specs.Validity.{ExactlyValid}
 use Rattle.sheet_spec.proofs.Streams.{Each, each-next, each-first, each-groups, rows-more, caps-more}
 use Rattle.sheet_spec.proofs.Records.{record-cases, each-field}
+use Rattle.sheet_spec.proofs.Box.{clear-of}
 use Rattle.sheet_spec.proofs.Tests.{InRange, AllInRange, bad-ranges, ranges-bad, value-good, good-value, good-ranges}
 use Rattle.sheet_spec.proofs.Ranges.{abs-is, in-abs}
-use Rattle.sheet_spec.proofs.Valid.{numbers-of, ascending}
+use Rattle.sheet_spec.proofs.Valid.{numbers-of, ascending, recovery-clear}
 
 -- ---- each number of a valid value lies in its range
 
@@ -81,9 +82,13 @@ module _ {v : List ℤ} (a : Valid v) where
   order-passes zero l = refl
   order-passes (suc j) l = ap (λ (t : Bool). refuseUnless t Cause.order) (a .order .at j l)
 
+  overlap-passes : overlapTest (vars v) v (shape v .boxes) ≡ 0
+  unfolding overlapTest
+  overlap-passes = ap (λ (t : Bool). refuseUnless t Cause.overlap) (clear-of (vars v) v (shape v .boxes) (recoveryBox v) (a .clear .at))
+
   closed : (r : ℕ) → r < records (shape v) → closing v (shape v) (recordAt (shape v) r) ≡ 0
   unfolding closing
-  closed = record-cases (shape v) (λ r x. closing v (shape v) x ≡ 0) refl (λ k l. refl) order-passes refl
+  closed = record-cases (shape v) (λ r x. closing v (shape v) x ≡ 0) refl (λ k l. refl) order-passes overlap-passes
 
   -- so the writer accepts it
   pub valid-accepted : valueRefusal v ≡ 0
@@ -96,7 +101,7 @@ exactly-valid v array = record {
     (λ wf r l. ranges-bad (fieldsAt (shape v) r) v (fieldCountAt (shape v) r) (in-ranges wf .at r l)),
   );
   all = (
-    (λ e. let g = value-good v e in record { numbers = numbers-of v (good-ranges v (shape v) g) (array .size) (array .fits); order = ascending v g }),
+    (λ e. let g = value-good v e in record { numbers = numbers-of v (good-ranges v (shape v) g) (array .size) (array .fits); order = ascending v g; clear = recovery-clear v g }),
     valid-accepted,
   );
 }

@@ -1,7 +1,7 @@
 -- Boxes as a sheet has them, and tests of each number below a count. All of it computes.
 -- A box is 2N numbers: variable i's lower side at i, its upper side at i + N. Places that no variable has are 0.
 use mathlib.Core.Path.{_≡_}
-use mathlib.Core.Bool.{Bool, true, false, _&&_, _||_}
+use mathlib.Core.Bool.{Bool, true, false, not, _&&_, _||_}
 use mathlib.Core.List.{List}
 use Prim.Native.Nat.{ℕ, zero, suc, _+_, _<_}
 use lib.IntN.{ℤ}
@@ -39,6 +39,10 @@ pub record SameSides (n : ℕ) (A B : List ℤ) : Type 0 where
 -- A and B share a state
 unfoldable pub meets : ℕ → List ℤ → List ℤ → Bool
 meets n A B = all n (λ i. leZ (lo A i) (hi B i) && leZ (lo B i) (hi A i))
+
+-- B shares no state with the first `count` no-go boxes of the sheet v
+unfoldable pub clear : ℕ → List ℤ → ℕ → List ℤ → Bool
+clear n v count B = not (any count (λ j. meets n B (unsafeBox v j)))
 
 -- the lowest number, from 0, of the first `count` no-go boxes of the sheet v that share a state with B, or `count` if none does
 unfoldable pub lowestMet : ℕ → List ℤ → ℕ → List ℤ → ℕ

@@ -6,7 +6,8 @@ use lib.Dec.{eqb}
 use lib.IntN.{ℤ}
 use lib.ListN.{getD}
 use Rattle.sheet_spec.specs.Limits.{maxBands, maxBoxes}
-use Rattle.sheet_spec.specs.Slots.{N, vars, bands, boxes}
+use Rattle.sheet_spec.specs.Slots.{N, vars, bands, boxes, recoveryBox}
+use Rattle.sheet_spec.specs.Box.{clear}
 use Rattle.sheet_spec.specs.Order.{ascendsAt}
 use Rattle.sheet_spec.specs.Refusals.{Cause, refuseUnless, unlessRefused, firstRefusal}
 use Rattle.sheet_spec.specs.Fields.{Field, offset, filled, coded, bad}
@@ -81,12 +82,16 @@ unfoldable pub orderTest : ℕ → List ℤ → ℕ → ℕ
 orderTest n v zero = 0
 orderTest n v (suc j) = refuseUnless (ascendsAt n v j) Cause.order
 
+-- the recovery box shares no state with a no-go box (document 02, paper 8)
+unfoldable pub overlapTest : ℕ → List ℤ → ℕ → ℕ
+overlapTest n v count = refuseUnless (clear n v count (recoveryBox v)) Cause.overlap
+
 -- the test of a whole record, made after those of its fields: 0, or why the sheet is refused
 unfoldable pub closing : List ℤ → Shape → Record → ℕ
 closing v s Head = 0
 closing v s (Band k) = 0
 closing v s (Unsafe j) = orderTest (s .vars) v j
-closing v s Recovery = 0
+closing v s Recovery = overlapTest (s .vars) v (s .boxes)
 
 -- the refusal of a record's fields or, if there is none, of the whole record
 abbrev pub badNumbers : List ℤ → Shape → Record → ℕ

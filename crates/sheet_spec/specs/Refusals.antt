@@ -40,6 +40,8 @@ pub data Cause : Type 0 where
   room : Cause
   -- a no-go box that is not greater than the one before (document 02, paper 2)
   order : Cause
+  -- the recovery box shares a state with a no-go box (document 02, paper 8)
+  overlap : Cause
 
 abbrev pub number : Cause → ℕ
 number head = 1
@@ -60,10 +62,11 @@ number start = 15
 number reach = 16
 number room = 17
 number order = 20
+number overlap = 22
 
 -- no cause has a greater number
 abbrev pub greatestNumber : ℕ
-greatestNumber = number order
+greatestNumber = number overlap
 
 -- 0 where the test passed, else the number of the cause
 abbrev pub refuseUnless : Bool → Cause → ℕ

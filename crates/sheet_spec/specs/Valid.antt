@@ -1,6 +1,6 @@
 -- What an accepted sheet keeps to. Crates above use a sheet through this alone.
 use mathlib.Core.Path.{_≡_}
-use mathlib.Core.Bool.{true}
+use mathlib.Core.Bool.{true, false}
 use mathlib.Core.List.{List}
 use Prim.Native.Nat.{ℕ, suc, _+_, _≤_, _<_}
 use lib.IntN.{ℤ, pos, negℤ}
@@ -9,7 +9,8 @@ use lib.ListN.{length}
 use mir.Syntax.{w32}
 use mir.Val.{SFits}
 use Rattle.sheet_spec.specs.Limits.{maxVars, maxBands, maxBoxes, maxTicks, maxCommand, maxCap, maxEdge, maxCoefficient, maxConstant, maxSpread, maxDivisor, maxUnsafeSide, maxRecoverySide}
-use Rattle.sheet_spec.specs.Slots.{_!_, N, slots, leastSlot, recoverySlot, unsafeSlot, vars, bands, boxes, bandVar, δ, α, ρ, leastCommand, greatestCommand, cap, edge, safetyLeast, safetyGreatest, Row, row}
+use Rattle.sheet_spec.specs.Slots.{_!_, N, slots, leastSlot, recoverySlot, unsafeSlot, vars, bands, boxes, bandVar, δ, α, ρ, leastCommand, greatestCommand, cap, edge, safetyLeast, safetyGreatest, Row, row, recoveryBox, unsafeBox}
+use Rattle.sheet_spec.specs.Box.{meets}
 use Rattle.sheet_spec.specs.Order.{ascendsAt}
 
 -- z lies from l to h
@@ -30,7 +31,7 @@ pub record ValidBox (n : ℕ) (most : ℤ) (v : List ℤ) (at : ℕ) : Type 0 wh
   pub ordered : (i : ℕ) → i < n → v ! (at + i) ≤ℤ v ! (at + i + N)
   pub upper : (i : ℕ) → i < n → v ! (at + i + N) ≤ℤ most
 
--- every number up to the counts is in its range. The no-go boxes may be in any order
+-- every number up to the counts is in its range. The no-go boxes may be in any order, and the recovery box anywhere among them
 pub record ValidNumbers (v : List ℤ) : Type 0 where
   pub size : length v ≡ slots
   pub fits : (i : ℕ) → SFits w32 (v ! i)
@@ -66,6 +67,11 @@ pub record ValidNumbers (v : List ℤ) : Type 0 where
 pub record Ascending (v : List ℤ) : Type 0 where
   pub at : (j : ℕ) → suc j < boxes v → ascendsAt (vars v) v j ≡ true
 
+-- the recovery box shares no state with a no-go box (document 02, paper 8)
+pub record RecoveryClear (v : List ℤ) : Type 0 where
+  pub at : (j : ℕ) → j < boxes v → meets (vars v) (recoveryBox v) (unsafeBox v j) ≡ false
+
 pub record Valid (v : List ℤ) : Type 0 where
   pub numbers : ValidNumbers v
   pub order : Ascending v
+  pub clear : RecoveryClear v

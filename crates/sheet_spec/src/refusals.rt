@@ -53,3 +53,6 @@ pub const ROOM: u8 = 17;
 
 // A no-go box that is not greater than the one before.
 pub const ORDER: u8 = 20;
+
+// The recovery box shares a state with a no-go box.
+pub const OVERLAP: u8 = 22;

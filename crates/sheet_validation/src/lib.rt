@@ -13,8 +13,10 @@ ghost use Rattle.sheet_spec.specs.Fields.{Field, test, bad};
 ghost use Rattle.sheet_spec.specs.Layout.{headFields, edgeField, rowFields, rowCount, bandFields, bandCount, boxFields, boxCount, fields, fieldCount};
 
 pub mod order;
+pub mod overlap;
 
 use crate::order::bad_order;
+use crate::overlap::bad_overlap;
 use sheet_encoding::records::record_at;
 use sheet_encoding::records::record_count;
 use sheet_spec::Record;
@@ -189,7 +191,7 @@ fn closing(v: &[i32; SLOTS], shape: Shape, record: Record) -> u8
         Record::Head => 0,
         Record::Band(_) => 0,
         Record::Unsafe(j) => bad_order(v, shape.vars, j),
-        Record::Recovery => 0,
+        Record::Recovery => bad_overlap(v, shape.vars, shape.boxes),
     }
 }
 

@@ -18,7 +18,8 @@ closing-spec =
     (λ c. search needs)
     bad-order-requires
     (λ c. search needs)
+    (λ c κs. let b = c .before .before in (b .pre .0 .vars, b .pre .0 .boxes))
     (λ at-head. ap (closing _ _) (sym (at-head .enum-told .given .1)))
     (λ at-band. ap (closing _ _) (sym (at-band .enum-told2 .given .1)))
     (λ at-unsafe. at-unsafe .bad-order .ensures ∙ ap (closing _ _) (sym (at-unsafe .before .before .«record» .given .1)))
-    (λ at-recovery. ap (closing _ _) (sym (at-recovery .enum-told3 .given .1))))
+    (λ at-recovery. at-recovery .bad-overlap .ensures ∙ ap (closing _ _) (sym (at-recovery .before .enum-told3 .given .1))))
