@@ -10,7 +10,7 @@ use lib.Signed.{leZ}
 use Rattle.sheet_spec.specs.Slots.{_!_, headSize, recoveryBox}
 use Rattle.sheet_spec.specs.Box.{clear}
 use Rattle.sheet_spec.specs.Order.{ascendsAt}
-use Rattle.sheet_spec.specs.Refusals.{Cause, greatestNumber}
+use Rattle.sheet_spec.specs.Refusals.{Cause, number, greatestNumber}
 use Rattle.sheet_spec.specs.Fields.{Field, test, bad}
 use Rattle.sheet_spec.specs.Sizes.{capsAt}
 use Rattle.sheet_spec.specs.declared.Record.{Record}
@@ -19,15 +19,15 @@ use Rattle.sheet_spec.specs.Layout.{headFields}
 use Rattle.sheet_spec.specs.declared.Shape.{Shape}
 use Rattle.sheet_spec.specs.File.{shape, records, recordAt, fieldsAt, fieldCountAt, recordStart, marked, markedAt, orderTest, overlapTest, closing, badRecord, badAll}
 use Rattle.sheet_spec.specs.Sheet.{headOf, shapeOf, contents, stage, stages, refusal, valueRefusal, length-of, writeRefusal}
-use Rattle.sheet_spec.proofs.Laws.{either-most, first-most, unless-most}
+use Rattle.sheet_spec.proofs.Laws.{either-most, first-most, number-range, unless-below, unless-most}
 
-test-most : (v : List ℤ) (x : Field) → test v x ≤ greatestNumber
+pub test-below : (v : List ℤ) (x : Field) {most : ℕ} → number (x .cause) ≤ most → test v x ≤ most
 unfolding test
-test-most v x = unless-most (leZ (x .least v) (v ! x .slot) && leZ (v ! x .slot) (x .greatest v)) (x .cause)
+test-below v x = unless-below (leZ (x .least v) (v ! x .slot) && leZ (v ! x .slot) (x .greatest v)) (x .cause)
 
 bad-most : (p : ℕ → Field) (v : List ℤ) (k : ℕ) → bad p v k ≤ greatestNumber
 unfolding bad
-bad-most p v = first-most (λ j. test v (p j)) (λ j. test-most v (p j))
+bad-most p v k = first-most (λ j. test v (p j)) k (λ j l. test-below v (p j) (number-range (p j .cause) .1))
 
 order-most : (n : ℕ) (v : List ℤ) (j : ℕ) → orderTest n v j ≤ greatestNumber
 unfolding orderTest
@@ -47,9 +47,9 @@ closing-most v s Recovery = overlap-most (s .vars) v (s .boxes)
 
 all-most : (marks : ℕ → Bool) (s : Shape) (v : List ℤ) (k : ℕ) → badAll marks s v k ≤ greatestNumber
 unfolding badAll
-all-most marks s v =
-    first-most (badRecord marks s v)
-    (λ r.
+all-most marks s v k =
+    first-most (badRecord marks s v) k
+    (λ r l.
     let p = bad-most (fieldsAt s r) v (fieldCountAt s r) in
     let q = closing-most v s (recordAt s r) in
     either-most _ _ (unless-most (marks r) Cause.mark) (either-most _ _ (omega (arith, p, q)) (omega (arith, p, q))))
@@ -63,7 +63,7 @@ stage-most f (suc (suc (suc i))) = let s = shapeOf f in all-most (markedAt s f) 
 
 pub refusal-most : (f : List ℕ) → refusal f ≤ greatestNumber
 unfolding refusal
-refusal-most f = first-most (stage f) (stage-most f) stages
+refusal-most f = first-most (stage f) stages (λ i l. stage-most f i)
 
 pub write-most : (v : List ℤ) (buffer : List ℕ) (place : ℕ) → writeRefusal v buffer place ≤ greatestNumber
 unfolding writeRefusal valueRefusal

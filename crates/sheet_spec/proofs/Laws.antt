@@ -45,6 +45,12 @@ unfolding unlessRefused
 either-most zero s l h = h
 either-most (suc r) s l h = l
 
+-- a number that the first refusal does not reach comes from the second
+pub either-last : (r s c : ℕ) → r < c → unlessRefused r (λ c. c) s ≡ c → (r ≡ 0) × (s ≡ c)
+unfolding unlessRefused
+either-last zero s c l e = (refl, e)
+either-last (suc r) s c l e = let z : ⊥ = omega arith in absurd z
+
 -- ---- the first refusal
 
 module _ (h : ℕ → ℕ) where
@@ -76,10 +82,10 @@ module _ (h : ℕ → ℕ) where
   none-first zero a = refl
   none-first (suc k) a = rw (none-first k (record { at = λ j l. a .at j (omega arith) }), firstRefusal) (a .at k (omega arith))
 
-  pub first-most : {most : ℕ} → ((j : ℕ) → h j ≤ most) → (k : ℕ) → firstRefusal h k ≤ most
+  pub first-most : {most : ℕ} (k : ℕ) → ((j : ℕ) → j < k → h j ≤ most) → firstRefusal h k ≤ most
   unfolding firstRefusal
-  first-most a zero = omega arith
-  first-most a (suc k) = either-most (firstRefusal h k) (h k) (first-most a k) (a k)
+  first-most zero a = omega arith
+  first-most (suc k) a = either-most (firstRefusal h k) (h k) (first-most k (λ j l. a j (omega arith))) (a k (omega arith))
 
 -- ---- causes
 
@@ -112,6 +118,9 @@ pub unless-zero : (b : Bool) (c : Cause) → refuseUnless b c ≡ 0 → b ≡ tr
 unless-zero true c e = refl
 unless-zero false c e = absurd (number-is c e)
 
+pub unless-below : (b : Bool) (c : Cause) {most : ℕ} → number c ≤ most → refuseUnless b c ≤ most
+unless-below true c h = omega arith
+unless-below false c h = h
+
 pub unless-most : (b : Bool) (c : Cause) → refuseUnless b c ≤ greatestNumber
-unless-most true c = omega arith
-unless-most false c = number-range c .1
+unless-most b c = unless-below b c (number-range c .1)

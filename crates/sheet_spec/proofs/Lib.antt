@@ -1,6 +1,7 @@
 pub mod Box
 pub mod Order
 pub mod Overlap
+pub mod LastTest
 pub mod Streams
 pub mod Laws
 pub mod FirstRefusal

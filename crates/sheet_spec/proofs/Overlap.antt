@@ -1,8 +1,9 @@
 -- Laws about the test that the recovery box shares no state with a no-go box. Assumes nothing.
-use mathlib.Core.Path.{_≡_, sym, ap}
-use mathlib.Core.Bool.{Bool, true}
+use mathlib.Core.Path.{_≡_, refl, sym, ap}
+use mathlib.Core.Bool.{Bool, true, false}
 use mathlib.Core.List.{List}
 use Prim.Native.Nat.{ℕ, _<_}
+use native.Mathlib.Omega.{arith}
 use lib.IntN.{ℤ}
 use Rattle.sheet_spec.specs.Slots.{recoveryBox, unsafeBox}
 use Rattle.sheet_spec.specs.Box.{meets, clear}
@@ -18,3 +19,11 @@ module _ (n : ℕ) (v : List ℤ) (count : ℕ) where
   pub overlap-clear : clear n v count (recoveryBox v) ≡ true → 0 ≡ overlapTest n v count
   unfolding overlapTest
   overlap-clear e = sym (ap (λ (t : Bool). refuseUnless t Cause.overlap) e)
+
+  pub overlap-found : overlapTest n v count ≡ number Cause.overlap → clear n v count (recoveryBox v) ≡ false
+  unfolding overlapTest
+  overlap-found = by (clear n v count (recoveryBox v))
+    where
+      by : (t : Bool) → refuseUnless t Cause.overlap ≡ number Cause.overlap → t ≡ false
+      by true e = let z : ⊥ = omega arith in absurd z
+      by false e = refl

@@ -10,7 +10,7 @@ use lib.ListN.{length, replicate}
 use mir.Syntax.{w32}
 use mir.Val.{SFits}
 use Rattle.integers.proofs.Z.{ints, flat}
-use Rattle.sheet_spec.specs.Slots.{_!_, N, slots, bandSlot, recoverySlot, unsafeSlot, vars, bands, row, recoveryBox, varsSlot, bandsSlot, boxesSlot, bandVarSlot, δSlot, αSlot, ρSlot, leastSlot, greatestSlot, restSize, pairSize, bInRest, cInRest, dInRest, qInRest, edgeInBand, leastInBand, greatestInBand}
+use Rattle.sheet_spec.specs.Slots.{_!_, N, slots, bandSlot, recoverySlot, unsafeSlot, vars, bands, boxes, row, recoveryBox, varsSlot, bandsSlot, boxesSlot, bandVarSlot, δSlot, αSlot, ρSlot, leastSlot, greatestSlot, restSize, pairSize, bInRest, cInRest, dInRest, qInRest, edgeInBand, leastInBand, greatestInBand}
 use Rattle.sheet_spec.specs.Valid.{ValidRow, ValidBox, ValidNumbers, Ascending, RecoveryClear, Valid}
 use Rattle.sheet_spec.specs.Refusals.{Cause}
 use Rattle.sheet_spec.specs.Box.{clear}
@@ -20,7 +20,7 @@ use Rattle.sheet_spec.specs.Limits.{maxEdge, maxUnsafeSide, maxRecoveryS
 use Rattle.sheet_spec.specs.Layout.{_▸_, headFields, edgeField, rowRest, rowFields, bandFields, sideFields, boxFields, boxCount}
 use Rattle.sheet_spec.specs.declared.Record.{Record}
 use Rattle.sheet_spec.specs.declared.Shape.{Shape}
-use Rattle.sheet_spec.specs.File.{shape, records, fieldsAt, orderTest, overlapTest, closing}
+use Rattle.sheet_spec.specs.File.{Small, shape, records, recordAt, fieldsAt, orderTest, overlapTest, closing}
 use Rattle.sheet_spec.specs.Sheet.{zeros, shapeOf, contents, refusal, values}
 use Rattle.sheet_spec.proofs.Streams.{Each, each-next, each-low, each-high}
 use Rattle.sheet_spec.proofs.Laws.{stops, unless-zero}
@@ -132,50 +132,58 @@ module _ (v : List ℤ) (g : AllInRange v) where
         unsafe = λ j l. valid-box maxUnsafeSide (unsafeSlot j) (each-unsafe (shape v) g j l);
       }
 
--- the no-go boxes of a sheet whose records are good ascend
-pub ascending : (v : List ℤ) → AllGood v → Ascending v
-unfolding closing orderTest
-ascending v g = record {
-  at = λ j l.
+-- no-go boxes that pass their tests ascend
+pub ascending : (v : List ℤ) → ((j : ℕ) → j < boxes v → orderTest (vars v) v j ≡ 0) → Ascending v
+unfolding orderTest
+ascending v pass = record { at = λ j l. unless-zero (ascendsAt (vars v) v j) Cause.order (pass (suc j) l) }
+
+-- a sheet whose records are good
+module _ (v : List ℤ) (g : AllGood v) where
+  closed-at : (r : ℕ) → r < records (shape v) → {x : Record} → recordAt (shape v) r ≡ x → closing v (shape v) x ≡ 0
+  closed-at r l e = subst (λ (x : Record). closing v (shape v) x ≡ 0) e (g .at r l .closed)
+
+  good-clear : RecoveryClear v
+  unfolding closing overlapTest
+  good-clear =
       let s = shape v in
-      let c = subst (λ (x : Record). closing v s x ≡ 0) (unsafe-at s (suc j) (omega arith)) (g .at (1 + (s .bands + suc j)) (omega arith) .closed) in
-      unless-zero (ascendsAt (s .vars) v j) Cause.order c;
-}
+      let c = closed-at (1 + (s .bands + s .boxes)) (omega arith) (recovery-at s) in
+      record { at = clear-at (s .vars) v (s .boxes) (recoveryBox v) (unless-zero (clear (s .vars) v (s .boxes) (recoveryBox v)) Cause.overlap c) }
 
--- and none of them shares a state with the recovery box
-pub recovery-clear : (v : List ℤ) → AllGood v → RecoveryClear v
-unfolding closing overlapTest
-recovery-clear v g =
-    let s = shape v in
-    let c = subst (λ (x : Record). closing v s x ≡ 0) (recovery-at s) (g .at (1 + (s .bands + s .boxes)) (omega arith) .closed) in
-    record { at = clear-at (s .vars) v (s .boxes) (recoveryBox v) (unless-zero (clear (s .vars) v (s .boxes) (recoveryBox v)) Cause.overlap c) }
+  pub good-valid : length v ≡ slots → ((i : ℕ) → SFits w32 (v ! i)) → Valid v
+  unfolding closing
+  good-valid size fits =
+      let s = shape v in
+      record {
+        numbers = numbers-of v (good-ranges v s g) size fits;
+        order = ascending v (λ j l. closed-at (1 + (s .bands + j)) (omega arith) (unsafe-at s j l));
+        clear = good-clear;
+      }
 
-module _ (f : List ℕ) (a : Accepted f) where
-  in-range : AllInRange (contents f)
-  in-range = good-ranges (contents f) (shape (contents f)) (contents-good f a)
-
+-- the values of a file whose numbers are in range
+module _ (f : List ℕ) (m : Small (shapeOf f)) where
   -- a value is 0, or a field's
   zero-or-taken : (i : ℕ) → (contents f ! i ≡ pos 0) ⊎ TakenAll (shape (contents f)) (records (shape (contents f))) i
   unfolding contents
   zero-or-taken i =
-      ⊎-elim (λ e. inl (e ∙ zeros-at i)) (λ t. inr (subst (λ (s : Shape). TakenAll s (records s) i) (sym (same-shape f (a .small))) t))
+      ⊎-elim (λ e. inl (e ∙ zeros-at i)) (λ t. inr (subst (λ (s : Shape). TakenAll s (records s) i) (sym (same-shape f m)) t))
       (origin-all (shapeOf f) f (records (shapeOf f)) zeros i)
 
-  contents-fit : (i : ℕ) → SFits w32 (contents f ! i)
-  contents-fit i =
+  pub contents-size : length (contents f) ≡ slots
+  unfolding contents
+  contents-size = length-all (shapeOf f) f (records (shapeOf f)) zeros ∙ length-zeros
+
+  pub contents-fit : AllInRange (contents f) → (i : ℕ) → SFits w32 (contents f ! i)
+  contents-fit g i =
       ⊎-elim (λ e. subst (SFits w32) (sym e) zero-fits)
       (λ t.
       let x = fieldsAt (shape (contents f)) (t .r) (t .taken .j) in
-      subst (λ (i : ℕ). SFits w32 (contents f ! i)) (t .taken .is) (fits-kind (x .kind) (all-fit (contents f) in-range .at (t .r) (t .below) .at (t .taken .j) (t .taken .below))))
+      subst (λ (i : ℕ). SFits w32 (contents f ! i)) (t .taken .is) (fits-kind (x .kind) (all-fit (contents f) g .at (t .r) (t .below) .at (t .taken .j) (t .taken .below))))
       (zero-or-taken i)
 
-  contents-valid : Valid (contents f)
-  unfolding contents
-  contents-valid = record {
-    numbers = numbers-of (contents f) in-range (length-all (shapeOf f) f (records (shapeOf f)) zeros ∙ length-zeros) contents-fit;
-    order = ascending (contents f) (contents-good f a);
-    clear = recovery-clear (contents f) (contents-good f a);
-  }
+contents-valid : (f : List ℕ) → Accepted f → Valid (contents f)
+contents-valid f a =
+    let g = contents-good f a in
+    good-valid (contents f) g (contents-size f (a .small)) (contents-fit f (a .small) (good-ranges (contents f) (shape (contents f)) g))
 
 pub valid : (f : List ℕ) → refusal f ≡ 0 → Valid (values f)
 valid f e = let a = accepted f e in subst Valid (sym (a .values)) (contents-valid f a)
@@ -209,7 +217,7 @@ module _ (f : List ℕ) where
   pub values-beyond : (i : ℕ) → (TakenAll (shape (values f)) (records (shape (values f))) i → ⊥) → values f ! i ≡ pos 0
   values-beyond i =
       let P : List ℤ → Type 0 = λ v. (TakenAll (shape v) (records (shape v)) i → ⊥) → v ! i ≡ pos 0 in
-      cases P (λ e. let a = accepted f e in subst P (sym (a .values)) (λ n. ⊎-elim (λ z. z) (λ t. absurd (n t)) (zero-or-taken f a i))) (λ n. zeros-at i)
+      cases P (λ e. let a = accepted f e in subst P (sym (a .values)) (λ n. ⊎-elim (λ z. z) (λ t. absurd (n t)) (zero-or-taken f (a .small) i))) (λ n. zeros-at i)
 
   pub recovery-beyond : refusal f ≡ 0 → (i q : ℕ) → vars (values f) ≤ i → i < N → q < pairSize → values f ! (recoverySlot + i + q * N) ≡ pos 0
   recovery-beyond e i q b h k =

@@ -1,25 +1,36 @@
--- `Valid` is just what the writer accepts (specs/Validity). proofs/Valid shows that what is accepted is valid; here is the way back. Assumes nothing.
-use mathlib.Core.Path.{_≡_, refl, ap, subst}
-use mathlib.Core.Bool.{Bool}
+-- `Valid` is just what the writer accepts, and `Overlapping` just what it refuses with 22 (specs/Validity). proofs/Valid shows that what is accepted is
+-- valid; here is the way back. Assumes nothing.
+use mathlib.Core.Path.{_≡_, refl, sym, ap, subst}
+use mathlib.Core.Bool.{Bool, true, _&&_}
 use mathlib.Core.List.{List}
 use Prim.Native.Nat.{ℕ, zero, suc, _*_, _+_, _≤_, _<_}
 use native.Mathlib.Omega.{arith}
+use lib.Dec.{eqb, leb}
 use lib.IntN.{ℤ, pos, natAbs}
+use lib.ListN.{length}
 use Rattle.integers.proofs.Z.{ints, flat}
 use Rattle.sheet_spec.specs.Limits.{maxUnsafeSide, maxRecoverySide}
-use Rattle.sheet_spec.specs.Slots.{_!_, headSize, rowSlot, recoverySlot, unsafeSlot, recoveryBox, vars, bands, varsSlot, bandsSlot, boxesSlot, bandVarSlot, δSlot, αSlot, ρSlot, leastSlot, restSize, pairSize}
-use Rattle.sheet_spec.specs.Valid.{Between, ValidBox, ValidNumbers, Valid}
-use Rattle.sheet_spec.specs.Refusals.{Cause, refuseUnless}
+use Rattle.sheet_spec.specs.Slots.{_!_, headSize, rowSlot, recoverySlot, unsafeSlot, recoveryBox, vars, bands, boxes, varsSlot, bandsSlot, boxesSlot, bandVarSlot, δSlot, αSlot, ρSlot, leastSlot, restSize, pairSize}
+use Rattle.sheet_spec.specs.Box.{lowestMet}
+use Rattle.sheet_spec.specs.Valid.{Between, ValidBox, ValidNumbers, Ascending, Overlapping, Valid}
+use Rattle.sheet_spec.specs.Refusals.{Cause, number, refuseUnless, firstRefusal}
+use Rattle.sheet_spec.specs.Sizes.{capsAt}
 use Rattle.sheet_spec.specs.Layout.{headFields, edgeField, rowRest, rowFields, bandFields, sideFields, boxFields, rowCount, bandCount, boxCount}
-use Rattle.sheet_spec.specs.File.{shape, records, recordAt, fieldsAt, fieldCountAt, orderTest, overlapTest, closing}
-use Rattle.sheet_spec.specs.Sheet.{valueRefusal}
-use Rattle.sheet_spec.specs.Validity.{ExactlyValid}
+use Rattle.sheet_spec.specs.declared.Record.the-variants.{Head}
+use Rattle.sheet_spec.specs.declared.Shape.{Shape}
+use Rattle.sheet_spec.specs.File.{shape, records, recordAt, fieldsAt, fieldCountAt, recordStart, marked, markedAt, orderTest, closing}
+use Rattle.sheet_spec.specs.Sheet.{headOf, shapeOf, contents, stage, refusal, valueRefusal}
+use Rattle.sheet_spec.specs.Validity.{ExactlyValid, OverlapLast}
 use Rattle.sheet_spec.proofs.Streams.{Each, each-next, each-first, each-groups, rows-more, caps-more}
 use Rattle.sheet_spec.proofs.Records.{record-cases, each-field}
-use Rattle.sheet_spec.proofs.Box.{clear-of}
-use Rattle.sheet_spec.proofs.Tests.{InRange, AllInRange, bad-ranges, ranges-bad, value-good, good-value, good-ranges}
-use Rattle.sheet_spec.proofs.Ranges.{abs-is, in-abs}
-use Rattle.sheet_spec.proofs.Valid.{numbers-of, ascending, recovery-clear}
+use Rattle.sheet_spec.proofs.Box.{clear-of, lowest-met}
+use Rattle.sheet_spec.proofs.Laws.{either-last, first-none, first-most, unless-below}
+use Rattle.sheet_spec.proofs.Overlap.{overlap-met, overlap-clear, overlap-found}
+use Rattle.sheet_spec.proofs.Tests.{InRange, AllInRange, bad-ranges, ranges-bad, value-good, good-value}
+use Rattle.sheet_spec.proofs.LastTest.{LastTest, last-test, test-last, head-refusal}
+use Rattle.sheet_spec.proofs.Ranges.{abs-is, in-abs, small}
+use Rattle.sheet_spec.proofs.Accepted.{same-shape}
+use Rattle.sheet_spec.proofs.Valid.{numbers-of, ascending, good-valid, contents-size, contents-fit}
 
 -- ---- each number of a valid value lies in its range
 
@@ -76,32 +87,73 @@ module _ {v : List ℤ} (wf : ValidNumbers v) where
 
 -- ---- and each record passes its test
 
-module _ {v : List ℤ} (a : Valid v) where
-  order-passes : (j : ℕ) → j < shape v .boxes → orderTest (vars v) v j ≡ 0
+module _ {v : List ℤ} where
+  order-passes : Ascending v → (j : ℕ) → j < shape v .boxes → orderTest (vars v) v j ≡ 0
   unfolding orderTest
-  order-passes zero l = refl
-  order-passes (suc j) l = ap (λ (t : Bool). refuseUnless t Cause.order) (a .order .at j l)
+  order-passes a zero l = refl
+  order-passes a (suc j) l = ap (λ (t : Bool). refuseUnless t Cause.order) (a .at j l)
 
-  overlap-passes : overlapTest (vars v) v (shape v .boxes) ≡ 0
-  unfolding overlapTest
-  overlap-passes = ap (λ (t : Bool). refuseUnless t Cause.overlap) (clear-of (vars v) v (shape v .boxes) (recoveryBox v) (a .clear .at))
+  module _ (a : Valid v) where
+    closed : (r : ℕ) → r < records (shape v) → closing v (shape v) (recordAt (shape v) r) ≡ 0
+    unfolding closing
+    closed =
+        let clear = clear-of (vars v) v (shape v .boxes) (recoveryBox v) (a .clear .at) in
+        record-cases (shape v) (λ r x. closing v (shape v) x ≡ 0) refl (λ k l. refl) (order-passes (a .order)) (sym (overlap-clear (vars v) v (shape v .boxes) clear))
 
-  closed : (r : ℕ) → r < records (shape v) → closing v (shape v) (recordAt (shape v) r) ≡ 0
-  unfolding closing
-  closed = record-cases (shape v) (λ r x. closing v (shape v) x ≡ 0) refl (λ k l. refl) order-passes overlap-passes
+    -- so the writer accepts it
+    pub valid-accepted : valueRefusal v ≡ 0
+    valid-accepted = good-value v (record { at = λ r l. record { ranges = in-ranges (a .numbers) .at r l; closed = closed r l } })
 
-  -- so the writer accepts it
-  pub valid-accepted : valueRefusal v ≡ 0
-  valid-accepted = good-value v (record { at = λ r l. record { ranges = in-ranges (a .numbers) .at r l; closed = closed r l } })
+-- ---- or all but the last
+
+abbrev AllButLast : List ℤ → Type 0
+AllButLast v = LastTest (λ r. true) (shape v) v
+
+module _ {v : List ℤ} where
+  overlapping : AllButLast v → ValidNumbers v → Overlapping v
+  overlapping t wf =
+      let met = lowest-met (vars v) v (boxes v) (recoveryBox v) (overlap-found (vars v) v (boxes v) (t .overlap)) in
+      record { numbers = wf; order = ascending v (t .order); box = lowestMet (vars v) v (boxes v) (recoveryBox v); below = met .0; shares = met .1 }
+
+  all-but-last : Overlapping v → AllButLast v
+  all-but-last o = record {
+    marked = λ r l. refl;
+    ranges = in-ranges (o .numbers);
+    order = order-passes (o .order);
+    overlap = sym (overlap-met (vars v) v (boxes v) (o .box) (o .below) (o .shares));
+  }
 
 pub exactly-valid : ExactlyValid
+unfolding valueRefusal
 exactly-valid v array = record {
   numbers = (
     (λ pass. numbers-of v (record { at = λ r l. bad-ranges (fieldsAt (shape v) r) v (fieldCountAt (shape v) r) (pass r l) }) (array .size) (array .fits)),
     (λ wf r l. ranges-bad (fieldsAt (shape v) r) v (fieldCountAt (shape v) r) (in-ranges wf .at r l)),
   );
-  all = (
-    (λ e. let g = value-good v e in record { numbers = numbers-of v (good-ranges v (shape v) g) (array .size) (array .fits); order = ascending v g; clear = recovery-clear v g }),
-    valid-accepted,
+  overlap = (
+    (λ e. let t = last-test (λ r. true) (shape v) v e in overlapping t (numbers-of v (t .ranges) (array .size) (array .fits))),
+    (λ o. test-last (λ r. true) (shape v) v (all-but-last o)),
   );
+  all = ((λ e. good-valid v (value-good v e) (array .size) (array .fits)), valid-accepted);
 }
+
+-- ---- the reader
+
+-- its first three tests refuse by less
+early : (f : List ℕ) (i : ℕ) → i < 3 → stage f i ≤ number Cause.side
+unfolding stage
+early f zero l = unless-below (leb capsAt (length f) && marked f 0 Head) Cause.head (omega arith)
+early f (suc zero) l = head-refusal (headOf f)
+early f (suc (suc zero)) l = let s = shapeOf f in unless-below (eqb (length f) (recordStart s (records s))) Cause.length (omega arith)
+early f (suc (suc (suc i))) l = absurd (let z : ⊥ = omega arith in z)
+
+pub overlap-last : OverlapLast
+unfolding refusal stage firstRefusal shapeOf
+overlap-last f e =
+    let s = shapeOf f in
+    let p = either-last (firstRefusal (stage f) 3) (stage f 3) (number Cause.overlap) (omega (arith, first-most (stage f) 3 (early f))) e in
+    let m = small (headOf f) (bad-ranges headFields (headOf f) headSize (first-none (stage f) 3 (p .0) .at 1 (omega arith))) in
+    let t = last-test (markedAt s f) s (contents f) (p .1) in
+    let l : LastTest (λ r. true) s (contents f) = record { marked = λ r l. refl; ranges = t .ranges; order = t .order; overlap = t .overlap } in
+    let u : AllButLast (contents f) = subst (λ (s : Shape). LastTest (λ r. true) s (contents f)) (sym (same-shape f m)) l in
+    overlapping u (numbers-of (contents f) (u .ranges) (contents-size f m) (contents-fit f m (u .ranges)))

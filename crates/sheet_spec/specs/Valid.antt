@@ -71,6 +71,14 @@ pub record Ascending (v : List ℤ) : Type 0 where
 pub record RecoveryClear (v : List ℤ) : Type 0 where
   pub at : (j : ℕ) → j < boxes v → meets (vars v) (recoveryBox v) (unsafeBox v j) ≡ false
 
+-- valid but for this: no-go box `box` shares a state with the recovery box
+pub record Overlapping (v : List ℤ) : Type 0 where
+  pub numbers : ValidNumbers v
+  pub order : Ascending v
+  pub box : ℕ
+  pub below : box < boxes v
+  pub shares : meets (vars v) (recoveryBox v) (unsafeBox v box) ≡ true
+
 pub record Valid (v : List ℤ) : Type 0 where
   pub numbers : ValidNumbers v
   pub order : Ascending v

@@ -1,4 +1,5 @@
--- `Valid` and `ValidNumbers` say just what the tests of a sheet's value ask for, no less and no more. proofs/Validity proves it.
+-- `Valid`, `ValidNumbers` and `Overlapping` say just what the tests of a sheet's value ask for, no less and no more.
+-- proofs/Validity proves it.
 use mathlib.Core.Path.{_≡_}
 use mathlib.Core.List.{List}
 use mathlib.Core.Logic.{_↔_}
@@ -8,10 +9,11 @@ use lib.ListN.{length}
 use mir.Syntax.{w32}
 use mir.Val.{SFits}
 use Rattle.sheet_spec.specs.Slots.{_!_, slots}
-use Rattle.sheet_spec.specs.Valid.{ValidNumbers, Valid}
+use Rattle.sheet_spec.specs.Valid.{ValidNumbers, Overlapping, Valid}
+use Rattle.sheet_spec.specs.Refusals.{Cause, number}
 use Rattle.sheet_spec.specs.Fields.{bad}
 use Rattle.sheet_spec.specs.File.{shape, records, fieldsAt, fieldCountAt}
-use Rattle.sheet_spec.specs.Sheet.{valueRefusal}
+use Rattle.sheet_spec.specs.Sheet.{contents, refusal, valueRefusal}
 
 -- a value as the calls have it: a number of 32 bits for each slot
 pub record Array (v : List ℤ) : Type 0 where
@@ -23,10 +25,16 @@ abbrev pub NumbersPass : List ℤ → Type 0
 NumbersPass v = (r : ℕ) → r < records (shape v) → bad (fieldsAt (shape v) r) v (fieldCountAt (shape v) r) ≡ 0
 
 pub record ValidByTests (v : List ℤ) : Type 0 where
-  -- valid but for the order: the fields pass
+  -- valid but for the order and for the recovery box: the fields pass
   pub numbers : NumbersPass v ↔ ValidNumbers v
+  -- valid but for the recovery box: the writer refuses it with 22
+  pub overlap : (valueRefusal v ≡ number Cause.overlap) ↔ Overlapping v
   -- valid: the writer accepts it
   pub all : (valueRefusal v ≡ 0) ↔ Valid v
 
 abbrev pub ExactlyValid : Type 0
 ExactlyValid = (v : List ℤ) → Array v → ValidByTests v
+
+-- and a file is refused with 22 just where its numbers are such a value: every other test has passed
+abbrev pub OverlapLast : Type 0
+OverlapLast = (f : List ℕ) → refusal f ≡ number Cause.overlap → Overlapping (contents f)
