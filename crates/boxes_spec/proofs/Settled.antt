@@ -1,6 +1,6 @@
 -- Where the value of each stage comes from, and how far its count goes: one induction over each recursion. What is true of
 -- steps and reaches (soundness, ranges, order) goes by this. Assumes nothing.
-use mathlib.Core.Path.{_≡_, refl, subst}
+use mathlib.Core.Path.{_≡_, refl, ap, subst}
 use mathlib.Core.Bool.{Bool, true, false}
 use mathlib.Core.List.{List}
 use Prim.Native.Nat.{ℕ, zero, suc, _+_, _*_, _-_, _/_, _^_, _≤_, _<_, min}
@@ -17,9 +17,9 @@ use Rattle.machine_spec.specs.Rate.{rates}
 use Rattle.sheet_spec.proofs.Box.{differ}
 use Rattle.machine_spec.proofs.Face.{beyond-refl}
 use Rattle.machine_spec.proofs.Inside.{moved-side, inside-refl, hull-least, inside-within}
-use Rattle.boxes_spec.specs.Step.{lifted, settles, endBox, grown, Failure, unsafe, andThen, Step, rounds, halving, step, swept}
+use Rattle.boxes_spec.specs.Step.{lifted, settles, endBox, grown, Failure, unsafe, Result, ok, failed, andThen, Step, rounds, halving, step, swept}
 use Rattle.boxes_spec.specs.Reach.{Reached, testedStep, steps, reach}
-use Rattle.boxes_spec.proofs.Stages.{Takes, value, failure, counted-none, counted-less, takes-map, takes-then, takes-retry, takes-if, takes-round}
+use Rattle.boxes_spec.proofs.Stages.{Takes, Failed, has-failure, value, failure, counted-none, counted-less, takes-map, takes-then, takes-retry, takes-if, takes-round}
 
 -- ---- steps
 
@@ -183,3 +183,19 @@ unfolding reach steps testedStep step halving andThen
 reach-zero l a clear S ticks c =
     takes-if (leb ticks 0) _ _ (λ n. value (ends-here (firstPlace S ticks) (leb-true ticks 0 n)) (counted-none c))
     (λ n. let q : min 0 ticks ≡ 0 = omega arith in rw q (failure tt (counted-none c)))
+
+-- a reach, with no allowance, from a box whose first swept box is not clear whatever the step: it fails at its first step
+pub reach-blocked : (m : Machine) (clear : List ℤ → Bool) (w : ℕ) → varsOf m ≤ N → 0 < w → (S : List ℤ) (ticks c : ℕ) → 0 < ticks
+    → ((t : Step) → clear (swept m S t) ≡ false) → Failed (Hits m clear w (firstPlace S ticks)) (reach false 0 m clear w S ticks c)
+unfolding reach steps andThen
+reach-blocked m clear w room z S ticks c k blocked = record { why = f .why; count = f .count; same = by (leb ticks 0) refl; holds = f .holds }
+  where
+    f : Failed (Hits m clear w (firstPlace S ticks)) (testedStep false 0 m clear w S ticks c)
+    f = has-failure (λ t s. differ (s .1) (blocked t)) (tested-takes false 0 m clear w w room z (below-power w) (firstPlace S ticks) c k)
+
+    next : Step → ℕ → Result Reached
+    next t c′ = steps false 0 m clear w ticks (t .end) (hull (varsOf m) S (swept m S t)) (ticks - t .ticks) c′
+
+    by : (t : Bool) → leb ticks 0 ≡ t → _≡_ {A = Result Reached} (elim t [ true ↦ ok (record { end = S; swept = S }) c | false ↦ andThen (testedStep false 0 m clear w S ticks c) next ]) (failed (f .why) (f .count))
+    by true e = absurd (omega (arith, leb-true ticks 0 e))
+    by false e = ap (λ (g : Result Step). andThen g next) (f .same)

@@ -112,3 +112,16 @@ pub has-value : {a c most : ℕ} {A : Type 0} {P : A → Type 0} {Q : Failure �
 has-value f (value {x = x} {c′ = c} p n) = record { value = x; count = c; same = refl; holds = p; counted = n }
 has-value f (failure {why = why} q n) = absurd (f why q)
 has-value f (spent i e n) = absurd (differ i refl)
+
+-- ---- and one that has none fails
+
+pub record Failed {A : Type 0} (Q : Failure → Type 0) (g : Result A) : Type 0 where
+  pub why : Failure
+  pub count : ℕ
+  pub same : g ≡ failed why count
+  pub holds : Q why
+
+pub has-failure : {a c most : ℕ} {A : Type 0} {P : A → Type 0} {Q : Failure → Type 0} {g : Result A} → ((x : A) → P x → ⊥) → Takes false a c most P Q g → Failed Q g
+has-failure f (value {x = x} p n) = absurd (f x p)
+has-failure f (failure {why = why} {c′ = c} q n) = record { why = why; count = c; same = refl; holds = q }
+has-failure f (spent i e n) = absurd (differ i refl)

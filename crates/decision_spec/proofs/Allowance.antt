@@ -16,7 +16,7 @@ use Rattle.sheet_spec.specs.Sheet.{refusal, values}
 use Rattle.sheet_spec.specs.Valid.{ValidNumbers}
 use Rattle.sheet_spec.specs.Box.{clear}
 use Rattle.sheet_spec.proofs.Valid.{valid-numbers}
-use Rattle.sheet_spec.proofs.Causes.{refusal-most}
+use Rattle.sheet_spec.proofs.GreatestNumber.{refusal-most}
 use Rattle.sheet_spec.proofs.Laws.{unless-most}
 use Rattle.sheet_spec.proofs.FirstRefusal.{first-of-most}
 use Rattle.machine_spec.specs.Box.{within}

@@ -1,12 +1,12 @@
 -- The attempts at ever smaller widths, one turn at a time: the reply that their list comes to, and its failures. Assumes nothing.
-use mathlib.Core.Path.{_≡_, refl}
+use mathlib.Core.Path.{_≡_, refl, sym, ap, _∙_, subst}
 use mathlib.Core.Bool.{Bool, true, false}
 use mathlib.Core.List.{List, [], _∷_}
 use Prim.Native.Nat.{ℕ, zero, suc, _/_, _≤_, _<_}
 use native.Mathlib.Omega.{arith}
 use lib.Dec.{leb}
 use lib.IntN.{ℤ}
-use borrow.Author.Tests.{leb-false}
+use borrow.Author.Tests.{leb-true, leb-false}
 use Rattle.boxes_spec.specs.Step.{Failure, Result, ok, failed, exhausted}
 use Rattle.decision_spec.specs.Decision.{Attempt, tried, withNext, attempts, FailedWidth, withFailure, failures, keep, finest, spent, Reply, answered, conclusion, lastReply}
 
@@ -36,6 +36,16 @@ with-next w (failed why c) next more = by (leb w 1)
     by false = more (tried w (failed why c)) c
 with-next w (exhausted c) next more = refl
 
+-- a result that is a failure, and the reply finest at width 1
+pub record Fails (g : Result (List ℤ)) : Type 0 where
+  pub why : Failure
+  pub count : ℕ
+  pub same : g ≡ failed why count
+
+pub record AnsweredFinest (r : Reply) : Type 0 where
+  pub rounds : ℕ
+  pub same : r ≡ answered finest 1 rounds
+
 module _ (attemptAt : ℕ → ℕ → Result (List ℤ)) where
   -- the reply of the attempts at width w and below, after c rounds
   abbrev pub replyFrom : ℕ → ℕ → ℕ → Reply
@@ -54,6 +64,20 @@ module _ (attemptAt : ℕ → ℕ → Result (List ℤ)) where
       more : (fuel : ℕ) (a : Attempt) (c′ : ℕ) → lastReply (a ∷ attempts attemptAt fuel (w / 2) c′) ≡ lastReply (attempts attemptAt fuel (w / 2) c′)
       more zero a c′ = refl
       more (suc fuel) a c′ = last-more a (w / 2) (attemptAt (w / 2) c′) (λ c″. attempts attemptAt fuel (w / 2 / 2) c″)
+
+-- where every attempt fails, the last one is that at width 1
+pub all-fail : (attemptAt : ℕ → ℕ → Result (List ℤ)) → ((w c : ℕ) → 0 < w → Fails (attemptAt w c)) → (fuel w c : ℕ) → 0 < w → w ≤ fuel → AnsweredFinest (replyFrom attemptAt fuel w c)
+unfolding outcome
+all-fail attemptAt fails zero w c z h = absurd (omega arith)
+all-fail attemptAt fails (suc fuel) w c z h =
+    let f = fails w c z in
+    subst AnsweredFinest (sym (reply-turn attemptAt fuel w c ∙ ap (λ (g : Result (List ℤ)). outcome g w (λ c′. replyFrom attemptAt fuel (w / 2) c′)) (f .same)))
+    (by (leb w 1) refl (f .count) (λ more. all-fail attemptAt fails fuel (w / 2) (f .count) (omega arith) (omega arith)))
+  where
+    by : (t : Bool) → leb w 1 ≡ t → (c′ : ℕ) → (1 < w → AnsweredFinest (replyFrom attemptAt fuel (w / 2) c′))
+        → AnsweredFinest (elim t [ true ↦ answered finest w c′ | false ↦ replyFrom attemptAt fuel (w / 2) c′ ])
+    by true e c′ later = let one : w ≡ 1 = omega (arith, leb-true w 1 e) in record { rounds = c′; same = ap (λ (w : ℕ). answered finest w c′) one }
+    by false e c′ later = later (leb-false w 1 e)
 
 -- ---- the failures
 

@@ -11,3 +11,4 @@ pub mod Attempt
 pub mod Allowance
 pub mod Spent
 pub mod Rounds
+pub mod NeverPasses

@@ -12,7 +12,7 @@ use lib.Seq.{length-take-le}
 use Rattle.sheet_spec.specs.Refusals.{greatestNumber, unlessRefused}
 use Rattle.sheet_spec.specs.Sheet.{refusal, values, length-of, writeRefusal, written, Same}
 use Rattle.sheet_spec.proofs.Laws.{goes-on}
-use Rattle.sheet_spec.proofs.Causes.{refusal-most, write-most}
+use Rattle.sheet_spec.proofs.GreatestNumber.{refusal-most, write-most}
 use Rattle.sheet_spec.proofs.RoundTrip.{passed}
 use Rattle.sheet_spec.proofs.ReadWrite.{length-read, read-then-write, answers-length, write-then-read}
 use Rattle.decision_spec.specs.Decision.{refused, packed, codeOf, widthOf, roundsOf}

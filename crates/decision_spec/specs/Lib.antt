@@ -7,5 +7,6 @@ pub mod Question
 pub mod Decision
 pub mod Spent
 pub mod Rounds
+pub mod NeverPasses
 pub mod Listing
 pub mod Starred

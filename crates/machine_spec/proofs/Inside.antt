@@ -5,15 +5,15 @@ use mathlib.Core.List.{List}
 use Prim.Native.Nat.{ℕ, _≤_, _<_}
 use native.Mathlib.Omega.{arith}
 use lib.IntN.{ℤ, pos, _+ℤ_, _*ℤ_}
-use lib.Signed.{≤ℤ-refl}
+use lib.Signed.{_≤ℤ_, ≤ℤ-refl}
 use Rattle.integers.specs.Order.{minZ, maxZ}
-use Rattle.integers.proofs.Z.{ints, min-is, max-is}
+use Rattle.integers.proofs.Z.{ints, le-true, min-is, max-is}
 use Rattle.sheet_spec.specs.Slots.{_!_, N}
 use Rattle.sheet_spec.specs.Box.{lo, hi, meets}
 use Rattle.machine_spec.specs.Box.{side, Ordered, In, trim, hull, within, moved}
 use Rattle.machine_spec.specs.Machine.{Machine, varsOf}
 use Rattle.machine_spec.specs.Rate.{outer, faceRate, rates}
-use Rattle.sheet_spec.proofs.Box.{le-is, all-of}
+use Rattle.sheet_spec.proofs.Box.{le-is, and-both, all-at, all-of}
 use Rattle.machine_spec.proofs.Box.{sides-lo, sides-hi, sides-same, hull-lo, hull-hi, moved-lo, moved-hi, trim-lo, trim-hi, within-at}
 use Rattle.machine_spec.proofs.Face.{Beyond, beyond-refl, beyond-trans, outer-left, outer-right, outer-in}
 
@@ -68,6 +68,20 @@ inside-refl A = record { at = λ up i h. beyond-refl up (side up A i) }
 
 pub inside-trans : {n : ℕ} {A B C : List ℤ} → Inside n A B → Inside n B C → Inside n A C
 inside-trans a b = record { at = λ up i h. beyond-trans (b .at up i h) (a .at up i h) }
+
+-- in each variable the ranges of two boxes that share a state do
+meets-at : (n : ℕ) (A B : List ℤ) (i : ℕ) → i < n → meets n A B ≡ true → (lo A i ≤ℤ hi B i) × (lo B i ≤ℤ hi A i)
+unfolding meets
+meets-at n A B i h e = let b = and-both _ _ (all-at n _ i e h) in (le-true _ _ (b .0), le-true _ _ (b .1))
+
+-- a box meets what a box inside it meets
+pub inside-meets : {n : ℕ} {A B : List ℤ} (U : List ℤ) → Inside n A B → meets n A U ≡ true → meets n B U ≡ true
+unfolding meets
+inside-meets {n} {A} {B} U s e =
+    all-of n _
+    (λ i h.
+    let m = meets-at n A U i h e in
+    rw (le-is (lo B i) (hi U i) (omega (ints, m .0, s .at false i h .order)), le-is (lo U i) (hi B i) (omega (ints, m .1, s .at true i h .order))) refl)
 
 pub inside-in : {n : ℕ} {A B x : List ℤ} → Inside n A B → In n A x → In n B x
 inside-in s a = in-by (λ up i h. beyond-trans (s .at up i h) (in-side a up i h))

@@ -13,7 +13,7 @@ use lib.Signed.{leZ, _≤ℤ_, _<ℤ_}
 use lib.ListN.{length, drop, length-drop}
 use lib.Seq.{getD-take, getD-drop, length-take-le}
 use borrow.Author.Tests.{ltb-true, ltb-false, not-true, not-false}
-use Rattle.integers.proofs.Z.{ints, le-true}
+use Rattle.integers.proofs.Z.{ints}
 use Rattle.sheet_spec.specs.Slots.{_!_, N, boxSize, boxAt, unsafeBox}
 use Rattle.sheet_spec.specs.Box.{lo, hi, all, any, lowestPassing, SameSides, meets, clear, lowestMet}
 use Rattle.sheet_spec.proofs.Streams.{lt-or-le}
@@ -169,15 +169,10 @@ same-self n A = record { lower = λ i h. refl; upper = λ i h. refl }
 -- whether two boxes share a state goes by their sides
 pub meets-sides : (n : ℕ) {A A′ B B′ : List ℤ} → SameSides n A A′ → SameSides n B B′ → meets n A B ≡ meets n A′ B′
 unfolding meets
-meets-sides n a b = all-same n _ _ (λ i h. ap₂ _&&_ (ap₂ leZ (a .lower i h) (b .upper i h)) (ap₂ leZ (b .lower i h) (a .upper i h)))
+meets-sides n a b = all-same n _ _ (λ i h. rw (a .lower i h, a .upper i h, b .lower i h, b .upper i h) refl)
 
 pub box-length : (v : List ℤ) (at : ℕ) → at + boxSize ≤ length v → length (boxAt v at) ≡ boxSize
 box-length v at h = length-take-le boxSize (drop at v) (omega (arith, length-drop at v))
-
-module _ (n : ℕ) (A B : List ℤ) (i : ℕ) (h : i < n) where
-  pub meets-at : meets n A B ≡ true → (lo A i ≤ℤ hi B i) × (lo B i ≤ℤ hi A i)
-  unfolding meets
-  meets-at e = let b = and-both _ _ (all-at n _ i e h) in (le-true _ _ (b .0), le-true _ _ (b .1))
 
 -- ---- clear of the first `count` no-go boxes of a sheet
 

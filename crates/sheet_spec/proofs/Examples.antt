@@ -1,5 +1,6 @@
 -- The definitions at sheet A, whole and damaged. Assumes nothing.
 use mathlib.Core.Path.{_≡_, refl}
+use mathlib.Core.Bool.{Bool, true, false}
 use mathlib.Core.List.{List, [], _∷_, _++_, map}
 use Prim.Native.Nat.{ℕ, _+_, _^_}
 use lib.IntN.{ℤ, pos, negsuc}
@@ -7,6 +8,7 @@ use lib.ListN.{take, drop, replicate}
 use lib.Seq.{sets}
 use Rattle.sheet_spec.specs.Slots.{N, boxSize, boxesSlot, bandSlot, rowSlot, recoverySlot, unsafeSlot}
 use Rattle.sheet_spec.specs.Fields.{i32, encoded}
+use Rattle.sheet_spec.specs.Box.{meets}
 use Rattle.sheet_spec.specs.Order.{compareBoxes}
 use Rattle.sheet_spec.specs.declared.Comparison.{Comparison}
 use Rattle.sheet_spec.specs.declared.Comparison.the-variants.{Less, Equal, Greater}
@@ -157,6 +159,84 @@ pub orders : map (λ t. refusal (t .0)) ordered ≡ map (λ t. t .1) ordered
 unfolding everything ordered withBoxes noGo
 orders = refl
 
+-- ---- the recovery box beside the no-go boxes, and which of two boxes of two variables share a state
+
+pub meetings : List ((List ℤ × List ℤ) × Bool)
+meetings =
+    -- a corner alone, and one beyond it in either variable
+    ((box (pos 1) (pos 2) (pos 3) (pos 4), box (pos 2) (pos 9) (negsuc 8) (pos 3)), true)
+    ∷ ((box (pos 1) (pos 2) (pos 3) (pos 4), box (pos 3) (pos 9) (negsuc 8) (pos 3)), false)
+    ∷ ((box (pos 1) (pos 2) (pos 3) (pos 4), box (pos 2) (pos 9) (negsuc 8) (pos 2)), false)
+    -- the same, from the other side
+    ∷ ((box (pos 2) (pos 9) (negsuc 8) (pos 3), box (pos 1) (pos 2) (pos 3) (pos 4)), true)
+    ∷ ((box (pos 3) (pos 9) (negsuc 8) (pos 3), box (pos 1) (pos 2) (pos 3) (pos 4)), false)
+    ∷ ((box (pos 2) (pos 9) (negsuc 8) (pos 2), box (pos 1) (pos 2) (pos 3) (pos 4)), false)
+    -- one inside the other
+    ∷ ((box (negsuc 8) (pos 9) (negsuc 8) (pos 9), box (pos 1) (pos 2) (pos 3) (pos 4)), true)
+    ∷ ((box (pos 1) (pos 2) (pos 3) (pos 4), box (negsuc 8) (pos 9) (negsuc 8) (pos 9)), true)
+    -- across each other
+    ∷ ((box (negsuc 8) (pos 9) (pos 3) (pos 3), box (pos 1) (pos 2) (negsuc 8) (pos 9)), true)
+    ∷ []
+
+pub met : map (λ t. meets 2 (t .0 .0) (t .0 .1)) meetings ≡ map (λ t. t .1) meetings
+unfolding everything box meetings
+met = refl
+
+-- of one variable the second one's sides do not count
+pub metOne : meets 1 (box (pos 1) (pos 2) (pos 0) (pos 0)) (box (pos 2) (pos 9) (pos 9) (pos 9)) ≡ true
+unfolding everything box
+metOne = refl
+
+-- sheet A's recovery box is −100..100. A no-go box from 100 on shares a state with it, one from 101 on does not
+pub touches : refusal (withBoxes 1 (noGo (pos 100) (pos 140))) ≡ number Cause.overlap
+unfolding everything withBoxes noGo
+touches = refl
+
+pub misses : refusal (withBoxes 1 (noGo (pos 101) (pos 140))) ≡ 0
+unfolding everything withBoxes noGo
+misses = refl
+
+-- the second of two does
+pub secondTouches : refusal (withBoxes 2 (noGo (negsuc 199) (negsuc 149) ++ noGo (pos 100) (pos 140))) ≡ number Cause.overlap
+unfolding everything withBoxes noGo
+secondTouches = refl
+
+-- with another recovery box, l..h
+pub withRecovery : ℤ → ℤ → List ℕ → List ℕ
+withRecovery l h noGos = take 50 fileA ++ (noGos ++ (82 ∷ 67 ∷ encoded i32 l ++ encoded i32 h))
+
+-- the recovery box's own sides come first
+pub recoverySideFirst : refusal (withRecovery (pos 100) (pos 1000001) (noGo (pos 90) (pos 140))) ≡ number Cause.side
+unfolding everything withRecovery noGo
+recoverySideFirst = refl
+
+pub overlapping : List (List ℕ × ℕ)
+overlapping =
+    -- below it: up to −100, and up to −101
+    (withBoxes 1 (noGo (negsuc 139) (negsuc 99)), 22)
+    ∷ (withBoxes 1 (noGo (negsuc 139) (negsuc 100)), 0)
+    -- inside it, and around it
+    ∷ (withBoxes 1 (noGo (pos 5) (pos 5)), 22)
+    ∷ (withBoxes 1 (noGo (negsuc 1999999) (pos 2000000)), 22)
+    -- the first of two, the last of three, the middle of three
+    ∷ (withBoxes 2 (noGo (negsuc 149) (negsuc 99) ++ noGo (pos 130) (pos 140)), 22)
+    ∷ (withBoxes 3 (noGo (negsuc 199) (negsuc 149) ++ (noGo (negsuc 148) (negsuc 140) ++ noGo (pos 100) (pos 140))), 22)
+    ∷ (withBoxes 3 (noGo (negsuc 199) (negsuc 149) ++ (noGo (pos 7) (pos 8) ++ noGo (pos 101) (pos 140))), 22)
+    -- after the order of the no-go boxes
+    ∷ (withBoxes 2 (noGo (pos 100) (pos 140) ++ noGo (pos 90) (pos 140)), 20)
+    -- after the recovery box's mark, and after its sides, though compared with those of the no-go box they would tell of a common state
+    ∷ (take 50 fileA ++ (noGo (pos 100) (pos 140) ++ (82 ∷ 66 ∷ drop 12 boxesA)), 7)
+    ∷ (withRecovery (pos 100) (pos 99) (noGo (pos 90) (pos 140)), 11)
+    ∷ (withRecovery (negsuc 1000000) (pos 100) (noGo (pos 90) (pos 140)), 11)
+    -- a recovery box of one state, at a no-go box and beside it
+    ∷ (withRecovery (pos 90) (pos 90) (noGo (pos 90) (pos 140)), 22)
+    ∷ (withRecovery (pos 89) (pos 89) (noGo (pos 90) (pos 140)), 0)
+    ∷ []
+
+pub overlaps : map (λ t. refusal (t .0)) overlapping ≡ map (λ t. t .1) overlapping
+unfolding everything overlapping withBoxes withRecovery noGo
+overlaps = refl
+
 zerosA : values (take 69 fileA) ≡ zeros
 unfolding everything
 zerosA = refl
@@ -177,6 +257,19 @@ twiceA = sets (sets (sets valueA boxesSlot (pos 2 ∷ [])) (unsafeSlot 1) (pos 1
 orderA : (writeRefusal twiceA buffer 5 ≡ number Cause.order) × (writeRefusal twiceA (take 40 buffer) 0 ≡ number Cause.order) × (written twiceA buffer 5 ≡ buffer)
 unfolding everything valueA buffer twiceA
 orderA = (refl, refl, refl)
+
+-- sheet A's value with a no-go box from 100 on: 22 comes before the room, and nothing is written
+onA : List ℤ
+onA = sets valueA (unsafeSlot 0) (pos 100 ∷ [])
+
+overlapA : (writeRefusal onA buffer 5 ≡ number Cause.overlap) × (writeRefusal onA (take 40 buffer) 0 ≡ number Cause.overlap) × (written onA buffer 5 ≡ buffer)
+unfolding everything valueA buffer onA
+overlapA = (refl, refl, refl)
+
+-- a no-go box beyond the count, and sides beyond the variables, count for nothing
+beyondA : (writeRefusal (sets valueA (unsafeSlot 1) (pos 5 ∷ [])) buffer 5 ≡ 0) × (writeRefusal (sets onA (unsafeSlot 0 + 1) (pos 9 ∷ [])) buffer 5 ≡ number Cause.overlap)
+unfolding everything valueA buffer onA
+beyondA = (refl, refl)
 
 roomA : (writeRefusal valueA buffer 11 ≡ number Cause.room) × (written valueA buffer 11 ≡ buffer) × (writeRefusal valueA buffer (2 ^ 64) ≡ number Cause.room) × (writeRefusal (sets valueA 4 (pos 997 ∷ [])) buffer 11 ≡ number Cause.times)
 unfolding everything valueA buffer

@@ -12,7 +12,6 @@ use Rattle.sheet_spec.specs.Slots.{headSize, rowSlot, recoverySlot, unsa
 use Rattle.sheet_spec.specs.Refusals.{Cause, number, refuseUnless, unlessRefused, firstRefusal}
 use Rattle.sheet_spec.specs.Fields.{Field, test, bad}
 use Rattle.sheet_spec.specs.Layout.{headFields, edgeField, rowRest, rowFields, bandFields, sideFields, boxFields, fields, fieldCount, rowCount, bandCount, boxCount}
-use Rattle.sheet_spec.specs.Order.{ascendsAt}
 use Rattle.sheet_spec.specs.declared.Record.{Record}
 use Rattle.sheet_spec.specs.declared.Record.the-variants.{Head, Band, Unsafe, Recovery}
 use Rattle.sheet_spec.specs.declared.Shape.{Shape}
@@ -20,8 +19,8 @@ use Rattle.sheet_spec.specs.File.{records, recordAt, fieldsAt, fieldCoun
 use Rattle.sheet_spec.proofs.Streams.{Each, each-next, each-first, each-groups, rows-more, caps-more}
 use Rattle.sheet_spec.proofs.Records.{record-cases, unsafe-at, recovery-at, EachOf, EachField}
 use Rattle.sheet_spec.proofs.Laws.{goes-on, none-either, either-most, either-last, first-next, first-none, none-first, first-most, unless-zero, unless-below}
-use Rattle.sheet_spec.proofs.Causes.{test-below}
-use Rattle.sheet_spec.proofs.Tests.{InRange, bad-ranges, ranges-bad}
+use Rattle.sheet_spec.proofs.Order.{order-most}
+use Rattle.sheet_spec.proofs.Tests.{InRange, test-below, bad-ranges, ranges-bad}
 
 -- ---- a field's refusal is at most that of a side
 
@@ -94,11 +93,6 @@ module _ (marks : ℕ → Bool) (s : Shape) (v : List ℤ) where
   fields-most : (x : Record) → bad (fields (s .vars) x) v (fieldCount (s .vars) x) ≤ number Cause.side
   fields-most x = bad-low (fields (s .vars) x) v (fieldCount (s .vars) x) (fields-low (s .vars) x)
 
-  order-most : (j : ℕ) → orderTest (s .vars) v j ≤ number Cause.order
-  unfolding orderTest
-  order-most zero = omega arith
-  order-most (suc j) = unless-below (ascendsAt (s .vars) v j) Cause.order (omega arith)
-
   -- every record before the last is refused by less than 22, if it is refused
   early : (r : ℕ) → r < records s → r < last → refusalAt r ≤ number Cause.order
   unfolding closing
@@ -106,7 +100,7 @@ module _ (marks : ℕ → Bool) (s : Shape) (v : List ℤ) where
       record-cases s (λ r x. r < last → unlessRefused (refuseUnless (marks r) Cause.mark) (λ c. c) (badNumbers v s x) ≤ number Cause.order)
       (λ l. below 0 Head (omega arith))
       (λ k h l. below (1 + k) (Band k) (omega arith))
-      (λ j h l. below (1 + (s .bands + j)) (Unsafe j) (order-most j))
+      (λ j h l. below (1 + (s .bands + j)) (Unsafe j) (order-most (s .vars) v j))
       (λ l. absurd (let z : ⊥ = omega arith in z))
     where
       below : (r : ℕ) (x : Record) → closing v s x ≤ number Cause.order → unlessRefused (refuseUnless (marks r) Cause.mark) (λ c. c) (badNumbers v s x) ≤ number Cause.order

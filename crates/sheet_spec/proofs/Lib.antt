@@ -7,7 +7,7 @@ pub mod Laws
 pub mod FirstRefusal
 pub mod Records
 pub mod Tests
-pub mod Causes
+pub mod GreatestNumber
 pub mod Places
 pub mod Filled
 pub mod Ranges

@@ -12,13 +12,14 @@ use lib.IntN.{ℤ}
 use lib.Signed.{ltZ, _<ℤ_}
 use Rattle.integers.proofs.Z.{ints}
 use Rattle.sheet_spec.specs.Slots.{unsafeBox}
-use Rattle.sheet_spec.specs.Refusals.{Cause, refuseUnless}
+use Rattle.sheet_spec.specs.Refusals.{Cause, number, refuseUnless}
 use Rattle.sheet_spec.specs.Box.{lo, hi, SameSides}
 use Rattle.sheet_spec.specs.Order.{compare, thenBy, compareBoxes, isLess, precedes, ascendsAt}
 use Rattle.sheet_spec.specs.declared.Comparison.{Comparison}
 use Rattle.sheet_spec.specs.declared.Comparison.the-variants.{Less, Equal, Greater}
 use Rattle.sheet_spec.specs.File.{orderTest}
 use Rattle.sheet_spec.proofs.Box.{differ}
+use Rattle.sheet_spec.proofs.Laws.{unless-below}
 
 -- ---- numbers
 
@@ -250,3 +251,8 @@ module _ (n : ℕ) (v : List ℤ) where
   pub order-next : (j : ℕ) {x : Comparison} → compareBoxes n (unsafeBox v j) (unsafeBox v (suc j)) ≡ x → refuseUnless (isLess x) Cause.order ≡ orderTest n v (suc j)
   unfolding orderTest ascendsAt precedes
   order-next j e = ap (λ (x : Comparison). refuseUnless (isLess x) Cause.order) (sym e)
+
+  pub order-most : (j : ℕ) → orderTest n v j ≤ number Cause.order
+  unfolding orderTest
+  order-most zero = omega arith
+  order-most (suc j) = unless-below (ascendsAt n v j) Cause.order (omega arith)

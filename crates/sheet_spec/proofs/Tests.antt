@@ -2,7 +2,7 @@
 use mathlib.Core.Path.{_≡_, refl, sym, ap, _∙_}
 use mathlib.Core.Bool.{Bool, true, _&&_}
 use mathlib.Core.List.{List}
-use Prim.Native.Nat.{ℕ, _<_}
+use Prim.Native.Nat.{ℕ, _≤_, _<_}
 use native.Mathlib.Omega.{arith}
 use lib.IntN.{ℤ}
 use lib.Signed.{leZ, _≤ℤ_, _<ℤ_}
@@ -18,7 +18,7 @@ use Rattle.sheet_spec.specs.Sheet.{valueRefusal}
 use Rattle.sheet_spec.proofs.Box.{le-is, le-not, and-both}
 use Rattle.sheet_spec.proofs.Streams.{Each}
 use Rattle.sheet_spec.proofs.Records.{EachOf, EachField}
-use Rattle.sheet_spec.proofs.Laws.{goes-on, none-either, first-none, none-first, unless-zero}
+use Rattle.sheet_spec.proofs.Laws.{goes-on, none-either, first-none, none-first, unless-zero, unless-below}
 
 -- ---- a test
 
@@ -38,6 +38,10 @@ module _ (v : List ℤ) (x : Field) where
   pub test-passed : InRange v x → 0 ≡ test v x
   unfolding test
   test-passed r = rw (le-is (x .least v) (v ! x .slot) (r .low), le-is (v ! x .slot) (x .greatest v) (r .high))
+
+  pub test-below : {most : ℕ} → number (x .cause) ≤ most → test v x ≤ most
+  unfolding test
+  test-below = unless-below (leZ (x .least v) (v ! x .slot) && leZ (v ! x .slot) (x .greatest v)) (x .cause)
 
   pub in-range : test v x ≡ 0 → InRange v x
   unfolding test

@@ -6,43 +6,30 @@ use native.Mathlib.Omega.{arith}
 use lib.Dec.{eqb, leb}
 use lib.IntN.{ℤ}
 use lib.ListN.{length}
-use lib.Signed.{leZ}
-use Rattle.sheet_spec.specs.Slots.{_!_, headSize, recoveryBox}
-use Rattle.sheet_spec.specs.Box.{clear}
-use Rattle.sheet_spec.specs.Order.{ascendsAt}
-use Rattle.sheet_spec.specs.Refusals.{Cause, number, greatestNumber}
+use Rattle.sheet_spec.specs.Slots.{headSize}
+use Rattle.sheet_spec.specs.Refusals.{Cause, greatestNumber}
 use Rattle.sheet_spec.specs.Fields.{Field, test, bad}
 use Rattle.sheet_spec.specs.Sizes.{capsAt}
 use Rattle.sheet_spec.specs.declared.Record.{Record}
 use Rattle.sheet_spec.specs.declared.Record.the-variants.{Head, Band, Unsafe, Recovery}
 use Rattle.sheet_spec.specs.Layout.{headFields}
 use Rattle.sheet_spec.specs.declared.Shape.{Shape}
-use Rattle.sheet_spec.specs.File.{shape, records, recordAt, fieldsAt, fieldCountAt, recordStart, marked, markedAt, orderTest, overlapTest, closing, badRecord, badAll}
+use Rattle.sheet_spec.specs.File.{shape, records, recordAt, fieldsAt, fieldCountAt, recordStart, marked, markedAt, closing, badRecord, badAll}
 use Rattle.sheet_spec.specs.Sheet.{headOf, shapeOf, contents, stage, stages, refusal, valueRefusal, length-of, writeRefusal}
-use Rattle.sheet_spec.proofs.Laws.{either-most, first-most, number-range, unless-below, unless-most}
-
-pub test-below : (v : List ℤ) (x : Field) {most : ℕ} → number (x .cause) ≤ most → test v x ≤ most
-unfolding test
-test-below v x = unless-below (leZ (x .least v) (v ! x .slot) && leZ (v ! x .slot) (x .greatest v)) (x .cause)
+use Rattle.sheet_spec.proofs.Laws.{either-most, first-most, number-range, unless-most}
+use Rattle.sheet_spec.proofs.Order.{order-most}
+use Rattle.sheet_spec.proofs.Overlap.{overlap-most}
+use Rattle.sheet_spec.proofs.Tests.{test-below}
 
 bad-most : (p : ℕ → Field) (v : List ℤ) (k : ℕ) → bad p v k ≤ greatestNumber
 unfolding bad
 bad-most p v k = first-most (λ j. test v (p j)) k (λ j l. test-below v (p j) (number-range (p j .cause) .1))
 
-order-most : (n : ℕ) (v : List ℤ) (j : ℕ) → orderTest n v j ≤ greatestNumber
-unfolding orderTest
-order-most n v zero = omega arith
-order-most n v (suc j) = unless-most (ascendsAt n v j) Cause.order
-
-overlap-most : (n : ℕ) (v : List ℤ) (count : ℕ) → overlapTest n v count ≤ greatestNumber
-unfolding overlapTest
-overlap-most n v count = unless-most (clear n v count (recoveryBox v)) Cause.overlap
-
 closing-most : (v : List ℤ) (s : Shape) (x : Record) → closing v s x ≤ greatestNumber
 unfolding closing
 closing-most v s Head = omega arith
 closing-most v s (Band k) = omega arith
-closing-most v s (Unsafe j) = order-most (s .vars) v j
+closing-most v s (Unsafe j) = omega (arith, order-most (s .vars) v j)
 closing-most v s Recovery = overlap-most (s .vars) v (s .boxes)
 
 all-most : (marks : ℕ → Bool) (s : Shape) (v : List ℤ) (k : ℕ) → badAll marks s v k ≤ greatestNumber
