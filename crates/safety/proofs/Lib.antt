@@ -2,6 +2,7 @@ pub mod Everything
 pub mod Held
 pub mod Acting
 pub mod Run
+pub mod Start
 pub mod Progress
 mod RunTest
 pub mod ExampleRuns

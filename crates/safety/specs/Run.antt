@@ -8,7 +8,7 @@ use lib.Dec.{T}
 use lib.IntN.{ℤ}
 use lib.ListN.{getD, length, replicate}
 use Rattle.sheet_spec.specs.Slots.{vars, boxes, δ, α, recoveryBox, unsafeBox}
-use Rattle.sheet_spec.specs.Sheet.{values}
+use Rattle.sheet_spec.specs.Sheet.{refusal, values}
 use Rattle.machine_spec.specs.Box.{In}
 use Rattle.machine_spec.specs.declared.Law.{Law}
 use Rattle.machine_spec.specs.declared.Law.the-variants.{Baseline, Command}
@@ -57,6 +57,12 @@ pub record Safe (f : List ℕ) (qs : List Period) (x : ℕ → List ℤ) : Type 
       → suc p * δ (values f) + α (values f) ≤ length qs * δ (values f)
       → ((t : ℕ) → t < α (values f) → lawAt f qs (suc p * δ (values f) + t) ≡ Baseline)
       → In (vars (values f)) (recoveryBox (values f)) (x (suc p * δ (values f) + α (values f)))
+
+-- a state of an accepted sheet's recovery box, in which a run may start, is in no no-go box, whatever the recovery check says (document 02, paper 8)
+abbrev pub StartsClear : Type 0
+StartsClear =
+    (f : List ℕ) → refusal f ≡ 0 → (x : List ℤ) → In (vars (values f)) (recoveryBox (values f)) x
+    → (j : ℕ) → j < boxes (values f) → In (vars (values f)) (unsafeBox (values f) j) x → ⊥
 
 -- demand 3: if the sheet passed its recovery check (so it was accepted) and the first state is in the recovery box, every run is safe
 abbrev pub SafeRuns : Type 0

@@ -210,6 +210,30 @@ pub recoverySideFirst : refusal (withRecovery (pos 100) (pos 1000001) (noGo (pos
 unfolding everything withRecovery noGo
 recoverySideFirst = refl
 
+-- a sheet of two variables, whose recovery box is −100..100 in both, with a no-go box of these lower and upper sides
+pub withTwo : List ℤ → List ℤ → List ℕ
+withTwo lower upper = bytesOf
+    (sets (sets (sets (sets (sets (sets (sets (sets (sets (sets zeros
+    0 (pos 2 ∷ pos 1 ∷ pos 1 ∷ pos 0 ∷ pos 4 ∷ pos 4 ∷ pos 4 ∷ negsuc 24 ∷ pos 25 ∷ pos 5 ∷ pos 5 ∷ []))
+    (bandSlot 0) (negsuc 1999999 ∷ []))
+    (rowSlot 0 0) (negsuc 0 ∷ [])) (rowSlot 0 0 + N) (pos 4 ∷ pos 0 ∷ pos 0 ∷ pos 20 ∷ []))
+    (rowSlot 0 1) (pos 0 ∷ negsuc 0 ∷ [])) (rowSlot 0 1 + N) (pos 4 ∷ pos 0 ∷ pos 0 ∷ pos 20 ∷ []))
+    (unsafeSlot 0) lower) (unsafeSlot 0 + N) upper)
+    recoverySlot (negsuc 99 ∷ negsuc 99 ∷ [])) (recoverySlot + N) (pos 100 ∷ pos 100 ∷ []))
+
+-- it is refused where the boxes meet in both variables
+pub metInBoth : refusal (withTwo (pos 0 ∷ pos 100 ∷ []) (pos 50 ∷ pos 200 ∷ [])) ≡ number Cause.overlap
+unfolding everything withTwo
+metInBoth = refl
+
+pub metInFirst : refusal (withTwo (pos 0 ∷ pos 101 ∷ []) (pos 50 ∷ pos 200 ∷ [])) ≡ 0
+unfolding everything withTwo
+metInFirst = refl
+
+pub metInSecond : refusal (withTwo (pos 101 ∷ pos 0 ∷ []) (pos 200 ∷ pos 50 ∷ [])) ≡ 0
+unfolding everything withTwo
+metInSecond = refl
+
 pub overlapping : List (List ℕ × ℕ)
 overlapping =
     -- below it: up to −100, and up to −101
