@@ -57,7 +57,13 @@ impl StateBox {
     /// The two boxes share a state.
     #[inline]
     pub fn meets(&self, other: &StateBox) -> bool {
-        (0..VARIABLES).all(|i| self.lower[i] <= other.upper[i] && other.lower[i] <= self.upper[i])
+        self.meets_in(other, VARIABLES)
+    }
+
+    /// The same for n variables, whatever the sides beyond n are.
+    #[inline]
+    pub fn meets_in(&self, other: &StateBox, n: usize) -> bool {
+        (0..n).all(|i| self.lower[i] <= other.upper[i] && other.lower[i] <= self.upper[i])
     }
 
     /// The least box that holds both.

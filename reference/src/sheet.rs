@@ -53,6 +53,7 @@ pub enum Refusal {
     Reach = 16,
     Room = 17,
     Order = 20,
+    Overlap = 22,
 }
 
 impl Refusal {
@@ -217,6 +218,17 @@ impl Sheet {
         require(greater, Refusal::Order)
     }
 
+    /// The sides of the recovery box, and that it shares no state with an unsafe box.
+    fn test_recovery(&self) -> Result<(), Refusal> {
+        self.test_sides(&self.recovery, START_LIMIT)?;
+        let n = self.n();
+        let clear = self
+            .unsafe_boxes()
+            .iter()
+            .all(|unsafe_box| !unsafe_box.meets_in(&self.recovery, n));
+        require(clear, Refusal::Overlap)
+    }
+
     /// All tests of the values, in the order of the file.
     fn test(&self) -> Result<(), Refusal> {
         self.test_head()?;
@@ -227,7 +239,7 @@ impl Sheet {
         for j in 0..self.unsafe_boxes().len() {
             self.test_unsafe_box(j)?;
         }
-        self.test_sides(&self.recovery, START_LIMIT)
+        self.test_recovery()
     }
 
     /// The values as numbers in fixed slots: head, caps, bands, recovery box, unsafe boxes.
@@ -460,7 +472,7 @@ pub fn read(bytes: &[u8]) -> Result<Sheet, Refusal> {
     }
     require(fields.mark(b"RC"), Refusal::Mark)?;
     sheet.recovery = fields.sides(n);
-    sheet.test_sides(&sheet.recovery, START_LIMIT)?;
+    sheet.test_recovery()?;
     Ok(sheet)
 }
 

@@ -165,7 +165,7 @@ fn packed_answers() {
     assert_eq!(check_recovery(&SHEET_A).pack(), number(0, 4, 1));
     assert_eq!(check_recovery(&SHEET_A[..69]).pack(), number(3, 5, 0));
     let mut failing = sheet_a();
-    failing.recovery = interval(-100, 140);
+    failing.recovery = interval(1, 2);
     let packed = check_recovery(&written(&failing)).pack();
     assert_eq!(packed >> 32, (1 << 16) + 1);
 }
@@ -269,7 +269,7 @@ fn swept_to_129_and_130() {
     sheet.bands[0].rows[0].a[0] = 0;
     sheet.bands[0].safety.least = -25;
     sheet.bands[0].safety.greatest = -25;
-    sheet.recovery = interval(0, 200);
+    sheet.recovery = interval(0, 129);
     sheet.unsafe_boxes[0] = interval(130, 130);
     let bytes = written(&sheet);
     let under_push = |from: i32| decide(&bytes, &question(100, 25, &[(from, from)]));
@@ -910,7 +910,7 @@ fn listings_of_broken_files() {
         "sheet pass 4 1\n1 refused 12\n2 keep 4 4\n"
     );
     let mut failing = sheet_a();
-    failing.recovery = interval(-100, 140);
+    failing.recovery = interval(1, 2);
     let text = listing(&written(&failing), &question);
     assert!(text.starts_with("sheet fail 1 "));
     assert_eq!(text.lines().count(), 1);

@@ -2,12 +2,15 @@
 //! Paper 2: no-go records ascend strictly, and their order changes no answer.
 //! Paper 3: each band's row is bounded over the part of the neighborhood that lies in that band.
 //! Paper 6: a change is compared with its cap first and divided only strictly between.
+//! Paper 8: a recovery box that shares a state with a no-go box is refused, and would fail its check.
 
 use second_guard::boxes::StateBox;
 use second_guard::changes::{Change, Place};
 use second_guard::decision::{
-    check_recovery_watched, decide, decide_watched, Decision, Faults, Question, RecoveryCheck,
+    check_recovery, check_recovery_watched, decide, decide_watched, trace_recovery, Decision,
+    Faults, Question, RecoveryCheck,
 };
+use second_guard::listing::listing;
 use second_guard::machine::{
     ceil_div, floor_div, greatest_change, greatest_so_far, least_change, least_so_far,
 };
@@ -72,14 +75,14 @@ fn box_of(pairs: &[(i64, i64)]) -> StateBox {
     sides
 }
 
-/// A machine of n variables that do not move, with these no-go boxes.
+/// A machine of n variables that do not move, with these no-go boxes and a recovery box far below.
 fn still(n: usize, boxes: &[StateBox]) -> Sheet {
     let mut sheet = machine(&[(FIRST_EDGE, STILL, STILL)]);
     sheet.variables = n as i32;
     sheet.band_variable = 0;
     sheet.caps = [5; 4];
     sheet.bands[0].rows = [STILL; 4];
-    sheet.recovery = box_of(&[(-10, 100); 4]);
+    sheet.recovery = box_of(&[(-1_000, -900); 4]);
     sheet.unsafe_count = boxes.len() as i32;
     sheet.unsafe_boxes[..boxes.len()].copy_from_slice(boxes);
     sheet
@@ -91,15 +94,17 @@ fn record(sheet: &Sheet, j: usize) -> usize {
     sheet.length() - (2 + 8 * sheet.n()) * (records - j)
 }
 
-/// The sheet's bytes, with the no-go boxes as they are.
+/// The sheet's bytes, with the no-go boxes and the recovery box as they are.
 fn bytes_of(sheet: &Sheet) -> Vec<u8> {
     let (n, mut ascending) = (sheet.n(), *sheet);
     for (j, sides) in (0..).zip(&mut ascending.unsafe_boxes) {
         *sides = box_of(&[(j, j); 4]);
     }
+    ascending.recovery = box_of(&[(-1, -1); 4]);
     let mut bytes = vec![0; sheet.length()];
     sheet::write(&ascending, &mut bytes, 0).expect("ascending boxes");
-    for (j, sides) in sheet.unsafe_boxes().iter().enumerate() {
+    let boxes = sheet.unsafe_boxes().iter().chain([&sheet.recovery]);
+    for (j, sides) in boxes.enumerate() {
         let pairs = (0..n).flat_map(|i| [sides.lower[i] as i32, sides.upper[i] as i32]);
         let pairs: Vec<u8> = pairs.flat_map(i32::to_be_bytes).collect();
         let at = record(sheet, j) + 2;
@@ -228,16 +233,18 @@ fn sides_beyond_n_are_not_looked_at() {
     assert_eq!(sheet(3, &[third, fourth]), Err(20));
 }
 
-/// Three ascending boxes of two variables.
+/// Three ascending boxes of two variables. The recovery box is clear of them by the first variable.
 fn sheet_of_three() -> Sheet {
-    still(2, &[10, 20, 30].map(|x| box_of(&[(x, 50), (0, 9)])))
+    let mut sheet = still(2, &[10, 20, 30].map(|x| box_of(&[(x, 50), (0, 9)])));
+    sheet.recovery = sides((-1_000, -900), (-5, 5));
+    sheet
 }
 
 /// Other bytes at a place, and the refusal.
 type Damage = (u8, usize, Vec<u8>);
 
 /// Damages of that sheet in the order in which they are found. One of 5 adds a byte. One of 20 is a
-/// first lower side below all others.
+/// first lower side below all others, that of 22 the recovery box's first upper side at the first box.
 fn damages() -> Vec<Damage> {
     let sheet = sheet_of_three();
     let int = |value: i32| value.to_be_bytes().to_vec();
@@ -262,6 +269,7 @@ fn damages() -> Vec<Damage> {
             list.push((20, at + 2, int(-100 - j as i32)));
         }
     }
+    list.push((22, record(&sheet, 3) + 6, int(10)));
     list
 }
 
@@ -280,16 +288,17 @@ fn damaged(damages: &[&Damage]) -> u8 {
 fn the_readers_order_of_refusals() {
     let damages = damages();
     assert_eq!(damaged(&[]), 0);
-    let mut pairs = 0;
+    let mut pairs = Vec::new();
     for (i, first) in damages.iter().enumerate() {
         assert_eq!(damaged(&[first]), first.0);
         for second in &damages[i + 1..] {
             assert_eq!(damaged(&[first, second]), first.0, "{first:?} {second:?}");
-            pairs += usize::from(first.0 == 20 || second.0 == 20);
+            pairs.push([first.0, second.0]);
         }
     }
-    // Each of the two of 20 with each of the 18 others, and the two together.
-    assert_eq!((damages.len(), pairs), (20, 2 * 18 + 1));
+    let with = |number| pairs.iter().filter(|pair| pair.contains(&number)).count();
+    // Each of the two of 20 with each of the 19 others, and the two together; that of 22 with all.
+    assert_eq!((damages.len(), with(20), with(22)), (21, 2 * 19 + 1, 20));
 }
 
 #[test]
@@ -334,6 +343,7 @@ fn wrong_numbers() -> Vec<(u8, usize, i32)> {
         }
     }
     list.push((11, RECOVERY + 5, 1_000_001));
+    list.push((22, RECOVERY + 4, 10));
     list
 }
 
@@ -383,7 +393,7 @@ impl Numbers {
 }
 
 /// A machine of two variables and two bands that its plain law draws to 0, with these many no-go
-/// boxes around, in any order.
+/// boxes around, in any order. Some of them are on the recovery box.
 fn among_boxes(numbers: &mut Numbers, boxes: usize) -> Sheet {
     let mut pull = |own: usize| {
         let mut row = row([numbers.between(-2, 2), numbers.between(-2, 2)], 0, 8);
@@ -837,4 +847,310 @@ fn the_watch_sees_every_change() {
         (Face::Upper, 12, 20, Place::Between),
     ];
     assert_eq!(found, wanted);
+}
+
+// ---- Paper 8
+
+/// The sides of the recovery box in each variable, and sides that share a value with it.
+const BACK: (i64, i64) = (-10, 30);
+const SHARED: (i64, i64) = (25, 60);
+
+/// A machine of n variables with that recovery box and these no-go boxes.
+fn beside(n: usize, boxes: &[StateBox]) -> Sheet {
+    let mut sheet = still(n, boxes);
+    sheet.recovery = box_of(&[BACK; 4]);
+    sheet
+}
+
+/// By which number a sheet with this one no-go box is refused.
+fn with_box(pairs: &[(i64, i64)]) -> u8 {
+    refusal(&beside(pairs.len(), &[box_of(pairs)]))
+}
+
+/// Sides just beside those of the recovery box, and sides that touch them.
+const NEXT_TO: [(i64, i64); 4] = [(31, 40), (31, 31), (-20, -11), (-11, -11)];
+const TOUCHING: [(i64, i64); 4] = [(30, 40), (30, 30), (-20, -10), (-10, -10)];
+
+#[test]
+fn a_box_that_only_touches_is_refused() {
+    for n in 1..=4 {
+        for i in 0..n {
+            let with = |pair| {
+                let mut pairs = [SHARED; 4];
+                pairs[i] = pair;
+                with_box(&pairs[..n])
+            };
+            assert_eq!(NEXT_TO.map(with), [0; 4]);
+            assert_eq!(TOUCHING.map(with), [22; 4]);
+        }
+    }
+}
+
+#[test]
+fn a_box_at_a_corner_is_refused() {
+    for n in 1..=4 {
+        for corner in 0..1 << n {
+            // Only the corner's own state is in both boxes.
+            let pair = |i: usize| TOUCHING[if corner >> i & 1 == 1 { 0 } else { 2 }];
+            let pairs: Vec<(i64, i64)> = (0..n).map(pair).collect();
+            assert_eq!(with_box(&pairs), 22);
+            for i in 0..n {
+                let mut apart = pairs.clone();
+                apart[i] = NEXT_TO[if corner >> i & 1 == 1 { 0 } else { 2 }];
+                assert_eq!(with_box(&apart), 0);
+            }
+        }
+    }
+}
+
+#[test]
+fn sharing_values_in_all_variables_but_one_is_accepted() {
+    for n in 1..=4 {
+        for i in 0..n {
+            for shared in [SHARED, BACK, (0, 0), (-2_000_000, 2_000_000)] {
+                for far in [(-2_000_000, -2_000_000), (31, 2_000_000), (999, 1_000)] {
+                    let mut pairs = [shared; 4];
+                    pairs[i] = far;
+                    assert_eq!(with_box(&pairs[..n]), 0);
+                }
+            }
+        }
+    }
+}
+
+#[test]
+fn one_box_inside_the_other_is_refused() {
+    let around = [(-2_000_000, 2_000_000), (-11, 31), (-10, 31), (-11, 30)];
+    let inside = [(0, 0), (-9, 29), (-10, 29), (-9, 30), (30, 30)];
+    for n in 1..=4 {
+        for pair in around.into_iter().chain(inside).chain([BACK]) {
+            assert_eq!(with_box(&[pair; 4][..n]), 22);
+        }
+        // Around it in one variable and inside it in the others.
+        for i in 0..n {
+            let mut pairs = [(0, 0); 4];
+            pairs[i] = (-500, 500);
+            assert_eq!(with_box(&pairs[..n]), 22);
+        }
+    }
+}
+
+/// Eight ascending boxes, of which that at j alone is on the recovery box.
+fn eight_boxes(n: usize, j: usize) -> Vec<StateBox> {
+    let one_variable = |k: usize| match k {
+        _ if k < j => (-100 + k as i64, -50),
+        _ if k == j => (-100 + k as i64, 0),
+        _ => (31 + k as i64, 60),
+    };
+    let of = |k: usize| {
+        if n == 1 {
+            return box_of(&[one_variable(k)]);
+        }
+        // All share values in the variables before the last.
+        let mut pairs = [(-100 + k as i64, 100); 4];
+        pairs[n - 1] = if k == j { (30, 40) } else { (31, 40) };
+        box_of(&pairs[..n])
+    };
+    (0..8).map(of).collect()
+}
+
+#[test]
+fn each_box_is_compared_with_the_recovery_box() {
+    for n in 1..=4 {
+        // At 8 none of them is on it.
+        assert_eq!(refusal(&beside(n, &eight_boxes(n, 8))), 0);
+        for j in 0..8 {
+            let boxes = eight_boxes(n, j);
+            assert_eq!(refusal(&beside(n, &boxes)), 22);
+            assert_eq!(refusal(&beside(n, &boxes[j..])), 22);
+            assert_eq!(refusal(&beside(n, &boxes[..=j])), 22);
+            if j > 0 {
+                assert_eq!(refusal(&beside(n, &boxes[..j])), 0);
+            }
+        }
+    }
+}
+
+/// What the writer says of values.
+fn writes(sheet: &Sheet) -> Result<usize, u8> {
+    let mut bytes = vec![0; sheet.length()];
+    sheet::write(sheet, &mut bytes, 0).map_err(Refusal::number)
+}
+
+#[test]
+fn boxes_beyond_the_count_are_not_compared_with_the_recovery_box() {
+    for n in 1..=4 {
+        for count in 1..8 {
+            let mut sheet = beside(n, &eight_boxes(n, count));
+            sheet.unsafe_count = count as i32;
+            assert_eq!(writes(&sheet), Ok(sheet.length()));
+            sheet.unsafe_count += 1;
+            assert_eq!(writes(&sheet), Err(22));
+        }
+    }
+}
+
+#[test]
+fn sides_beyond_n_neither_part_boxes_nor_join_them() {
+    let (least, greatest) = (i64::from(i32::MIN), i64::from(i32::MAX));
+    let beyond = [(7, 7), (1, 0), (least, least), (greatest, least), BACK];
+    for n in 1..4 {
+        for (no_go, back) in beyond.into_iter().flat_map(|x| beyond.map(|y| (x, y))) {
+            let mut sheet = beside(n, &[box_of(&[no_go; 4])]);
+            sheet.recovery = box_of(&[back; 4]);
+            for i in 0..n {
+                (sheet.recovery.lower[i], sheet.recovery.upper[i]) = BACK;
+                (
+                    sheet.unsafe_boxes[0].lower[i],
+                    sheet.unsafe_boxes[0].upper[i],
+                ) = SHARED;
+            }
+            assert_eq!(writes(&sheet), Err(22));
+            sheet.unsafe_boxes[0].lower[n - 1] = 31;
+            assert_eq!(writes(&sheet), Ok(sheet.length()));
+        }
+    }
+}
+
+#[test]
+fn overlap_comes_before_all_of_a_call() {
+    let sheet = beside(1, &[box_of(&[TOUCHING[0]])]);
+    let (bytes, number) = (bytes_of(&sheet), Refusal::Overlap);
+    let asked = |mark: &[u8], numbers: &[i32]| {
+        let numbers = numbers.iter().flat_map(|number| number.to_be_bytes());
+        [mark, &numbers.collect::<Vec<u8>>()].concat()
+    };
+    let questions = [
+        asked(b"QS", &[9, 0, 0, 0]),
+        asked(b"QX", &[9, 0, 0, 0]),
+        asked(b"QS", &[9, 0, 0]),
+        asked(b"QS", &[1_000_001, 0, 0, 0]),
+        asked(b"QS", &[9, 1, 0, 0]),
+        asked(b"QS", &[9, 0, 1, 0]),
+    ];
+    for question in questions {
+        assert_eq!(decide(&bytes, &question), Decision::Refused(number));
+        assert_eq!(listing(&bytes, &question), "sheet refused 22\n");
+    }
+    for (ticks, width, command) in [(1, 1, 0), (1_001, 1, 0), (1, 0, 0), (1, 1, 1)] {
+        let start = box_of(&[(1, 0)]);
+        let reached = sheet::read(&bytes)
+            .and_then(|read| reach(&read, ticks, width, Law::Command(command), &start));
+        assert_eq!(reached, Err(number));
+    }
+    assert_eq!(check_recovery(&bytes), RecoveryCheck::Refused(number));
+    assert_eq!(Decision::Refused(number).pack(), (3 << 48) + (22 << 32));
+}
+
+/// A machine whose changes are anything, with one or more bands, so that its long steps halve now and
+/// then; up to 60 ticks from a recovery box of some length in each variable.
+fn any_machine(numbers: &mut Numbers) -> Sheet {
+    let n = numbers.between(1, 4) as usize;
+    let mut sheet = still(n, &[]);
+    sheet.band_count = numbers.between(1, 3);
+    sheet.rho = numbers.between(1, 60);
+    sheet.band_variable = numbers.between(0, n as i32 - 1);
+    sheet.caps = [(); 4].map(|()| numbers.between(1, 300));
+    for (k, band) in sheet.bands[..3].iter_mut().enumerate() {
+        band.edge = [FIRST_EDGE, -20, 15][k];
+        for row in &mut band.rows {
+            row.a = [(); 4].map(|()| numbers.between(-3, 3));
+            (row.c, row.d) = (numbers.between(-30, 30), numbers.between(0, 9));
+            row.q = numbers.between(1, 24);
+        }
+    }
+    let pair = |numbers: &mut Numbers| numbers.pair((-40, 30), 25);
+    sheet.recovery = box_of(&[(); 4].map(|()| pair(numbers))[..n]);
+    sheet
+}
+
+/// A no-go box that shares a state with the recovery box: sides around one of its values each.
+fn any_shared(numbers: &mut Numbers, back: &StateBox, n: usize) -> StateBox {
+    let mut sides = *back;
+    for i in 0..n {
+        let shared = numbers.between(back.lower[i] as i32, back.upper[i] as i32);
+        let shared = [back.lower[i], back.upper[i], shared.into()][numbers.between(0, 2) as usize];
+        sides.lower[i] = shared - i64::from(numbers.between(0, 30) * numbers.between(0, 1));
+        sides.upper[i] = shared + i64::from(numbers.between(0, 30) * numbers.between(0, 1));
+    }
+    sides
+}
+
+/// Sees the settled steps and how often one halved.
+#[derive(Default)]
+struct Steps {
+    settled: Vec<Step>,
+    halved: u32,
+}
+
+impl Watch for Steps {
+    fn halved(&mut self, _ticks: u32) {
+        self.halved += 1;
+    }
+
+    fn settled(&mut self, step: &Step) -> ControlFlow<()> {
+        self.settled.push(*step);
+        ControlFlow::Continue(())
+    }
+}
+
+/// The widths of a recovery check in turn.
+fn widths(rho: i32) -> Vec<u32> {
+    let halves = |&width: &u32| (width > 1).then_some(width / 2);
+    std::iter::successors(Some(rho as u32), halves).collect()
+}
+
+/// Each attempt of the check of these values fails at its first step, and the check at width 1.
+/// Answers how often a step halved.
+fn fails_at_first_steps(sheet: &Sheet) -> u32 {
+    let (mut steps, widths) = (Steps::default(), widths(sheet.rho));
+    let check = check_recovery_watched(sheet, &mut steps);
+    let rounds = steps.settled.iter().map(|step| u64::from(step.rounds));
+    let (width, rounds) = (1, rounds.sum());
+    assert_eq!(check, RecoveryCheck::Fail { width, rounds });
+    // A step for each width, all from the recovery box: no tick is behind any of them.
+    assert_eq!(steps.settled.len(), widths.len());
+    for (step, width) in steps.settled.iter().zip(widths) {
+        assert_eq!(step.start, sheet.recovery);
+        assert!(step.ticks <= width && sheet.recovery.inside(&step.swept));
+        let traced = trace_recovery(sheet, width);
+        assert_eq!((traced.steps, traced.succeeded), (vec![*step], false));
+    }
+    steps.halved
+}
+
+#[test]
+fn without_the_test_each_attempt_fails_at_its_first_step() {
+    let mut numbers = Numbers(8);
+    let (mut halved, mut several) = (0, 0);
+    for _ in 0..4_000 {
+        let mut sheet = any_machine(&mut numbers);
+        let (n, back) = (sheet.n(), sheet.recovery);
+        let on = any_shared(&mut numbers, &back, n);
+        let far = box_of(&[(500, 600); 4][..n]);
+        (sheet.unsafe_boxes[0], sheet.unsafe_boxes[1]) = (on, far);
+        sheet.unsafe_count = numbers.between(1, 2);
+        assert_eq!(refusal(&sheet), 22);
+        halved += u32::from(fails_at_first_steps(&sheet) > 0);
+        several += u32::from(sheet.rho > 1);
+    }
+    assert!(halved > 100 && several > 3_000, "{halved} {several}");
+}
+
+#[test]
+fn a_clear_recovery_box_may_fail_at_a_later_step() {
+    let (mut numbers, mut later) = (Numbers(9), 0);
+    for _ in 0..2_000 {
+        let mut sheet = any_machine(&mut numbers);
+        let last = sheet.n() - 1;
+        sheet.unsafe_count = 1;
+        sheet.unsafe_boxes[0] = sheet.recovery;
+        sheet.unsafe_boxes[0].lower[last] = sheet.recovery.upper[last] + 1;
+        sheet.unsafe_boxes[0].upper[last] += 40;
+        assert_eq!(refusal(&sheet), 0);
+        let mut steps = Steps::default();
+        check_recovery_watched(&sheet, &mut steps);
+        later += u32::from(steps.settled.len() > widths(sheet.rho).len());
+    }
+    assert!(later > 300, "{later}");
 }

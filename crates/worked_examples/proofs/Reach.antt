@@ -215,6 +215,10 @@ order-before-ticks : reachFile (sets three-boxes 62 (0 ∷ 0 ∷ 0 ∷ 129 ∷ [
 unfolding three-boxes everything
 order-before-ticks = refl
 
+overlap-before-ticks : reachFile (sets fileA 52 (0 ∷ 0 ∷ 0 ∷ 100 ∷ [])) 1001 1 Baseline (pos 95 ∷ pos 0 ∷ pos 0 ∷ pos 0 ∷ pos 100 ∷ pos 0 ∷ pos 0 ∷ pos 0 ∷ []) ≡ refused 22
+unfolding everything
+overlap-before-ticks = refl
+
 ticks-before-command : reachFile fileA 1001 1 (Command (pos 26)) (pos 0 ∷ pos 0 ∷ pos 0 ∷ pos 0 ∷ pos 0 ∷ pos 0 ∷ pos 0 ∷ pos 0 ∷ []) ≡ refused 16
 unfolding everything
 ticks-before-command = refl

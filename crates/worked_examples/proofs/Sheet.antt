@@ -3,7 +3,7 @@
 use mathlib.Core.Path.{_≡_, refl}
 use mathlib.Core.List.{List, [], _∷_, _++_}
 use Prim.Native.Nat.{ℕ, _+_}
-use lib.IntN.{pos}
+use lib.IntN.{pos, negsuc}
 use lib.ListN.{take, replicate}
 use lib.Seq.{sets}
 use Rattle.sheet_spec.specs.Slots.{unsafeSlot}
@@ -210,11 +210,11 @@ q-4097 : refusal (sets fileA 48 (16 ∷ 1 ∷ [])) ≡ 10
 unfolding everything
 q-4097 = refl
 
-unsafe-lower-minus-2000000 : refusal (sets fileA 52 (255 ∷ 225 ∷ 123 ∷ 128 ∷ [])) ≡ 0
+unsafe-lower-minus-2000000 : refusal (sets (sets fileA 56 (255 ∷ 255 ∷ 255 ∷ 155 ∷ [])) 52 (255 ∷ 225 ∷ 123 ∷ 128 ∷ [])) ≡ 0
 unfolding everything
 unsafe-lower-minus-2000000 = refl
 
-unsafe-lower-minus-2000001 : refusal (sets fileA 52 (255 ∷ 225 ∷ 123 ∷ 127 ∷ [])) ≡ 11
+unsafe-lower-minus-2000001 : refusal (sets (sets fileA 56 (255 ∷ 255 ∷ 255 ∷ 155 ∷ [])) 52 (255 ∷ 225 ∷ 123 ∷ 127 ∷ [])) ≡ 11
 unfolding everything
 unsafe-lower-minus-2000001 = refl
 
@@ -234,11 +234,11 @@ recovery-lower-minus-1000001 : refusal (sets fileA 62 (255 ∷ 240 ∷ 189 ∷ 1
 unfolding everything
 recovery-lower-minus-1000001 = refl
 
-recovery-upper-1000000 : refusal (sets fileA 66 (0 ∷ 15 ∷ 66 ∷ 64 ∷ [])) ≡ 0
+recovery-upper-1000000 : refusal (sets (sets fileA 52 (0 ∷ 15 ∷ 66 ∷ 65 ∷ [])) 66 (0 ∷ 15 ∷ 66 ∷ 64 ∷ [])) ≡ 0
 unfolding everything
 recovery-upper-1000000 = refl
 
-recovery-upper-1000001 : refusal (sets fileA 66 (0 ∷ 15 ∷ 66 ∷ 65 ∷ [])) ≡ 11
+recovery-upper-1000001 : refusal (sets (sets fileA 52 (0 ∷ 15 ∷ 66 ∷ 65 ∷ [])) 66 (0 ∷ 15 ∷ 66 ∷ 65 ∷ [])) ≡ 11
 unfolding everything
 recovery-upper-1000001 = refl
 
@@ -326,11 +326,11 @@ safety-reversed : refusal (sets fileA 28 (0 ∷ 0 ∷ 0 ∷ 3 ∷ 0 ∷ 0 ∷ 0 
 unfolding everything
 safety-reversed = refl
 
-unsafe-box-of-one-state : refusal (sets fileA 52 (0 ∷ 0 ∷ 0 ∷ 5 ∷ 0 ∷ 0 ∷ 0 ∷ 5 ∷ [])) ≡ 0
+unsafe-box-of-one-state : refusal (sets fileA 52 (0 ∷ 0 ∷ 0 ∷ 105 ∷ 0 ∷ 0 ∷ 0 ∷ 105 ∷ [])) ≡ 0
 unfolding everything
 unsafe-box-of-one-state = refl
 
-unsafe-box-reversed : refusal (sets fileA 52 (0 ∷ 0 ∷ 0 ∷ 5 ∷ 0 ∷ 0 ∷ 0 ∷ 4 ∷ [])) ≡ 11
+unsafe-box-reversed : refusal (sets fileA 52 (0 ∷ 0 ∷ 0 ∷ 105 ∷ 0 ∷ 0 ∷ 0 ∷ 104 ∷ [])) ≡ 11
 unfolding everything
 unsafe-box-reversed = refl
 
@@ -342,37 +342,97 @@ recovery-box-reversed : refusal (sets fileA 62 (0 ∷ 0 ∷ 0 ∷ 5 ∷ 0 ∷ 0 
 unfolding everything
 recovery-box-reversed = refl
 
-boxes-ascending-by-first-side : refusal (sets (sets two-boxes 72 (0 ∷ 0 ∷ 0 ∷ 10 ∷ 0 ∷ 0 ∷ 0 ∷ 20 ∷ 0 ∷ 0 ∷ 0 ∷ 10 ∷ 0 ∷ 0 ∷ 0 ∷ 20 ∷ [])) 90 (0 ∷ 0 ∷ 0 ∷ 11 ∷ 0 ∷ 0 ∷ 0 ∷ 20 ∷ 0 ∷ 0 ∷ 0 ∷ 10 ∷ 0 ∷ 0 ∷ 0 ∷ 20 ∷ [])) ≡ 0
+boxes-ascending-by-first-side : refusal (sets (sets two-boxes 72 (0 ∷ 0 ∷ 0 ∷ 110 ∷ 0 ∷ 0 ∷ 0 ∷ 120 ∷ 0 ∷ 0 ∷ 0 ∷ 110 ∷ 0 ∷ 0 ∷ 0 ∷ 120 ∷ [])) 90 (0 ∷ 0 ∷ 0 ∷ 111 ∷ 0 ∷ 0 ∷ 0 ∷ 120 ∷ 0 ∷ 0 ∷ 0 ∷ 110 ∷ 0 ∷ 0 ∷ 0 ∷ 120 ∷ [])) ≡ 0
 unfolding two-boxes everything
 boxes-ascending-by-first-side = refl
 
-boxes-descending-by-first-side : refusal (sets (sets two-boxes 72 (0 ∷ 0 ∷ 0 ∷ 11 ∷ 0 ∷ 0 ∷ 0 ∷ 20 ∷ 0 ∷ 0 ∷ 0 ∷ 10 ∷ 0 ∷ 0 ∷ 0 ∷ 20 ∷ [])) 90 (0 ∷ 0 ∷ 0 ∷ 10 ∷ 0 ∷ 0 ∷ 0 ∷ 20 ∷ 0 ∷ 0 ∷ 0 ∷ 10 ∷ 0 ∷ 0 ∷ 0 ∷ 20 ∷ [])) ≡ 20
+boxes-descending-by-first-side : refusal (sets (sets two-boxes 72 (0 ∷ 0 ∷ 0 ∷ 111 ∷ 0 ∷ 0 ∷ 0 ∷ 120 ∷ 0 ∷ 0 ∷ 0 ∷ 110 ∷ 0 ∷ 0 ∷ 0 ∷ 120 ∷ [])) 90 (0 ∷ 0 ∷ 0 ∷ 110 ∷ 0 ∷ 0 ∷ 0 ∷ 120 ∷ 0 ∷ 0 ∷ 0 ∷ 110 ∷ 0 ∷ 0 ∷ 0 ∷ 120 ∷ [])) ≡ 20
 unfolding two-boxes everything
 boxes-descending-by-first-side = refl
 
-boxes-ascending-by-middle-side : refusal (sets (sets two-boxes 72 (0 ∷ 0 ∷ 0 ∷ 10 ∷ 0 ∷ 0 ∷ 0 ∷ 20 ∷ 0 ∷ 0 ∷ 0 ∷ 10 ∷ 0 ∷ 0 ∷ 0 ∷ 20 ∷ [])) 90 (0 ∷ 0 ∷ 0 ∷ 10 ∷ 0 ∷ 0 ∷ 0 ∷ 20 ∷ 0 ∷ 0 ∷ 0 ∷ 11 ∷ 0 ∷ 0 ∷ 0 ∷ 20 ∷ [])) ≡ 0
+boxes-ascending-by-middle-side : refusal (sets (sets two-boxes 72 (0 ∷ 0 ∷ 0 ∷ 110 ∷ 0 ∷ 0 ∷ 0 ∷ 120 ∷ 0 ∷ 0 ∷ 0 ∷ 110 ∷ 0 ∷ 0 ∷ 0 ∷ 120 ∷ [])) 90 (0 ∷ 0 ∷ 0 ∷ 110 ∷ 0 ∷ 0 ∷ 0 ∷ 120 ∷ 0 ∷ 0 ∷ 0 ∷ 111 ∷ 0 ∷ 0 ∷ 0 ∷ 120 ∷ [])) ≡ 0
 unfolding two-boxes everything
 boxes-ascending-by-middle-side = refl
 
-boxes-descending-by-middle-side : refusal (sets (sets two-boxes 72 (0 ∷ 0 ∷ 0 ∷ 10 ∷ 0 ∷ 0 ∷ 0 ∷ 20 ∷ 0 ∷ 0 ∷ 0 ∷ 11 ∷ 0 ∷ 0 ∷ 0 ∷ 20 ∷ [])) 90 (0 ∷ 0 ∷ 0 ∷ 10 ∷ 0 ∷ 0 ∷ 0 ∷ 20 ∷ 0 ∷ 0 ∷ 0 ∷ 10 ∷ 0 ∷ 0 ∷ 0 ∷ 20 ∷ [])) ≡ 20
+boxes-descending-by-middle-side : refusal (sets (sets two-boxes 72 (0 ∷ 0 ∷ 0 ∷ 110 ∷ 0 ∷ 0 ∷ 0 ∷ 120 ∷ 0 ∷ 0 ∷ 0 ∷ 111 ∷ 0 ∷ 0 ∷ 0 ∷ 120 ∷ [])) 90 (0 ∷ 0 ∷ 0 ∷ 110 ∷ 0 ∷ 0 ∷ 0 ∷ 120 ∷ 0 ∷ 0 ∷ 0 ∷ 110 ∷ 0 ∷ 0 ∷ 0 ∷ 120 ∷ [])) ≡ 20
 unfolding two-boxes everything
 boxes-descending-by-middle-side = refl
 
-boxes-ascending-by-last-side : refusal (sets (sets two-boxes 72 (0 ∷ 0 ∷ 0 ∷ 10 ∷ 0 ∷ 0 ∷ 0 ∷ 20 ∷ 0 ∷ 0 ∷ 0 ∷ 10 ∷ 0 ∷ 0 ∷ 0 ∷ 20 ∷ [])) 90 (0 ∷ 0 ∷ 0 ∷ 10 ∷ 0 ∷ 0 ∷ 0 ∷ 20 ∷ 0 ∷ 0 ∷ 0 ∷ 10 ∷ 0 ∷ 0 ∷ 0 ∷ 21 ∷ [])) ≡ 0
+boxes-ascending-by-last-side : refusal (sets (sets two-boxes 72 (0 ∷ 0 ∷ 0 ∷ 110 ∷ 0 ∷ 0 ∷ 0 ∷ 120 ∷ 0 ∷ 0 ∷ 0 ∷ 110 ∷ 0 ∷ 0 ∷ 0 ∷ 120 ∷ [])) 90 (0 ∷ 0 ∷ 0 ∷ 110 ∷ 0 ∷ 0 ∷ 0 ∷ 120 ∷ 0 ∷ 0 ∷ 0 ∷ 110 ∷ 0 ∷ 0 ∷ 0 ∷ 121 ∷ [])) ≡ 0
 unfolding two-boxes everything
 boxes-ascending-by-last-side = refl
 
-boxes-descending-by-last-side : refusal (sets (sets two-boxes 72 (0 ∷ 0 ∷ 0 ∷ 10 ∷ 0 ∷ 0 ∷ 0 ∷ 20 ∷ 0 ∷ 0 ∷ 0 ∷ 10 ∷ 0 ∷ 0 ∷ 0 ∷ 21 ∷ [])) 90 (0 ∷ 0 ∷ 0 ∷ 10 ∷ 0 ∷ 0 ∷ 0 ∷ 20 ∷ 0 ∷ 0 ∷ 0 ∷ 10 ∷ 0 ∷ 0 ∷ 0 ∷ 20 ∷ [])) ≡ 20
+boxes-descending-by-last-side : refusal (sets (sets two-boxes 72 (0 ∷ 0 ∷ 0 ∷ 110 ∷ 0 ∷ 0 ∷ 0 ∷ 120 ∷ 0 ∷ 0 ∷ 0 ∷ 110 ∷ 0 ∷ 0 ∷ 0 ∷ 121 ∷ [])) 90 (0 ∷ 0 ∷ 0 ∷ 110 ∷ 0 ∷ 0 ∷ 0 ∷ 120 ∷ 0 ∷ 0 ∷ 0 ∷ 110 ∷ 0 ∷ 0 ∷ 0 ∷ 120 ∷ [])) ≡ 20
 unfolding two-boxes everything
 boxes-descending-by-last-side = refl
 
-boxes-equal : refusal (sets (sets two-boxes 72 (0 ∷ 0 ∷ 0 ∷ 10 ∷ 0 ∷ 0 ∷ 0 ∷ 20 ∷ 0 ∷ 0 ∷ 0 ∷ 10 ∷ 0 ∷ 0 ∷ 0 ∷ 20 ∷ [])) 90 (0 ∷ 0 ∷ 0 ∷ 10 ∷ 0 ∷ 0 ∷ 0 ∷ 20 ∷ 0 ∷ 0 ∷ 0 ∷ 10 ∷ 0 ∷ 0 ∷ 0 ∷ 20 ∷ [])) ≡ 20
+boxes-equal : refusal (sets (sets two-boxes 72 (0 ∷ 0 ∷ 0 ∷ 110 ∷ 0 ∷ 0 ∷ 0 ∷ 120 ∷ 0 ∷ 0 ∷ 0 ∷ 110 ∷ 0 ∷ 0 ∷ 0 ∷ 120 ∷ [])) 90 (0 ∷ 0 ∷ 0 ∷ 110 ∷ 0 ∷ 0 ∷ 0 ∷ 120 ∷ 0 ∷ 0 ∷ 0 ∷ 110 ∷ 0 ∷ 0 ∷ 0 ∷ 120 ∷ [])) ≡ 20
 unfolding two-boxes everything
 boxes-equal = refl
 
 third-box-between-the-others : refusal (sets three-boxes 72 (0 ∷ 0 ∷ 0 ∷ 131 ∷ 0 ∷ 30 ∷ 132 ∷ 127 ∷ [])) ≡ 20
 unfolding three-boxes everything
 third-box-between-the-others = refl
+
+box-just-above-recovery : refusal (sets fileA 52 (0 ∷ 0 ∷ 0 ∷ 101 ∷ [])) ≡ 0
+unfolding everything
+box-just-above-recovery = refl
+
+box-touching-recovery-from-above : refusal (sets fileA 52 (0 ∷ 0 ∷ 0 ∷ 100 ∷ [])) ≡ 22
+unfolding everything
+box-touching-recovery-from-above = refl
+
+box-just-below-recovery : refusal (sets fileA 52 (255 ∷ 225 ∷ 123 ∷ 128 ∷ 255 ∷ 255 ∷ 255 ∷ 155 ∷ [])) ≡ 0
+unfolding everything
+box-just-below-recovery = refl
+
+box-touching-recovery-from-below : refusal (sets fileA 52 (255 ∷ 225 ∷ 123 ∷ 128 ∷ 255 ∷ 255 ∷ 255 ∷ 156 ∷ [])) ≡ 22
+unfolding everything
+box-touching-recovery-from-below = refl
+
+recovery-within-a-box : refusal (sets fileA 52 (255 ∷ 225 ∷ 123 ∷ 128 ∷ 0 ∷ 30 ∷ 132 ∷ 128 ∷ [])) ≡ 22
+unfolding everything
+recovery-within-a-box = refl
+
+box-within-recovery : refusal (sets fileA 52 (0 ∷ 0 ∷ 0 ∷ 0 ∷ 0 ∷ 0 ∷ 0 ∷ 0 ∷ [])) ≡ 22
+unfolding everything
+box-within-recovery = refl
+
+box-is-recovery : refusal (sets fileA 52 (255 ∷ 255 ∷ 255 ∷ 156 ∷ 0 ∷ 0 ∷ 0 ∷ 100 ∷ [])) ≡ 22
+unfolding everything
+box-is-recovery = refl
+
+box-on-recovery-in-one-variable : refusal (sets two-boxes 72 (255 ∷ 255 ∷ 255 ∷ 206 ∷ 0 ∷ 0 ∷ 0 ∷ 50 ∷ 0 ∷ 0 ∷ 0 ∷ 101 ∷ 0 ∷ 0 ∷ 0 ∷ 200 ∷ [])) ≡ 0
+unfolding two-boxes everything
+box-on-recovery-in-one-variable = refl
+
+box-on-recovery-in-the-other : refusal (sets two-boxes 72 (255 ∷ 255 ∷ 254 ∷ 12 ∷ 255 ∷ 255 ∷ 255 ∷ 155 ∷ 255 ∷ 255 ∷ 255 ∷ 206 ∷ 0 ∷ 0 ∷ 0 ∷ 50 ∷ [])) ≡ 0
+unfolding two-boxes everything
+box-on-recovery-in-the-other = refl
+
+box-touching-in-one-variable : refusal (sets two-boxes 72 (255 ∷ 255 ∷ 255 ∷ 206 ∷ 0 ∷ 0 ∷ 0 ∷ 50 ∷ 0 ∷ 0 ∷ 0 ∷ 100 ∷ 0 ∷ 0 ∷ 0 ∷ 200 ∷ [])) ≡ 22
+unfolding two-boxes everything
+box-touching-in-one-variable = refl
+
+box-touching-at-a-corner : refusal (sets two-boxes 72 (255 ∷ 255 ∷ 255 ∷ 56 ∷ 255 ∷ 255 ∷ 255 ∷ 156 ∷ 0 ∷ 0 ∷ 0 ∷ 100 ∷ 0 ∷ 0 ∷ 0 ∷ 200 ∷ [])) ≡ 22
+unfolding two-boxes everything
+box-touching-at-a-corner = refl
+
+boxes-around-recovery : refusal (sets (sets (sets three-boxes 52 (255 ∷ 255 ∷ 254 ∷ 12 ∷ 255 ∷ 255 ∷ 254 ∷ 112 ∷ [])) 62 (255 ∷ 255 ∷ 254 ∷ 212 ∷ 255 ∷ 255 ∷ 255 ∷ 56 ∷ [])) 72 (0 ∷ 0 ∷ 0 ∷ 150 ∷ 0 ∷ 0 ∷ 0 ∷ 160 ∷ [])) ≡ 0
+unfolding three-boxes everything
+boxes-around-recovery = refl
+
+first-box-on-recovery : refusal (sets (sets (sets three-boxes 52 (255 ∷ 255 ∷ 254 ∷ 12 ∷ 255 ∷ 255 ∷ 255 ∷ 156 ∷ [])) 62 (0 ∷ 0 ∷ 0 ∷ 101 ∷ 0 ∷ 0 ∷ 0 ∷ 120 ∷ [])) 72 (0 ∷ 0 ∷ 0 ∷ 150 ∷ 0 ∷ 0 ∷ 0 ∷ 160 ∷ [])) ≡ 22
+unfolding three-boxes everything
+first-box-on-recovery = refl
+
+second-box-on-recovery : refusal (sets (sets (sets three-boxes 52 (255 ∷ 255 ∷ 254 ∷ 12 ∷ 255 ∷ 255 ∷ 254 ∷ 112 ∷ [])) 62 (255 ∷ 255 ∷ 254 ∷ 212 ∷ 255 ∷ 255 ∷ 255 ∷ 156 ∷ [])) 72 (0 ∷ 0 ∷ 0 ∷ 150 ∷ 0 ∷ 0 ∷ 0 ∷ 160 ∷ [])) ≡ 22
+unfolding three-boxes everything
+second-box-on-recovery = refl
+
+last-box-on-recovery : refusal (sets (sets (sets three-boxes 52 (255 ∷ 255 ∷ 254 ∷ 12 ∷ 255 ∷ 255 ∷ 254 ∷ 112 ∷ [])) 62 (255 ∷ 255 ∷ 254 ∷ 212 ∷ 255 ∷ 255 ∷ 255 ∷ 56 ∷ [])) 72 (0 ∷ 0 ∷ 0 ∷ 100 ∷ 0 ∷ 0 ∷ 0 ∷ 160 ∷ [])) ≡ 22
+unfolding three-boxes everything
+last-box-on-recovery = refl
 
 sheet-a : refusal fileA ≡ 0
 unfolding everything
@@ -466,6 +526,18 @@ order-before-next-side : refusal (sets (sets three-boxes 62 (0 ∷ 0 ∷ 0 ∷ 1
 unfolding three-boxes everything
 order-before-next-side = refl
 
+recovery-mark-before-overlap : refusal (sets (sets fileA 52 (0 ∷ 0 ∷ 0 ∷ 100 ∷ [])) 60 (88 ∷ 88 ∷ [])) ≡ 7
+unfolding everything
+recovery-mark-before-overlap = refl
+
+recovery-side-before-overlap : refusal (sets (sets fileA 52 (0 ∷ 0 ∷ 0 ∷ 100 ∷ [])) 62 (255 ∷ 240 ∷ 189 ∷ 191 ∷ [])) ≡ 11
+unfolding everything
+recovery-side-before-overlap = refl
+
+order-before-overlap : refusal (sets (sets three-boxes 62 (0 ∷ 0 ∷ 0 ∷ 129 ∷ [])) 86 (0 ∷ 0 ∷ 0 ∷ 150 ∷ [])) ≡ 20
+unfolding three-boxes everything
+order-before-overlap = refl
+
 room-just-enough : writeRefusal (values fileA) (replicate 70 0) 0 ≡ 0
 unfolding everything
 room-just-enough = refl
@@ -521,3 +593,23 @@ box-greater-beyond-n = refl
 order-before-room : writeRefusal (sets (values three-boxes) (unsafeSlot 1) (pos 130 ∷ [])) (replicate 89 0) 0 ≡ 20
 unfolding three-boxes everything
 order-before-room = refl
+
+written-box-apart : writeRefusal (sets (values fileA) (unsafeSlot 0) (pos 101 ∷ [])) (replicate 70 0) 0 ≡ 0
+unfolding everything
+written-box-apart = refl
+
+written-box-touching : writeRefusal (sets (values fileA) (unsafeSlot 0) (pos 100 ∷ [])) (replicate 70 0) 0 ≡ 22
+unfolding everything
+written-box-touching = refl
+
+box-apart-beyond-n : writeRefusal (sets (sets (values fileA) (unsafeSlot 0) (pos 100 ∷ [])) (unsafeSlot 0 + 1) (pos 7 ∷ [])) (replicate 70 0) 0 ≡ 22
+unfolding everything
+box-apart-beyond-n = refl
+
+box-on-recovery-beyond-the-count : writeRefusal (sets (values fileA) (unsafeSlot 1) (negsuc 49 ∷ [])) (replicate 70 0) 0 ≡ 0
+unfolding everything
+box-on-recovery-beyond-the-count = refl
+
+overlap-before-room : writeRefusal (sets (values fileA) (unsafeSlot 0) (pos 100 ∷ [])) (replicate 69 0) 0 ≡ 22
+unfolding everything
+overlap-before-room = refl

@@ -336,6 +336,13 @@ fn sledge(recovery: StateBox) -> Sheet {
     )
 }
 
+/// The sledge with a no-go box at place 10 with these speeds.
+fn sledge_at(speeds: (i64, i64), recovery: StateBox) -> Sheet {
+    let mut sheet = sledge(recovery);
+    sheet.unsafe_boxes[0] = sides([(10, 10), speeds]);
+    sheet
+}
+
 /// Grows slowly away from 0, so that long steps do not settle.
 fn slow_growth() -> Sheet {
     let grow = row([1, 0], 0, 0, 0, 4);
@@ -538,14 +545,7 @@ fn examples() -> Vec<Example> {
         },
         Example {
             name: "finest_at_an_unsafe_box",
-            sheet: Sheet {
-                unsafe_boxes: {
-                    let mut boxes = sledge(wide).unsafe_boxes;
-                    boxes[0] = sides([(10, 10), (20, 21)]);
-                    boxes
-                },
-                ..sledge(wide)
-            },
+            sheet: sledge_at((20, 21), sides([(-100, 100), (-70, 19)])),
             call: push(100),
             covers: vec![Finest, WidthOne, UnsafeMet],
         },
@@ -1031,6 +1031,16 @@ fn checks_at_places() -> Vec<Example> {
     ]
 }
 
+/// A recovery box up to the no-go box's least speed: place 10 with speed 75 is in both.
+fn recovery_on_a_box() -> Example {
+    Example {
+        name: "refused_recovery_box",
+        sheet: sledge_at((75, 80), sides([(-100, 100), (-70, 75)])),
+        call: Call::Check,
+        covers: vec![Covers::Refused(22)],
+    }
+}
+
 fn hex(bytes: &[u8]) -> String {
     bytes.iter().fold(String::new(), |mut text, byte| {
         let _ = write!(text, "{byte:02x}");
@@ -1054,6 +1064,19 @@ fn ranges(sides: &StateBox, n: usize) -> String {
     ranges.join(",")
 }
 
+/// The sheet with values that the writer takes in place of those that it may refuse: divisors, the
+/// recovery box and the no-go boxes.
+fn with_allowed(sheet: &Sheet) -> Sheet {
+    let mut allowed = *sheet;
+    let rows = allowed.bands.iter_mut().flat_map(|band| &mut band.rows);
+    rows.for_each(|row| row.q = row.q.min(4_096));
+    allowed.recovery = sides([(0, 0); 4]);
+    for (number, unsafe_box) in (1..).zip(&mut allowed.unsafe_boxes) {
+        *unsafe_box = sides([(number, number); 4]);
+    }
+    allowed
+}
+
 /// The sheet's bytes, also where the writer would refuse its values:
 /// those are written as allowed ones and then put in their places.
 fn sheet_bytes(sheet: &Sheet) -> Vec<u8> {
@@ -1061,17 +1084,9 @@ fn sheet_bytes(sheet: &Sheet) -> Vec<u8> {
     if sheet::write(sheet, &mut bytes, 0).is_ok() {
         return bytes;
     }
-    let mut allowed = *sheet;
-    let (n, bands) = (sheet.n(), sheet.band_count as usize);
-    for band in &mut allowed.bands[..bands] {
-        for row in &mut band.rows[..n] {
-            row.q = row.q.min(4_096);
-        }
-    }
-    for i in 0..n {
-        allowed.recovery.lower[i] = allowed.recovery.lower[i].max(-1_000_000);
-    }
+    let allowed = with_allowed(sheet);
     sheet::write(&allowed, &mut bytes, 0).expect("only these values are beyond their bounds");
+    let n = sheet.n();
     let row_length = 2 * n + 12;
     let band_length = 14 + n * row_length;
     for (k, band) in sheet.bands().iter().enumerate() {
@@ -1080,8 +1095,11 @@ fn sheet_bytes(sheet: &Sheet) -> Vec<u8> {
             bytes[end - 2..end].copy_from_slice(&(row.q as u16).to_be_bytes());
         }
     }
-    let recovery = bytes.len() - 8 * n;
-    bytes[recovery..].copy_from_slice(&pairs(&sheet.recovery, n));
+    let record_length = 2 + 8 * n;
+    let boxes = sheet.unsafe_boxes().iter().chain([&sheet.recovery]).rev();
+    for (record, sides) in bytes.rchunks_mut(record_length).zip(boxes) {
+        record[2..].copy_from_slice(&pairs(sides, n));
+    }
     bytes
 }
 
@@ -1427,6 +1445,7 @@ fn main() {
         changes_over_bands(),
         decisions_at_places(),
         checks_at_places(),
+        vec![recovery_on_a_box()],
     ];
     let mut covered = Vec::new();
     for example in all.iter().flatten() {

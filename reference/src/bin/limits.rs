@@ -1,6 +1,6 @@
-//! Prints `limits.txt`: numbers at each of document 01's bounds and one past it, no-go boxes in order and out of it, the first of
-//! two refusals, and listings, with the answers of the second guard. Each line says by which number it is refused, and the program
-//! stops where it is not.
+//! Prints `limits.txt`: numbers at each of document 01's bounds and one past it, no-go boxes in order and out of it and beside and
+//! on the recovery box, the first of two refusals, and listings, with the answers of the second guard. Each line says by which
+//! number it is refused, and the program stops where it is not.
 
 use second_guard::boxes::{StateBox, VARIABLES};
 use second_guard::decision::{decide, Decision};
@@ -134,6 +134,21 @@ fn out_of_order() -> File {
     three_boxes().number(62, 4, 129)
 }
 
+/// Sheet A with the no-go box up to just below the recovery box.
+fn box_below() -> File {
+    a().number(56, 4, -101)
+}
+
+/// Sheet A with the no-go box from just beyond the farthest recovery box.
+fn box_far() -> File {
+    a().number(52, 4, 1_000_001)
+}
+
+/// Sheet A with the no-go box from the recovery box's upper side on.
+fn touching() -> File {
+    a().number(52, 4, 100)
+}
+
 // ---- reading a sheet
 
 /// A number of sheet A: its name, place and size; the last value that is allowed, the first one past it, and the refusal.
@@ -164,10 +179,20 @@ const BOUNDS: &[Bound] = &[
     ("d", 44, 4, 100_000_000, 100_000_001, 10),
     ("q", 48, 2, 1, 0, 10),
     ("q", 48, 2, 4_096, 4_097, 10),
-    ("unsafe_lower", 52, 4, -2_000_000, -2_000_001, 11),
-    ("unsafe_upper", 56, 4, 2_000_000, 2_000_001, 11),
-    ("recovery_lower", 62, 4, -1_000_000, -1_000_001, 11),
-    ("recovery_upper", 66, 4, 1_000_000, 1_000_001, 11),
+];
+
+/// A bound, and the sheet on which it is tried.
+type BoundOf = (fn() -> File, Bound);
+
+/// The sides' bounds, each on a sheet whose boxes are clear of each other.
+const SIDE_BOUNDS: &[BoundOf] = &[
+    (
+        box_below,
+        ("unsafe_lower", 52, 4, -2_000_000, -2_000_001, 11),
+    ),
+    (a, ("unsafe_upper", 56, 4, 2_000_000, 2_000_001, 11)),
+    (a, ("recovery_lower", 62, 4, -1_000_000, -1_000_001, 11)),
+    (box_far, ("recovery_upper", 66, 4, 1_000_000, 1_000_001, 11)),
 ];
 
 fn name_of(number: &str, value: i64) -> String {
@@ -176,12 +201,15 @@ fn name_of(number: &str, value: i64) -> String {
 }
 
 fn bounds() -> Vec<(String, File, u8)> {
-    let both = |&(name, place, size, last, past, refusal): &Bound| {
-        let at = |value| (name_of(name, value), a().number(place, size, value));
+    let both = |(file, bound): BoundOf| {
+        let (name, place, size, last, past, refusal) = bound;
+        let at = |value| (name_of(name, value), file().number(place, size, value));
         let ((last, allowed), (past, refused)) = (at(last), at(past));
         [(last, allowed, 0), (past, refused, refusal)]
     };
-    BOUNDS.iter().flat_map(both).collect()
+    let of_a = BOUNDS.iter().map(|&bound| (a as fn() -> File, bound));
+    let all = of_a.chain(SIDE_BOUNDS.iter().copied());
+    all.flat_map(both).collect()
 }
 
 fn counts() -> Vec<(&'static str, File, u8)> {
@@ -221,8 +249,8 @@ fn ordered() -> Vec<(&'static str, File, u8)> {
         ("commands_reversed", pair(12, 1, 0), 4),
         ("one_safety_command", pair(28, 3, 3), 0),
         ("safety_reversed", pair(28, 3, 2), 9),
-        ("unsafe_box_of_one_state", pair(52, 5, 5), 0),
-        ("unsafe_box_reversed", pair(52, 5, 4), 11),
+        ("unsafe_box_of_one_state", pair(52, 105, 105), 0),
+        ("unsafe_box_reversed", pair(52, 105, 104), 11),
         ("recovery_box_of_one_state", pair(62, 5, 5), 0),
         ("recovery_box_reversed", pair(62, 5, 4), 11),
     ]
@@ -234,8 +262,10 @@ fn boxes() -> Vec<(&'static str, File, u8)> {
         let one = two_boxes().with(72, &numbers(&one));
         one.with(90, &numbers(&other))
     };
-    let low = [10, 20, 10, 20];
-    let (first, middle, last) = ([11, 20, 10, 20], [10, 20, 11, 20], [10, 20, 10, 21]);
+    let low = [110, 120, 110, 120];
+    let first = [111, 120, 110, 120];
+    let middle = [110, 120, 111, 120];
+    let last = [110, 120, 110, 121];
     let third = three_boxes().pair(72, (131, 1_999_999));
     vec![
         ("boxes_ascending_by_first_side", boxes(low, first), 0),
@@ -246,6 +276,59 @@ fn boxes() -> Vec<(&'static str, File, u8)> {
         ("boxes_descending_by_last_side", boxes(last, low), 20),
         ("boxes_equal", boxes(low, low), 20),
         ("third_box_between_the_others", third, 20),
+    ]
+}
+
+/// The no-go box of sheet A beside its recovery box, which is -100..100, and on it (document 02, paper 8).
+fn box_on_recovery() -> Vec<(&'static str, File, u8)> {
+    let no_go = |lower, upper| a().pair(52, (lower, upper));
+    vec![
+        ("box_just_above_recovery", a().number(52, 4, 101), 0),
+        ("box_touching_recovery_from_above", touching(), 22),
+        ("box_just_below_recovery", no_go(-2_000_000, -101), 0),
+        (
+            "box_touching_recovery_from_below",
+            no_go(-2_000_000, -100),
+            22,
+        ),
+        ("recovery_within_a_box", no_go(-2_000_000, 2_000_000), 22),
+        ("box_within_recovery", no_go(0, 0), 22),
+        ("box_is_recovery", no_go(-100, 100), 22),
+    ]
+}
+
+/// The same for the first of two boxes in two variables, and for one of three boxes alone.
+fn boxes_on_recovery() -> Vec<(&'static str, File, u8)> {
+    let first = |x: [i32; 2], z: [i32; 2]| two_boxes().with(72, &numbers(&[x, z].concat()));
+    let (on, above) = ([-50, 50], [101, 200]);
+    let three = |boxes: [[i32; 2]; 3]| {
+        let pairs = [52, 62, 72].into_iter().zip(boxes);
+        pairs.fold(three_boxes(), |file, (place, pair)| {
+            file.with(place, &numbers(&pair))
+        })
+    };
+    let (low, next, high) = ([-500, -400], [-300, -200], [150, 160]);
+    vec![
+        ("box_on_recovery_in_one_variable", first(on, above), 0),
+        ("box_on_recovery_in_the_other", first([-500, -101], on), 0),
+        ("box_touching_in_one_variable", first(on, [100, 200]), 22),
+        (
+            "box_touching_at_a_corner",
+            first([-200, -100], [100, 200]),
+            22,
+        ),
+        ("boxes_around_recovery", three([low, next, high]), 0),
+        (
+            "first_box_on_recovery",
+            three([[-500, -100], [101, 120], high]),
+            22,
+        ),
+        (
+            "second_box_on_recovery",
+            three([low, [-300, -100], high]),
+            22,
+        ),
+        ("last_box_on_recovery", three([low, next, [100, 160]]), 22),
     ]
 }
 
@@ -306,6 +389,18 @@ fn order_of_two() -> Vec<(&'static str, File, u8)> {
     ]
 }
 
+/// The same for a recovery box on a no-go box, which is found last.
+fn overlap_of_two() -> Vec<(&'static str, File, u8)> {
+    let mark = touching().with(60, b"XX");
+    let side = touching().number(62, 4, -1_000_001);
+    let order = out_of_order().number(86, 4, 150);
+    vec![
+        ("recovery_mark_before_overlap", mark, 7),
+        ("recovery_side_before_overlap", side, 11),
+        ("order_before_overlap", order, 20),
+    ]
+}
+
 fn refusal_number<T>(answer: Result<T, Refusal>) -> u8 {
     answer.err().map_or(0, Refusal::number)
 }
@@ -321,9 +416,12 @@ fn print_reads() {
         edges(),
         ordered(),
         boxes(),
+        box_on_recovery(),
+        boxes_on_recovery(),
         lengths(),
         first_of_two(),
         order_of_two(),
+        overlap_of_two(),
     ];
     let named = named
         .into_iter()
@@ -348,7 +446,7 @@ type Written = (
     u8,
 );
 
-/// The lower side of the second box of `three_boxes`; one later the side of a variable that it does not have.
+/// The first lower side of the second box; one later that of a variable which the sheet does not have.
 const SECOND: usize = UNSAFE_AT + 2 * VARIABLES;
 
 const WRITTEN: &[Written] = &[
@@ -387,6 +485,25 @@ const WRITTEN: &[Written] = &[
         0,
         20,
     ),
+    ("written_box_apart", a, &[(UNSAFE_AT, 101)], 70, 0, 0),
+    ("written_box_touching", a, &[(UNSAFE_AT, 100)], 70, 0, 22),
+    (
+        "box_apart_beyond_n",
+        a,
+        &[(UNSAFE_AT, 100), (UNSAFE_AT + 1, 7)],
+        70,
+        0,
+        22,
+    ),
+    (
+        "box_on_recovery_beyond_the_count",
+        a,
+        &[(SECOND, -50)],
+        70,
+        0,
+        0,
+    ),
+    ("overlap_before_room", a, &[(UNSAFE_AT, 100)], 69, 0, 22),
 ];
 
 fn print_writes() {
@@ -462,6 +579,10 @@ fn reaches() -> Vec<Reach> {
         Reach {
             sheet: out_of_order(),
             ..plain("order_before_ticks", 1_001, 1, 20)
+        },
+        Reach {
+            sheet: touching(),
+            ..plain("overlap_before_ticks", 1_001, 1, 22)
         },
         reach(
             "ticks_before_command",
@@ -583,9 +704,11 @@ fn decisions() -> Vec<(&'static str, File, File, u8)> {
     let mut all: Vec<_> = questions.into_iter().map(on_a).collect();
     all.push(("sheet_before_question", short_sheet(), q().first(17), 5));
     all.push(("order_before_question", out_of_order(), q().first(17), 20));
+    all.push(("overlap_before_question", touching(), q().first(17), 22));
     // the question's boxes sweep 0..20, and the last of them is 12..20
     let recovery = |lower, upper| a().pair(62, (lower, upper));
-    let unsafe_from = |lower| a().number(52, 4, lower);
+    // the recovery box ends just below the no-go box
+    let unsafe_from = |lower| a().number(52, 4, lower).number(66, 4, lower - 1);
     let first = [
         ("recovery_box_just_reached", recovery(12, 20)),
         ("recovery_box_reached_at_width_1", recovery(13, 20)),
@@ -646,23 +769,33 @@ fn listings() -> Vec<(&'static str, File, File, &'static str)> {
         ),
         ("listing_after_another_mark", a(), other_mark, "2 keep 4 4"),
         ("listing_of_a_failed_check", drifting, q(), "sheet fail 1 "),
-        (
+    ]
+}
+
+/// Sheets that are refused.
+fn refused_listings() -> [(&'static str, File, File, &'static str); 3] {
+    let of = |name, sheet, last| (name, sheet, q(), last);
+    [
+        of(
             "listing_of_a_refused_sheet",
             a().first(69),
-            q(),
             "sheet refused 5",
         ),
-        (
+        of(
             "listing_of_boxes_out_of_order",
             out_of_order(),
-            q(),
             "sheet refused 20",
+        ),
+        of(
+            "listing_of_a_recovery_box_on_a_box",
+            touching(),
+            "sheet refused 22",
         ),
     ]
 }
 
 fn print_listings() {
-    for (name, sheet, asks, last) in listings() {
+    for (name, sheet, asks, last) in listings().into_iter().chain(refused_listings()) {
         let text = listing(&sheet.bytes, &asks.bytes);
         let given = text.lines().last().unwrap_or_default();
         assert!(given.starts_with(last), "{name}: {given}");
@@ -676,8 +809,8 @@ fn print_listings() {
 
 fn main() {
     println!("# Limits, as printed by the program `print_limits`: numbers at each of document 01's bounds and one past it, no-go boxes in");
-    println!("# order and out of it (document 02, paper 2), the first of two refusals, and listings. A line has a name, the call, its files");
-    println!("# and numbers, and the answer; refusal 0 is none.");
+    println!("# order and out of it (document 02, paper 2) and beside and on the recovery box (paper 8), the first of two refusals, and");
+    println!("# listings. A line has a name, the call, its files and numbers, and the answer; refusal 0 is none.");
     println!("# A file is one of those named first or a sheet in hex. @10:03e8 is with these bytes from place 10 on (of `numbers`: with");
     println!("# this number in the slot), <69 its first 69 bytes, +00 with this byte after it. In a listing _ is a space and / a newline.");
     println!("\n# sheet A, its first question, and sheets of A's numbers with other counts");

@@ -273,7 +273,7 @@ const SHEET: &str = "\
 use mathlib.Core.Path.{_≡_, refl}
 use mathlib.Core.List.{List, [], _∷_, _++_}
 use Prim.Native.Nat.{ℕ, _+_}
-use lib.IntN.{pos}
+use lib.IntN.{pos, negsuc}
 use lib.ListN.{take, replicate}
 use lib.Seq.{sets}
 use Rattle.sheet_spec.specs.Slots.{unsafeSlot}
