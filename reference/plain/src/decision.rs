@@ -104,7 +104,8 @@ pub fn decide(bytes: &[u8], question: &[u8]) -> u64 {
     decide_values(&sheet, &question)
 }
 
-/// The decision on values, which are not tested here: the no-go boxes may stand in any order.
+/// The decision on values, which are not tested here: the no-go boxes may stand in any order, and on
+/// the recovery box.
 pub fn decide_values(sheet: &Sheet, question: &Question) -> u64 {
     let legs = [
         Leg {

@@ -227,6 +227,30 @@ fn test_order(sheet: &Sheet, k: usize) -> Result<(), u8> {
     Err(20)
 }
 
+/// Is some state in no-go box k and in the recovery box? The values of a variable that are in both
+/// run from the greater lower side to the lesser upper side.
+fn no_go_on_recovery(sheet: &Sheet, k: usize) -> bool {
+    for i in 0..sheet.n as usize {
+        let from = sheet.no_go_box[k][i].0.max(sheet.recovery[i].0);
+        let to = sheet.no_go_box[k][i].1.min(sheet.recovery[i].1);
+        if from > to {
+            return false;
+        }
+    }
+    true
+}
+
+/// "It refuses with 22 a sheet whose recovery box shares a state with a no-go box" (document 02,
+/// paper 8).
+fn test_recovery_clear(sheet: &Sheet) -> Result<(), u8> {
+    for k in 0..sheet.no_go as usize {
+        if no_go_on_recovery(sheet, k) {
+            return Err(22);
+        }
+    }
+    Ok(())
+}
+
 /// All the values of a sheet in file order.
 pub fn test_values(sheet: &Sheet) -> Result<(), u8> {
     test_counts(sheet)?;
@@ -240,7 +264,8 @@ pub fn test_values(sheet: &Sheet) -> Result<(), u8> {
         test_sides(&sheet.no_go_box[k], sheet.n, 2_000_000, 11)?;
         test_order(sheet, k)?;
     }
-    test_sides(&sheet.recovery, sheet.n, 1_000_000, 11)
+    test_sides(&sheet.recovery, sheet.n, 1_000_000, 11)?;
+    test_recovery_clear(sheet)
 }
 
 // ---- Reading ----
@@ -362,6 +387,8 @@ pub fn read(bytes: &[u8]) -> Result<Sheet, u8> {
     }
     sheet.recovery = from.sides(sheet.n);
     test_sides(&sheet.recovery, sheet.n, 1_000_000, 11)?;
+    // 22: on a no-go box, "after the last recovery side".
+    test_recovery_clear(&sheet)?;
     Ok(sheet)
 }
 

@@ -5,7 +5,7 @@ use plain_guard::decision::{decide_values, pack, recovery_values, unpack};
 use plain_guard::machine::{
     allowed_change, band_of, ceil_div, floor_div, greatest_change, least_change,
 };
-use plain_guard::reach::{lies_in, rates, shares_a_state, step, Count};
+use plain_guard::reach::{lies_in, rates, shares_a_state, step, to_box, Count};
 use plain_guard::sheet::{question_length, sheet_length, Question, Sides};
 use plain_guard::*;
 
@@ -359,12 +359,12 @@ fn listing_ends() {
         listing(Some(&bytes_a()), Some(&asks)),
         b"sheet pass 4 1\n1 keep 4 4\n2 refused 12\n"
     );
-    // A recovery box that meets the no-go box fails at every width.
+    // A recovery box that the plain law leaves: three rounds, then two steps of two, then four.
     let mut s = sheet_a();
-    s.no_go_box[0][0] = (0, 0);
+    s.recovery[0] = (1, 2);
     assert_eq!(
         listing(Some(&write(&s).unwrap()), Some(&asks)),
-        b"sheet fail 1 3\n"
+        b"sheet fail 1 11\n"
     );
 }
 
@@ -520,7 +520,7 @@ fn another_variable_is_cut_by_the_band_variable() {
 
 // ---- No-go records in order (document 02, paper 2) ----
 
-/// Sheet A with n variables and these no-go boxes.
+/// Sheet A with n variables, these no-go boxes and a recovery box beside them.
 fn with_no_go(n: u8, boxes: &[[(i32, i32); 4]]) -> Sheet {
     let mut s = sheet_a();
     s.n = n;
@@ -530,6 +530,7 @@ fn with_no_go(n: u8, boxes: &[[(i32, i32); 4]]) -> Sheet {
         s.band[0].rows[i].q = 1;
     }
     s.no_go_box[..boxes.len()].copy_from_slice(boxes);
+    s.recovery = [(200, 300); 4];
     s
 }
 
@@ -539,17 +540,23 @@ fn place_of_record(s: &Sheet, k: usize) -> usize {
     sheet_length(s.n, s.bands, s.no_go) - (s.no_go as usize + 1 - k) * record
 }
 
-/// The bytes of a sheet whose no-go boxes need not be in order.
-fn bytes_in_any_order(s: &Sheet) -> Vec<u8> {
-    let mut ordered = *s;
+/// The bytes of a sheet whose no-go boxes need neither be in order nor clear of the recovery box.
+fn bytes_as_they_are(s: &Sheet) -> Vec<u8> {
+    let mut accepted = *s;
     for k in 0..s.no_go as usize {
-        ordered.no_go_box[k] = [(k as i32, k as i32); 4];
+        accepted.no_go_box[k] = [(k as i32, k as i32); 4];
     }
-    let mut bytes = write(&ordered).unwrap();
-    for k in 0..s.no_go as usize {
+    accepted.recovery = [(100, 100); 4];
+    let mut bytes = write(&accepted).unwrap();
+    for k in 0..=s.no_go as usize {
+        let sides = if k == s.no_go as usize {
+            s.recovery
+        } else {
+            s.no_go_box[k]
+        };
         for i in 0..s.n as usize {
             let at = place_of_record(s, k) + 2 + 8 * i;
-            let (lower, upper) = s.no_go_box[k][i];
+            let (lower, upper) = sides[i];
             bytes[at..at + 4].copy_from_slice(&lower.to_be_bytes());
             bytes[at + 4..at + 8].copy_from_slice(&upper.to_be_bytes());
         }
@@ -560,7 +567,7 @@ fn bytes_in_any_order(s: &Sheet) -> Vec<u8> {
 /// Reader and writer agree: 0 or the refusal.
 fn read_and_written(s: &Sheet) -> u8 {
     let refused = |answer: Result<(), u8>| answer.err().unwrap_or(0);
-    let reader = refused(read(&bytes_in_any_order(s)).map(|_| ()));
+    let reader = refused(read(&bytes_as_they_are(s)).map(|_| ()));
     let writer = refused(write(s).map(|_| ()));
     assert_eq!(reader, writer);
     reader
@@ -628,7 +635,7 @@ fn after_that_records_own_sides() {
     // "It refuses with 20 a no-go record not greater than the one before, after that record's own
     // sides." Record two is less than record one.
     let s = with_no_go(2, &[[(5, 9); 4], [(3, 9); 4], [(7, 9); 4]]);
-    let bytes = bytes_in_any_order(&s);
+    let bytes = bytes_as_they_are(&s);
     let with = |faults: &[(usize, usize, &[u8])]| {
         let mut bytes = bytes.clone();
         for (record, at, new) in faults {
@@ -778,6 +785,157 @@ fn comparing_first_changes_no_answer() {
     }
 }
 
+// ---- A recovery box on a no-go box (document 02, paper 8) ----
+
+/// The recovery box of the sheets below in each variable.
+const HOME: (i32, i32) = (-7, 12);
+
+/// Reader and writer on a sheet with that recovery box.
+fn at_home(n: u8, boxes: &[[(i32, i32); 4]]) -> u8 {
+    let mut s = with_no_go(n, boxes);
+    s.recovery = [HOME; 4];
+    read_and_written(&s)
+}
+
+#[test]
+fn shares_a_state_with_a_no_go_box() {
+    // "It refuses with 22 a sheet whose recovery box shares a state with a no-go box."
+    for n in 1..=4 {
+        // One box in the other, either way, and the same box.
+        for pair in [(-2_000_000, 2_000_000), (-8, 13), (3, 3), (-6, 11), HOME] {
+            assert_eq!(at_home(n, &[[pair; 4]]), 22);
+        }
+        for i in 0..n as usize {
+            let with = |other, pair| {
+                let mut sides = [other; 4];
+                sides[i] = pair;
+                at_home(n, &[sides])
+            };
+            // Sides count: the last value of a side is shared, the next one is not.
+            for other in [(0, 100), (12, 12), (-20, -7)] {
+                assert_eq!(with(other, (12, 50)), 22);
+                assert_eq!(with(other, (13, 50)), 0);
+                assert_eq!(with(other, (-50, -7)), 22);
+                assert_eq!(with(other, (-50, -8)), 0);
+            }
+        }
+    }
+}
+
+#[test]
+fn every_no_go_box_up_to_the_count() {
+    for n in 1..=4 {
+        for k in 0..8 {
+            // Only box k goes further down than 13 in the last variable; in variable one they ascend.
+            let mut boxes = [[(-90, 90); 4]; 8];
+            for (at, sides) in boxes.iter_mut().enumerate() {
+                sides[0].0 += at as i32;
+                sides[n as usize - 1] = (13 + at as i32, 90);
+            }
+            boxes[k][n as usize - 1].0 = if n == 1 { 12 } else { 0 };
+            // With n = 1 the boxes before it lie below the recovery box.
+            for sides in boxes[..k].iter_mut().filter(|_| n == 1) {
+                sides[0] = (sides[0].0 - 99, -8);
+            }
+            assert_eq!(at_home(n, &boxes), 22);
+            assert_eq!(at_home(n, &boxes[..=k]), 22);
+            // Behind the count it is not looked at.
+            if k > 0 {
+                let mut s = with_no_go(n, &boxes);
+                s.recovery = [HOME; 4];
+                s.no_go = k as u8;
+                assert!(write(&s).is_ok());
+            }
+        }
+    }
+}
+
+#[test]
+fn only_the_sheets_variables_are_shared() {
+    let mut s = with_no_go(2, &[[(0, 90), (0, 90), (13, 90), (i32::MAX, i32::MIN)]]);
+    s.recovery = [HOME, HOME, HOME, (1, 0)];
+    assert_eq!(write(&s), Err(22));
+    s.n = 1;
+    assert_eq!(write(&s), Err(22));
+    // With a third variable, or another second side, they are apart.
+    s.n = 3;
+    (s.caps[2], s.band[0].rows[2].q) = (5, 1);
+    assert!(write(&s).is_ok());
+    s.n = 2;
+    s.no_go_box[0][1].0 = 13;
+    assert!(write(&s).is_ok());
+}
+
+#[test]
+fn after_the_last_recovery_side() {
+    let mut s = with_no_go(2, &[[(5, 9); 4], [(7, 9); 4]]);
+    s.recovery = [HOME; 4];
+    let bytes = bytes_as_they_are(&s);
+    let with = |record: usize, at: usize, new: &[u8]| {
+        let mut bytes = bytes.clone();
+        let place = place_of_record(&s, record) + at;
+        bytes[place..place + new.len()].copy_from_slice(new);
+        read(&bytes).unwrap_err()
+    };
+    let far = 2_000_001i32.to_be_bytes();
+    assert_eq!(read(&bytes), Err(22));
+    // Marks and sides of all records come first, and so does their order.
+    for record in 0..3 {
+        assert_eq!(with(record, 0, b"XX"), 7);
+        assert_eq!(with(record, 14, &far), 11);
+    }
+    assert_eq!(with(1, 2, &4i32.to_be_bytes()), 20);
+    assert_eq!(with(2, 14, &1_000_001i32.to_be_bytes()), 11);
+    // Whatever a call has beside the sheet comes later, and "17 last".
+    assert_eq!(decide(&bytes, b"QS"), pack(3, 22, 0));
+    assert_eq!(recovery(&bytes), pack(3, 22, 0));
+    assert_eq!(listing(Some(&bytes), None), b"sheet refused 22\n");
+    assert_eq!(reach(&s, 1_001, 0, Some(26), &[(1, 0)]), Err(22));
+    assert_eq!(write_at(&s, &mut [], 0), Err(22));
+    s.recovery[1] = (10, 12);
+    assert_eq!(write_at(&s, &mut [], 0), Err(17));
+}
+
+/// The rounds of a first step at each width of the recovery check, each of which meets no-go box k.
+fn rounds_of_first_steps(s: &Sheet, k: usize) -> u64 {
+    let (start, no_go) = (to_box(&s.recovery, s.n), to_box(&s.no_go_box[k], s.n));
+    let mut count = Count {
+        rounds: 0,
+        allowance: None,
+    };
+    let mut width = s.rho as i64;
+    while width > 0 {
+        let first = step(s, &start, width, None, &mut count).unwrap();
+        assert!(lies_in(&start, &first.swept) && shares_a_state(&first.swept, &no_go));
+        width /= 2;
+    }
+    count.rounds
+}
+
+#[test]
+fn it_could_never_pass_the_recovery_check() {
+    // "sheets that could never pass the recovery check": a swept box holds its start box, so each
+    // attempt fails with its first step. On sheet A, widths 4, 2 and 1 take a round each.
+    let mut a = sheet_a();
+    a.no_go_box[0][0] = (0, 0);
+    assert_eq!(recovery_values(&a), pack(1, 1, 3));
+    let mut dice = Dice(8);
+    let mut refused = 0;
+    for _ in 0..600 {
+        let mut s = random_sheet(&mut dice);
+        let last = s.no_go as usize - 1;
+        for i in 0..s.n as usize {
+            let shared = dice.from_to(s.recovery[i].0 as i64, s.recovery[i].1 as i64) as i32;
+            s.no_go_box[last][i] = (shared, shared + dice.from_to(0, 300) as i32);
+        }
+        let rounds = rounds_of_first_steps(&s, last);
+        assert_eq!(recovery_values(&s), pack(1, 1, rounds));
+        refused += u32::from(write(&s) == Err(22));
+    }
+    // In the others that box is not greater than the one before.
+    assert!(refused > 200, "{refused}");
+}
+
 // ---- The boxes hold every run of the machine ----
 
 struct Dice(u64);
@@ -839,9 +997,17 @@ fn random_sheet(dice: &mut Dice) -> Sheet {
     s
 }
 
-/// The no-go boxes in ascending order, each once. Places behind n and the count are 0.
+/// The no-go boxes that are clear of the recovery box, in ascending order, each once; one far away
+/// where there is none. Places behind n and the count are 0.
 fn put_in_order(s: &mut Sheet) {
     let mut boxes = s.no_go_box[..s.no_go as usize].to_vec();
+    let recovery = to_box(&s.recovery, s.n);
+    boxes.retain(|no_go| !shares_a_state(&to_box(no_go, s.n), &recovery));
+    if boxes.is_empty() {
+        let mut far = Sides::default();
+        far[0] = (401, 500);
+        boxes.push(far);
+    }
     boxes.sort();
     boxes.dedup();
     s.no_go = boxes.len() as u8;
@@ -923,7 +1089,7 @@ fn any_bytes_have_an_answer() {
         let (code, w, rounds) = unpack(decide(&sheet, &q));
         match code {
             0..=2 => assert!(w >= 1 && w <= 999 && rounds <= 1_000_000),
-            _ => assert!((w >= 1 && w <= 15 || w == 20) && rounds == 0),
+            _ => assert!((w >= 1 && w <= 15 || w == 20 || w == 22) && rounds == 0),
         }
         if let Ok(again) = read(&sheet) {
             assert_eq!(write(&again).unwrap(), sheet);
