@@ -204,16 +204,43 @@ fn file_cases() -> Vec<Case> {
     cases
 }
 
+/// The bytes of a box's record of four variables.
+const RECORD: usize = 34;
+
 /// The longest sheet with its last two no-go boxes the other way round.
 fn out_of_order() -> Vec<u8> {
-    const RECORD: usize = 34;
     let mut sheet = bytes(&longest());
     let from = sheet.len() - 3 * RECORD;
     sheet[from..from + 2 * RECORD].rotate_left(RECORD);
     sheet
 }
 
-/// A refused sheet for each number up to 11 and for 20, and first refusals among several.
+/// The longest sheet with a recovery box that is clear of the no-go boxes by its last variable alone.
+fn clear_by_last_variable() -> Sheet {
+    let mut sheet = longest();
+    sheet.recovery.upper = [137, 137, 137, 129];
+    sheet
+}
+
+/// A sheet whose recovery box shares states with the first no-go box alone.
+fn on_the_first_box() -> Vec<u8> {
+    let mut sheet = bytes(&clear_by_last_variable());
+    let last = sheet.len() - 4;
+    sheet[last..].copy_from_slice(&130_i32.to_be_bytes());
+    sheet
+}
+
+/// A sheet whose recovery box shares a state with the last no-go box alone: 137, and 0 in the others.
+fn on_the_last_box() -> Vec<u8> {
+    let mut sheet = longest();
+    sheet.recovery.upper = [137, 129, 129, 129];
+    let mut sheet = bytes(&sheet);
+    let second_pair = sheet.len() - 2 * RECORD + 2 + 8;
+    sheet[second_pair..second_pair + 3 * 8].fill(0);
+    sheet
+}
+
+/// A refused sheet for each number up to 11, for 20 and for 22, and first refusals among several.
 fn refused_sheets() -> Vec<Case> {
     let a = bytes(&sheet_a());
     let refused = [
@@ -235,6 +262,9 @@ fn refused_sheets() -> Vec<Case> {
         (11, "no_go_box", patched(56, &[0; 4])),
         (11, "recovery_box", patched(62, &[1, 0])),
         (20, "no_go_boxes", out_of_order()),
+        (22, "touching", patched(52, &100_i32.to_be_bytes())),
+        (22, "first_of_eight", on_the_first_box()),
+        (22, "last_of_eight", on_the_last_box()),
     ];
     refused
         .into_iter()
@@ -286,6 +316,17 @@ fn questions() -> Vec<Case> {
     ]
 }
 
+/// A sheet whose boxes are just clear of each other.
+fn clear_sheet() -> Case {
+    let sheet = bytes(&clear_by_last_variable());
+    files(
+        "clear_by_last_variable",
+        "sheet pass 4 1\n",
+        sheet,
+        many(10, 4),
+    )
+}
+
 fn set(path: &Path, place: &Place) {
     match place {
         Place::Missing => {}
@@ -296,7 +337,12 @@ fn set(path: &Path, place: &Place) {
 
 fn main() {
     let root = env::args().nth(1).expect("a folder");
-    let cases = [file_cases(), refused_sheets(), questions()];
+    let cases = [
+        file_cases(),
+        refused_sheets(),
+        questions(),
+        vec![clear_sheet()],
+    ];
     for case in cases.into_iter().flatten() {
         let read = |place: &Place| match place {
             Place::File(bytes) => bytes.clone(),
