@@ -1,7 +1,9 @@
 //! Random sheets and questions that are accepted,
 //! and boxes placed so that a decision ends at a wanted width.
-//! The unsafe boxes are in the order of paper 2 of document 02.
+//! The unsafe boxes are in the order of paper 2 of document 02, and the recovery box is clear of them,
+//! as paper 8 asks.
 
+use crate::expected::pairs;
 use crate::random::Random;
 use second_guard::boxes::{StateBox, VARIABLES};
 use second_guard::decision::{trace, Faults, Question};
@@ -391,7 +393,8 @@ pub fn shape(random: &mut Random, case: &mut Case, halvings: usize) -> Shape {
             .collect();
         if !sides.is_empty() {
             let (i, upper) = random.pick(&sides);
-            let touching = random.percent(25);
+            // A touching wall leaves the end box room for a recovery box that is clear of it.
+            let touching = random.percent(40) && ends_within(wanted, i, upper);
             let distance = i64::from(!touching);
             // Only a wall without end stops all the attempts before.
             if let Some(mut stop) = wall(random, n, &wanted.swept, i, upper, distance) {
@@ -418,22 +421,85 @@ pub fn shape(random: &mut Random, case: &mut Case, halvings: usize) -> Shape {
             }
         }
     }
-    // More unsafe boxes beside what is swept.
-    let more = random.pick(&[0, 0, 0, 1, 2, 7]);
-    for _ in 0..more {
-        let count = case.sheet.unsafe_count as usize;
-        let (i, upper) = (random.below(n), random.percent(50));
-        let distance = random.pick(&[1, 1, 2, 100]);
-        if count < UNSAFE_BOXES {
-            if let Some(wall) = wall(random, n, &wanted.swept, i, upper, distance) {
-                case.sheet.unsafe_boxes[count] = wall;
-                case.sheet.unsafe_count += 1;
-            }
-        }
+    if shape == Shape::None {
+        let around = wanted.swept.hull(&case.sheet.recovery);
+        add_walls(random, &mut case.sheet, &around);
+    } else {
+        add_walls(random, &mut case.sheet, &wanted.swept);
+        cut_recovery(&mut case.sheet, &wanted.end);
     }
     add_twin(random, &mut case.sheet);
     set_in_order(&mut case.sheet);
     shape
+}
+
+/// The attempt sweeps further to this side than it ends.
+fn ends_within(attempt: &Attempt, i: usize, upper: bool) -> bool {
+    if upper {
+        attempt.end.upper[i] < attempt.swept.upper[i]
+    } else {
+        attempt.swept.lower[i] < attempt.end.lower[i]
+    }
+}
+
+/// Adds unsafe boxes beside a box.
+fn add_walls(random: &mut Random, sheet: &mut Sheet, sides: &StateBox) {
+    let n = sheet.n();
+    for _ in 0..random.pick(&[0, 0, 0, 1, 2, 7]) {
+        let count = sheet.unsafe_count as usize;
+        let (i, upper) = (random.below(n), random.percent(50));
+        let distance = random.pick(&[1, 1, 2, 100]);
+        let wall = wall(random, n, sides, i, upper, distance);
+        if let (true, Some(wall)) = (count < UNSAFE_BOXES, wall) {
+            sheet.unsafe_boxes[count] = wall;
+            sheet.unsafe_count += 1;
+        }
+    }
+}
+
+/// Cuts the recovery box where it meets an unsafe box, so that it ends just beside that. It keeps all
+/// of a box that is in it and clear of the unsafe boxes.
+pub fn cut_recovery(sheet: &mut Sheet, kept: &StateBox) {
+    let (n, mut recovery) = (sheet.n(), sheet.recovery);
+    for unsafe_box in sheet.unsafe_boxes() {
+        if recovery.meets(unsafe_box) {
+            cut_beside(&mut recovery, unsafe_box, kept, n);
+        }
+    }
+    sheet.recovery = recovery;
+}
+
+/// Cuts a box in the first variable in which the kept one lies beside the other.
+fn cut_beside(sides: &mut StateBox, other: &StateBox, kept: &StateBox, n: usize) {
+    for i in 0..n {
+        if kept.upper[i] < other.lower[i] {
+            sides.upper[i] = other.lower[i] - 1;
+            return;
+        }
+        if other.upper[i] < kept.lower[i] {
+            sides.lower[i] = other.upper[i] + 1;
+            return;
+        }
+    }
+}
+
+/// Moves the unsafe boxes that the recovery box meets just beside it, to any side.
+fn move_unsafe_boxes(random: &mut Random, sheet: &mut Sheet) {
+    let (n, recovery) = (sheet.n(), sheet.recovery);
+    for unsafe_box in &mut sheet.unsafe_boxes[..sheet.unsafe_count as usize] {
+        if !unsafe_box.meets(&recovery) {
+            continue;
+        }
+        let i = random.below(n);
+        if random.percent(50) {
+            unsafe_box.lower[i] = recovery.upper[i] + 1;
+            unsafe_box.upper[i] = unsafe_box.upper[i].max(unsafe_box.lower[i]);
+        } else {
+            unsafe_box.upper[i] = recovery.lower[i] - 1;
+            unsafe_box.lower[i] = unsafe_box.lower[i].min(unsafe_box.upper[i]);
+        }
+    }
+    set_in_order(sheet);
 }
 
 /// Adds a twin of an unsafe box in every second case, where there is room. It differs in one side
@@ -656,6 +722,7 @@ pub const BOUNDS: [Bound; 14] = [
             sheet.recovery.lower[i] = lower;
             sheet.recovery.upper[i] = upper;
         }
+        move_unsafe_boxes(random, sheet);
     }),
 ];
 
@@ -673,11 +740,35 @@ pub fn sheet_bytes(sheet: &Sheet) -> Vec<u8> {
     bytes
 }
 
+/// Where unsafe record j begins, and after the last one the recovery record.
+pub fn record(sheet: &Sheet, j: usize) -> usize {
+    let records = sheet.unsafe_boxes().len() + 1;
+    sheet.length() - (2 + 8 * sheet.n()) * (records - j)
+}
+
+/// The bytes of a sheet whose unsafe boxes may stand in any order and on the recovery box, all else
+/// being in range.
+pub fn bytes_as_they_are(sheet: &Sheet) -> Vec<u8> {
+    let (n, mut accepted) = (sheet.n(), *sheet);
+    accepted.recovery = StateBox::default();
+    for (number, sides) in (1..).zip(&mut accepted.unsafe_boxes) {
+        sides.lower[..n].fill(number);
+        sides.upper[..n].fill(number);
+    }
+    let mut bytes = sheet_bytes(&accepted);
+    let boxes = sheet.unsafe_boxes().iter().chain([&sheet.recovery]);
+    for (j, sides) in boxes.enumerate() {
+        let at = record(sheet, j) + 2;
+        bytes[at..at + 8 * n].copy_from_slice(&pairs(sides, n));
+    }
+    bytes
+}
+
 /// The bytes of a question, in range or not.
 pub fn question_bytes(allowance: u32, command: i32, measured: &StateBox, n: usize) -> Vec<u8> {
     let mut bytes = b"QS".to_vec();
     bytes.extend(allowance.to_be_bytes());
     bytes.extend(command.to_be_bytes());
-    bytes.extend(crate::expected::pairs(measured, n));
+    bytes.extend(pairs(measured, n));
     bytes
 }

@@ -9,6 +9,7 @@ pub mod fences;
 pub mod generate;
 pub mod machines;
 pub mod order;
+pub mod overlap;
 pub mod random;
 pub mod spoil;
 pub mod tally;

@@ -1,8 +1,6 @@
 //! No-go boxes in order and out of it (document 02, paper 2): each is greater than the one before,
 //! compared side by side, lower and upper side of each variable in turn.
 
-use crate::expected::pairs;
-use crate::generate::sheet_bytes;
 use crate::random::Random;
 use second_guard::boxes::StateBox;
 use second_guard::reach::{Step, Watch};
@@ -127,27 +125,6 @@ pub fn any_not_greater(random: &mut Random, sheet: &Sheet) -> (usize, StateBox) 
     let wanted = random.pick(&DIFFERENCES);
     let less = not_greater(random, before, n, wanted);
     (j, less.unwrap_or(*before))
-}
-
-/// Where unsafe record j begins, and after the last one the recovery record.
-pub fn record(sheet: &Sheet, j: usize) -> usize {
-    let records = sheet.unsafe_boxes().len() + 1;
-    sheet.length() - (2 + 8 * sheet.n()) * (records - j)
-}
-
-/// The bytes of a sheet whose unsafe boxes may stand in any order, all else being in range.
-pub fn bytes_in_any_order(sheet: &Sheet) -> Vec<u8> {
-    let (n, mut ascending) = (sheet.n(), *sheet);
-    for (number, sides) in (0..).zip(&mut ascending.unsafe_boxes) {
-        sides.lower[..n].fill(number);
-        sides.upper[..n].fill(number);
-    }
-    let mut bytes = sheet_bytes(&ascending);
-    for (j, sides) in sheet.unsafe_boxes().iter().enumerate() {
-        let at = record(sheet, j) + 2;
-        bytes[at..at + 8 * n].copy_from_slice(&pairs(sides, n));
-    }
-    bytes
 }
 
 /// The values with their unsafe boxes, two or more, in another order.

@@ -8,13 +8,14 @@ use crate::archive::format::{
 };
 use crate::expected::pairs;
 use crate::order::any_not_greater;
+use crate::overlap::{moved_onto, Moved};
 use crate::random::Random;
 use second_guard::boxes::StateBox;
 use second_guard::sheet::Sheet;
 
 /// All numbers by which a call can be refused.
-pub const REFUSALS: [u8; 18] = [
-    1, 2, 3, 4, 5, 6, 7, 8, 9, 10, 11, 12, 13, 14, 15, 16, 17, 20,
+pub const REFUSALS: [u8; 19] = [
+    1, 2, 3, 4, 5, 6, 7, 8, 9, 10, 11, 12, 13, 14, 15, 16, 17, 20, 22,
 ];
 
 /// The place of a number among them.
@@ -23,9 +24,14 @@ pub fn refusal_place(number: u8) -> usize {
     place.expect("a refusal of the documents")
 }
 
-/// A fault of this number can be put into the sheet: for 20 it needs two unsafe boxes.
+/// A fault of this number can be put into the sheet: for 20 it needs two unsafe boxes, for 22 a box
+/// that can be moved.
 pub fn can_have(sheet: &Sheet, number: u8) -> bool {
-    number != 20 || sheet.unsafe_count > 1
+    match number {
+        20 => sheet.unsafe_count > 1,
+        22 => !moved_onto(sheet).is_empty(),
+        _ => true,
+    }
 }
 
 /// A change of bytes, or of numbers, that is refused.
@@ -132,7 +138,24 @@ fn order_fault(random: &mut Random, sheet: &Sheet) -> Fault {
     Fault::new(20, rank, layout.sides(j) + 2, &pairs(&sides, layout.n))
 }
 
-/// A fault for this refusal (1 to 11, 20) in a sheet's bytes. With `layout_kept` the counts keep
+/// A recovery box on an unsafe box: it is found after all sides. The fault is in the pairs that move.
+fn overlap_fault(random: &mut Random, sheet: &Sheet) -> Fault {
+    let layout = Layout::of(sheet);
+    let (moved, sides) = random.pick(&moved_onto(sheet));
+    let (record, before) = match moved {
+        Moved::Recovery => (layout.unsafe_boxes, &sheet.recovery),
+        Moved::Unsafe(j) => (j, &sheet.unsafe_boxes[j]),
+    };
+    let other = |&i: &usize| (sides.lower[i], sides.upper[i]) != (before.lower[i], before.upper[i]);
+    let first = (0..layout.n).find(other).expect("a side that moves");
+    let last = (0..layout.n).rfind(other).expect("a side that moves");
+    let rank = FILE_ORDER + layout.sides(layout.unsafe_boxes + 1);
+    let bytes = pairs(&sides, layout.n);
+    let at = layout.sides(record) + 2 + 8 * first;
+    Fault::new(22, rank, at, &bytes[8 * first..8 * (last + 1)])
+}
+
+/// A fault for this refusal (1 to 11, 20, 22) in a sheet's bytes. With `layout_kept` the counts keep
 /// their values, so that the rest of the bytes means what it meant.
 pub fn sheet_fault(random: &mut Random, sheet: &Sheet, number: u8, layout_kept: bool) -> Fault {
     let layout = Layout::of(sheet);
@@ -258,6 +281,7 @@ pub fn sheet_fault(random: &mut Random, sheet: &Sheet, number: u8, layout_kept: 
             }
         }
         20 => order_fault(random, sheet),
+        22 => overlap_fault(random, sheet),
         _ => unreachable!("not a refusal of a sheet"),
     }
 }
@@ -304,7 +328,10 @@ fn unsafe_rank(j: usize) -> usize {
     1_000 + 8 * j
 }
 
-/// The slots of an unsafe box.
+/// Where it finds what is wrong with the recovery box's sides; then comes what is found last.
+const RECOVERY_RANK: usize = 9_000;
+
+/// The slots of a box.
 fn box_slots(sides: &StateBox) -> [i32; 2 * VARIABLES] {
     let side = |slot: usize| match slot.checked_sub(VARIABLES) {
         None => sides.lower[slot],
@@ -319,7 +346,17 @@ fn order_number_fault(random: &mut Random, sheet: &Sheet) -> Fault<i32> {
     Fault::new(20, unsafe_rank(j) + 1, slot_unsafe(j), &box_slots(&sides))
 }
 
-/// A fault for this refusal (2 to 11 without 5 and 7, 20) in the numbers of a sheet.
+/// The same as `overlap_fault` in the numbers of a sheet.
+fn overlap_number_fault(random: &mut Random, sheet: &Sheet) -> Fault<i32> {
+    let (moved, sides) = random.pick(&moved_onto(sheet));
+    let slots = match moved {
+        Moved::Recovery => SLOT_RECOVERY,
+        Moved::Unsafe(j) => slot_unsafe(j),
+    };
+    Fault::new(22, RECOVERY_RANK + 1, slots, &box_slots(&sides))
+}
+
+/// A fault for this refusal (2 to 11 without 5 and 7, 20, 22) in the numbers of a sheet.
 pub fn number_fault(
     random: &mut Random,
     sheet: &Sheet,
@@ -334,7 +371,7 @@ pub fn number_fault(
     let is_recovery = any_box == boxes;
     // The recovery box comes last in the file and before the unsafe boxes in the slots.
     let (sides, sides_rank) = if is_recovery {
-        (SLOT_RECOVERY, 9_000)
+        (SLOT_RECOVERY, RECOVERY_RANK)
     } else {
         (slot_unsafe(any_box), unsafe_rank(any_box))
     };
@@ -413,8 +450,43 @@ pub fn number_fault(
             at_slot(sides_rank, sides + slot, value)
         }
         20 => order_number_fault(random, sheet),
+        22 => overlap_number_fault(random, sheet),
         _ => unreachable!("not a refusal of the writer"),
     }
+}
+
+/// The boxes in the bytes of a sheet of this layout: the unsafe ones, then the recovery box.
+fn boxes_in(bytes: &[u8], sheet: &Sheet) -> Vec<StateBox> {
+    let layout = Layout::of(sheet);
+    let sides = |j: usize| {
+        let at = layout.sides(j) + 2;
+        StateBox::from_pairs(&bytes[at..at + 8 * layout.n], layout.n).expect("n pairs")
+    };
+    (0..=layout.unsafe_boxes).map(sides).collect()
+}
+
+/// A fault of 20 or 22 is in the boxes, the last of which is the recovery box. One fault can undo
+/// another; of other numbers none does.
+fn has_fault(boxes: &[StateBox], n: usize, number: u8) -> bool {
+    let (recovery, unsafe_boxes) = boxes.split_last().expect("the recovery box");
+    match number {
+        20 => !unsafe_boxes.is_sorted_by(|x, y| x.compare(y, n).is_lt()),
+        22 => unsafe_boxes.iter().any(|u| u.meets_in(recovery, n)),
+        _ => true,
+    }
+}
+
+/// Both faults are still in the bytes of a sheet of this layout.
+pub fn bytes_have(bytes: &[u8], sheet: &Sheet, numbers: [u8; 2]) -> bool {
+    let boxes = boxes_in(bytes, sheet);
+    numbers.iter().all(|&of| has_fault(&boxes, sheet.n(), of))
+}
+
+/// The same of a sheet's values.
+pub fn values_have(values: &Sheet, sheet: &Sheet, numbers: [u8; 2]) -> bool {
+    let mut boxes = values.unsafe_boxes[..sheet.unsafe_count as usize].to_vec();
+    boxes.push(values.recovery);
+    numbers.iter().all(|&of| has_fault(&boxes, sheet.n(), of))
 }
 
 /// Changes some bytes of one number at random.

@@ -1,4 +1,4 @@
-//! The archive against the plain guard, which was written from document 01 and papers 2 and 3 of
+//! The archive against the plain guard, which was written from document 01 and papers 2, 3 and 8 of
 //! document 02 alone: a check of the readings, on sheets and questions from fixed seeds.
 
 use matching::aim::aimed;
@@ -6,23 +6,27 @@ use matching::archive::format::reach_length;
 use matching::archive::{self, Answer, ReachCall};
 use matching::expected::{decide_before, pairs};
 use matching::generate::{
-    everyday, model, near, pick_command, question_bytes, shape, sheet_bytes, times, Case,
+    bytes_as_they_are, everyday, model, near, pick_command, question_bytes, shape, sheet_bytes,
+    times, Case,
 };
-use matching::order::{any_not_greater, bytes_in_any_order, difference, shuffled, DIFFERENCES};
+use matching::order::{any_not_greater, difference, shuffled, DIFFERENCES};
+use matching::overlap::{any_sharing, moved_beside, with_box, Sharing, SHARINGS};
 use matching::random::Random;
 use matching::spoil::{can_have, damage, question_fault, sheet_fault};
 use matching::tally::{hex, KindId, Tally};
 use plain_guard::decision::{decide_values, recovery_values};
+use plain_guard::reach::{step, to_box, Count};
 use second_guard::boxes::StateBox;
 use second_guard::sheet::Sheet;
 
 const SHEETS: usize = 20_000;
 const AIMED_SHEETS: usize = 10_000;
 const SHEETS_OF_BOXES: usize = 5_000;
+const OVERLAP_SHEETS: usize = 1_000;
 const TICKS: i64 = 200;
 const REFUSED: u64 = 3 << 48;
 /// The numbers by which a decision is refused.
-const REFUSED_BY: [u8; 16] = [1, 2, 3, 4, 5, 6, 7, 8, 9, 10, 11, 12, 13, 14, 15, 20];
+const REFUSED_BY: [u8; 17] = [1, 2, 3, 4, 5, 6, 7, 8, 9, 10, 11, 12, 13, 14, 15, 20, 22];
 
 /// The kinds of calls, and of answers to a question.
 struct Kinds {
@@ -42,6 +46,10 @@ struct Kinds {
     written_out_of_order: KindId,
     other_order: KindId,
     other_check: KindId,
+    on_recovery: [KindId; SHARINGS.len()],
+    written_on_recovery: KindId,
+    without_the_test: KindId,
+    beside_recovery: KindId,
 }
 
 impl Kinds {
@@ -67,6 +75,13 @@ impl Kinds {
             written_out_of_order: tally.kind("write refused by 20", SHEETS_OF_BOXES as u64),
             other_order: tally.kind("another order: decisions", 2 * SHEETS_OF_BOXES as u64),
             other_check: tally.kind("another order: recovery checks", SHEETS_OF_BOXES as u64),
+            on_recovery: SHARINGS.map(|of| {
+                let name = format!("read, refused by 22: {}", of.text());
+                tally.kind(name, 500)
+            }),
+            written_on_recovery: tally.kind("write refused by 22", 3_000),
+            without_the_test: tally.kind("without the test: fails as first steps do", 3_000),
+            beside_recovery: tally.kind("a box just beside the recovery box: accepted", 2_000),
         }
     }
 
@@ -181,9 +196,11 @@ fn aimed_sheets(tally: &mut Tally, kinds: &Kinds) {
     }
 }
 
-/// The plain guard's value of a sheet whose unsafe boxes stand in any order.
-fn plain_value(ordered: &Sheet, other: &Sheet) -> plain_guard::Sheet {
-    let mut value = plain_guard::read(&sheet_bytes(ordered)).expect("an accepted sheet");
+/// The plain guard's value of a sheet whose unsafe boxes stand in any order, or on the recovery box,
+/// which is that of an accepted sheet.
+fn plain_value(accepted: &Sheet, other: &Sheet) -> plain_guard::Sheet {
+    let mut value = plain_guard::read(&sheet_bytes(accepted)).expect("an accepted sheet");
+    value.no_go = other.unsafe_count as u8;
     for (no_go, sides) in value.no_go_box.iter_mut().zip(other.unsafe_boxes()) {
         for (i, pair) in no_go[..other.n()].iter_mut().enumerate() {
             *pair = (sides.lower[i] as i32, sides.upper[i] as i32);
@@ -199,7 +216,7 @@ fn out_of_order(tally: &mut Tally, kinds: &Kinds, random: &mut Random, sheet: &S
     other.unsafe_boxes[j] = sides;
     let of = difference(&other.unsafe_boxes[j - 1], &sides, sheet.n());
     let place = DIFFERENCES.iter().position(|&difference| difference == of);
-    let bytes = bytes_in_any_order(&other);
+    let bytes = bytes_as_they_are(&other);
     let refused = Answer(REFUSED | 20 << 32);
     let plain = Answer(plain_guard::recovery(&bytes));
     let right = archive::recovery(&bytes) == refused && plain == refused;
@@ -238,6 +255,66 @@ fn sheets_of_boxes(tally: &mut Tally, kinds: &Kinds) {
     for case in cases {
         out_of_order(tally, kinds, random, &case.sheet);
         other_order(tally, kinds, random, &case);
+    }
+}
+
+/// An unsafe box on the recovery box, by reading and by writing; and the plain guard's check of the
+/// values without the test.
+fn on_recovery(tally: &mut Tally, kinds: &Kinds, sheet: &Sheet, other: &Sheet, of: Sharing) {
+    let bytes = bytes_as_they_are(other);
+    let refused = Answer(REFUSED | 22 << 32);
+    let plain = Answer(plain_guard::recovery(&bytes));
+    let right = archive::recovery(&bytes) == refused && plain == refused;
+    tally.check(kinds.on_recovery[of.place()], right, || hex(&bytes));
+    let value = plain_value(sheet, other);
+    let room = &mut vec![0; bytes.len()];
+    let written = archive::sheet_write(&other.numbers(), room, 0);
+    let right = written == refused && plain_guard::write(&value) == Err(22);
+    tally.check(kinds.written_on_recovery, right, || hex(&bytes));
+    let rounds = rounds_of_first_steps(&value);
+    let right = recovery_values(&value) == (1 << 48) + (1 << 32) + rounds;
+    tally.check(kinds.without_the_test, right, || hex(&bytes));
+}
+
+/// The rounds of one step from the recovery box at each width of the check.
+fn rounds_of_first_steps(value: &plain_guard::Sheet) -> u64 {
+    let start = to_box(&value.recovery, value.n);
+    let mut count = Count {
+        rounds: 0,
+        allowance: None,
+    };
+    let halves = |width: &i64| Some(width / 2);
+    let widths = std::iter::successors(Some(i64::from(value.rho)), halves);
+    for width in widths.take_while(|&width| width > 0) {
+        step(value, &start, width, None, &mut count).expect("no allowance");
+    }
+    count.rounds
+}
+
+/// The same box moved just beside the recovery box.
+fn beside_recovery(tally: &mut Tally, kinds: &Kinds, sheet: &Sheet) {
+    let bytes = sheet_bytes(sheet);
+    let plain = Answer(plain_guard::recovery(&bytes));
+    let read = plain.refusal().is_none() && archive::recovery(&bytes) == plain;
+    let written = plain_guard::write(&plain_value(sheet, sheet));
+    let right = read && written.as_deref() == Ok(&bytes[..]);
+    tally.check(kinds.beside_recovery, right, || hex(&bytes));
+}
+
+/// Unsafe boxes on the recovery box in each way, and beside it.
+fn sheets_on_recovery(tally: &mut Tally, kinds: &Kinds) {
+    let random = &mut Random::new(8);
+    for _ in 0..OVERLAP_SHEETS {
+        let sheet = everyday(random).case.sheet;
+        for wanted in SHARINGS {
+            let Some(sides) = any_sharing(random, &sheet, wanted) else {
+                continue;
+            };
+            let other = with_box(random, &sheet, sides);
+            on_recovery(tally, kinds, &sheet, &other, wanted);
+            let moved = moved_beside(random, &sides, &sheet);
+            beside_recovery(tally, kinds, &with_box(random, &sheet, moved));
+        }
     }
 }
 
@@ -293,5 +370,6 @@ fn main() {
     }
     aimed_sheets(&mut tally, &kinds);
     sheets_of_boxes(&mut tally, &kinds);
+    sheets_on_recovery(&mut tally, &kinds);
     std::process::exit(tally.finish());
 }

@@ -3,6 +3,7 @@
 //! or a kind of case is too rare.
 
 mod order;
+mod overlap;
 
 use matching::aim::{aimed, PLACES};
 use matching::archive::format::{
@@ -13,13 +14,13 @@ use matching::archive::sheet_archive::{self, SheetArchive};
 use matching::archive::{self, Answer, ReachCall};
 use matching::expected;
 use matching::generate::{
-    everyday, long_times, model, near, pick_command, question_bytes, question_near, shape,
-    sheet_bytes, slow_growth, times, widths, worst_case, Case, Everyday, Shape, BOUNDS,
+    cut_recovery, everyday, long_times, model, near, pick_command, question_bytes, question_near,
+    shape, sheet_bytes, slow_growth, times, widths, worst_case, Case, Everyday, Shape, BOUNDS,
 };
 use matching::random::Random;
 use matching::spoil::{
-    can_have, damage, damage_number, number_fault, question_fault, refusal_place, sheet_fault,
-    Fault, REFUSALS,
+    bytes_have, can_have, damage, damage_number, number_fault, question_fault, refusal_place,
+    sheet_fault, values_have, Fault, REFUSALS,
 };
 use matching::tally::{hex, KindId, Tally};
 use second_guard::boxes::StateBox;
@@ -157,6 +158,7 @@ struct Kinds {
     cut_bytes: KindId,
     refusals: Vec<KindId>,
     order: order::Kinds,
+    overlap: overlap::Kinds,
     pairs: HashMap<(&'static str, u8, u8), KindId>,
 }
 
@@ -214,6 +216,7 @@ impl Kinds {
                 .map(|number| tally.kind(format!("refused by {number}"), 200))
                 .to_vec(),
             order: order::Kinds::new(tally),
+            overlap: overlap::Kinds::new(tally),
             pairs: HashMap::new(),
         }
     }
@@ -610,12 +613,14 @@ impl Matching {
             if matches!(check, RecoveryCheck::Pass { .. }) {
                 break;
             }
+            let before = sheet.recovery;
             for i in 0..n {
                 let cap = i64::from(sheet.caps[i]);
                 let grow = self.random.spread(1, 30 * cap);
                 sheet.recovery.lower[i] = (sheet.recovery.lower[i] - grow).max(-1_000_000);
                 sheet.recovery.upper[i] = (sheet.recovery.upper[i] + grow).min(1_000_000);
             }
+            cut_recovery(&mut sheet, &before);
         }
         let bytes = sheet_bytes(&sheet);
         self.recovery_check(&sheet, &bytes);
@@ -727,6 +732,7 @@ impl Matching {
             .chain(twice)
             .chain((1..=11).map(|first| (first, 20)))
             .chain(order)
+            .chain((1..=11).chain([20]).map(|first| (first, 22)))
             .collect();
         for (first, second) in pairs {
             let kind = self.pair("sheet", first, second);
@@ -745,6 +751,9 @@ impl Matching {
                 let mut bytes = sheet_bytes(&case.sheet);
                 one.apply(&mut bytes);
                 other.apply(&mut bytes);
+                if !bytes_have(&bytes, &case.sheet, [first, second]) {
+                    continue;
+                }
                 let answer = self.any_sheet_call(&[kind], &case, &bytes);
                 assert_eq!(answer.refusal(), Some(first), "{one:?} {other:?}");
             }
@@ -763,7 +772,7 @@ impl Matching {
         }
 
         // Faults of a sheet and of the call on it.
-        for first in (1..=11).chain([20]) {
+        for first in (1..=11).chain([20, 22]) {
             for second in [12, 13, 14, 15] {
                 let kind = self.pair("sheet and question", first, second);
                 for _ in 0..PAIRS {
@@ -829,11 +838,11 @@ impl Matching {
     }
 
     fn writer_faults(&mut self, cases: &[Case]) {
-        let numbers = [2, 3, 4, 6, 8, 9, 10, 11, 20];
+        let numbers = [2, 3, 4, 6, 8, 9, 10, 11, 20, 22];
         let mut pairs: Vec<(u8, u8)> = vec![(9, 8), (10, 8), (10, 9), (20, 11)];
         for (place, &first) in numbers.iter().enumerate() {
             for &second in &numbers[place..] {
-                if first != second || first >= 6 {
+                if first != second || (6..22).contains(&first) {
                     pairs.push((first, second));
                 }
             }
@@ -854,6 +863,10 @@ impl Matching {
                 let mut numbers = case.sheet.numbers();
                 one.put(&mut numbers);
                 other.put(&mut numbers);
+                let values = Sheet::from_numbers(&numbers);
+                if !values_have(&values, &case.sheet, [first, second]) {
+                    continue;
+                }
                 let answer = self.call_write(&[kind], &numbers, LONGEST_SHEET + 9, 9);
                 assert_eq!(answer.refusal(), Some(first), "{one:?} {other:?}");
             }
@@ -1057,7 +1070,7 @@ type Part = (&'static str, fn(&mut Matching));
 
 fn main() {
     let mut matching = Matching::new();
-    let parts: [Part; 11] = [
+    let parts: [Part; 12] = [
         ("numbers", Matching::sizes),
         ("values at their bounds", Matching::bounds),
         ("pairs of faults", Matching::faults),
@@ -1069,6 +1082,7 @@ fn main() {
         ("changes at their caps", Matching::aimed),
         ("unsafe boxes in order and out of it", Matching::order),
         ("the same boxes in another order", Matching::other_orders),
+        ("recovery boxes on unsafe boxes", Matching::overlap),
     ];
     for (name, part) in parts {
         let start = Instant::now();

@@ -2,15 +2,13 @@
 //! of which the second guard's engine is asked without that test.
 
 use super::Matching;
-use matching::archive::format::{slot_unsafe, NUMBERS, VARIABLES};
+use matching::archive::format::{slot_unsafe, NUMBERS, SLOT_RECOVERY, VARIABLES};
 use matching::archive::{self, Answer};
 use matching::generate::{
-    everyday, model, question_bytes, question_near, set_in_order, shape, sheet_bytes, times, Case,
+    bytes_as_they_are, everyday, model, question_bytes, question_near, record, set_in_order, shape,
+    sheet_bytes, times, Case,
 };
-use matching::order::{
-    bytes_in_any_order, difference, not_greater, record, shuffled, Difference, LastSwept,
-    DIFFERENCES,
-};
+use matching::order::{difference, not_greater, shuffled, Difference, LastSwept, DIFFERENCES};
 use matching::tally::{hex, KindId, Tally};
 use second_guard::boxes::StateBox;
 use second_guard::decision::{
@@ -129,8 +127,11 @@ impl Matching {
             for wanted in DIFFERENCES {
                 let j = 1 + self.random.below(case.sheet.unsafe_count as usize - 1);
                 let before = case.sheet.unsafe_boxes[j - 1];
-                if let Some(less) = not_greater(&mut self.random, &before, n, wanted) {
-                    self.out_of_order(&case, j, less);
+                let Some(less) = not_greater(&mut self.random, &before, n, wanted) else {
+                    continue;
+                };
+                self.out_of_order(&case, j, less);
+                if !less.meets(&case.sheet.recovery) {
                     add_in_order(&mut case.sheet, j, less);
                     self.in_order(&case);
                 }
@@ -166,7 +167,7 @@ impl Matching {
         let mut sheet = case.sheet;
         sheet.unsafe_boxes[j] = sides;
         let place = place(difference(&sheet.unsafe_boxes[j - 1], &sides, sheet.n()));
-        let bytes = bytes_in_any_order(&sheet);
+        let bytes = bytes_as_they_are(&sheet);
         let kind = self.kinds.order.read_refused[place];
         let answer = self.any_sheet_call(&[kind], case, &bytes);
         assert_eq!(answer.refusal(), Some(20));
@@ -181,13 +182,13 @@ impl Matching {
     }
 
     /// Puts any numbers into the slots of sides beyond n, in every second case.
-    fn fill_beyond_n(&mut self, sheet: &Sheet, numbers: &mut [i32; NUMBERS]) -> bool {
+    pub(super) fn fill_beyond_n(&mut self, sheet: &Sheet, numbers: &mut [i32; NUMBERS]) -> bool {
         let n = sheet.n();
         if n == VARIABLES || self.random.percent(50) {
             return false;
         }
-        for j in 0..UNSAFE_BOXES {
-            let slots = &mut numbers[slot_unsafe(j)..][..2 * VARIABLES];
+        for slot in (0..UNSAFE_BOXES).map(slot_unsafe).chain([SLOT_RECOVERY]) {
+            let slots = &mut numbers[slot..][..2 * VARIABLES];
             for side in slots.chunks_mut(VARIABLES).flat_map(|of| &mut of[n..]) {
                 *side = self.random.bits() as i32;
             }
