@@ -220,11 +220,12 @@ const SHAPES: [(usize, usize); 9] = [
 /// A sheet that is read, and its name.
 type Size = (&'static str, fn() -> Sheet);
 
-const SIZES: [Size; 4] = [
+const SIZES: [Size; 5] = [
     ("small", || model(1, 1, 1).0),
     ("middle", || model(2, 4, 4).0),
     ("largest", largest),
     ("largest by last sides", largest_by_last_sides),
+    ("largest by last variable", largest_by_last_variable),
 ];
 
 fn largest() -> Sheet {
@@ -237,6 +238,19 @@ fn largest_by_last_sides() -> Sheet {
     let first = sheet.unsafe_boxes[0];
     for (last, unsafe_box) in (1_999_990..).zip(&mut sheet.unsafe_boxes) {
         *unsafe_box = first;
+        unsafe_box.upper[VARIABLES - 1] = last;
+    }
+    sheet
+}
+
+/// The same, and they are clear of the recovery box in their last variable alone, so that each is
+/// compared with it in all variables.
+fn largest_by_last_variable() -> Sheet {
+    let mut sheet = largest();
+    let beside = sheet.recovery.upper[VARIABLES - 1] + 1;
+    for (last, unsafe_box) in (1_999_990..).zip(&mut sheet.unsafe_boxes) {
+        *unsafe_box = everywhere(VARIABLES);
+        unsafe_box.lower[VARIABLES - 1] = beside;
         unsafe_box.upper[VARIABLES - 1] = last;
     }
     sheet
