@@ -1,5 +1,6 @@
 /* The guard's calls for C. The rules behind them are those of "document 01", the scope paper, and of
- * papers 3 (tighter rates near a band edge) and 2 (no-go boxes in a set order) of "document 02".
+ * papers 3 (tighter rates near a band edge), 2 (no-go boxes in a set order) and 8 (no recovery box on a
+ * no-go box) of "document 02".
  *
  * A drive calls guard_recovery once for its sheet and guard_decide once for each period; guard_sheet
  * tests a sheet's format alone. The others serve set-up tools, other products and tests.
@@ -40,7 +41,7 @@ enum {
 };
 
 /* The number of a refusal, which guard_refusal gives. A refused call leaves every buffer and array as
- * it was. 18 and 19 are not in use. */
+ * it was. 18, 19 and 21 are not in use. */
 enum {
     GUARD_REFUSED_HEAD = 1,      /* sheet: under 20 bytes, or mark not SH */
     GUARD_REFUSED_COUNTS = 2,    /* sheet: n, a count or the band variable out of range */
@@ -59,7 +60,8 @@ enum {
     GUARD_REFUSED_START = 15,   /* question or reach: a side of the measured or start box */
     GUARD_REFUSED_REACH = 16,   /* reach: ticks or width */
     GUARD_REFUSED_ROOM = 17,    /* write or reach: too little room in the buffer */
-    GUARD_REFUSED_ORDER = 20    /* sheet: a no-go box not greater than the one before */
+    GUARD_REFUSED_ORDER = 20,   /* sheet: a no-go box not greater than the one before */
+    GUARD_REFUSED_OVERLAP = 22  /* sheet: the recovery box shares a state with a no-go box */
 };
 
 static inline uint32_t guard_code(uint64_t answer)
@@ -99,20 +101,22 @@ static inline size_t guard_length(uint64_t answer)
 
 /* ---- the drive's calls ------------------------------------------------------------------------- */
 
-/* Is this a sheet? 0 where it is accepted, or refused with 1 to 11 or 20. Up to 6 the first in the order
- * of the numbers counts, then the first in the order of the file; of a no-go box first its mark (7), then
- * its sides (11), then whether it is greater than the box before (20). */
+/* Is this a sheet? 0 where it is accepted, or refused with 1 to 11, 20 or 22. Up to 6 the first in the
+ * order of the numbers counts, then the first in the order of the file; of a no-go box first its mark (7),
+ * then its sides (11), then whether it is greater than the box before (20). The last test, after the sides
+ * of the recovery box (11), is whether that box shares a state with a no-go box (22). Both sides of a box
+ * count: 5..9 and 9..12 share a value, 5..9 and 10..12 do not. */
 uint64_t guard_sheet(const uint8_t *sheet, size_t sheet_length);
 
 /* The recovery check: under the plain law, does every state of the recovery box stay out of the no-go
  * boxes for rho ticks and end in the recovery box? GUARD_PASS or GUARD_FAIL with width and rounds, or
- * refused with 1 to 11 or 20. There is no allowance: a sheet is checked at set-up, not in a period. A
- * pass counts for the archive that gave it: check each sheet again with a new one. */
+ * refused with 1 to 11, 20 or 22. There is no allowance: a sheet is checked at set-up, not in a period.
+ * A pass counts for the archive that gave it: check each sheet again with a new one. */
 uint64_t guard_recovery(const uint8_t *sheet, size_t sheet_length);
 
 /* The decision on one question. GUARD_KEEP, GUARD_FINEST or GUARD_SPENT with the width and the rounds
- * over all widths (never above the question's allowance), or refused with 1 to 11 or 20 for the sheet,
- * then with 12 to 15 for the question.
+ * over all widths (never above the question's allowance), or refused with 1 to 11, 20 or 22 for the
+ * sheet, then with 12 to 15 for the question.
  *
  * The question is 10 + 8n bytes: 'Q' 'S', allowance (u32, at most 1,000,000), command (i32, within the
  * head's commands), then for each variable the lower and the upper side of the measured box (i32,
@@ -129,21 +133,22 @@ uint64_t guard_decide(const uint8_t *sheet, size_t sheet_length,
 uint64_t guard_numbers(void);
 
 /* Puts the sheet's numbers at their slots (guard_format.h) and answers the sheet's length (guard_length).
- * Numbers beyond the sheet's counts are 0. Refused with 1 to 11 or 20. */
+ * Numbers beyond the sheet's counts are 0. Refused with 1 to 11, 20 or 22. */
 uint64_t guard_sheet_read(const uint8_t *sheet, size_t sheet_length, int32_t numbers[GUARD_NUMBERS]);
 
 /* Writes the sheet whose numbers are given, at their slots, into buffer from place on, and answers the
  * sheet's length (guard_length). Numbers beyond the counts are not looked at. Bytes of buffer outside the
- * sheet remain. Refused with 2, 3, 4, 6, 8, 9, 10, 11 or 20 in the order of the file, then with 17 where
- * buffer has too little room from place on; GUARD_LONGEST_SHEET bytes are enough for every sheet. */
+ * sheet remain. Refused with 2, 3, 4, 6, 8, 9, 10, 11 or 20 in the order of the file, then with 22, then
+ * with 17 where buffer has too little room from place on; GUARD_LONGEST_SHEET bytes are enough for every
+ * sheet. */
 uint64_t guard_sheet_write(const int32_t numbers[GUARD_NUMBERS], uint8_t *buffer, size_t buffer_length,
                            uint64_t place);
 
 /* A reach of a number of ticks (0 to 1,000) at a width (1 to 1,000) from a start box. Law 0 is the plain
  * law (command is then not looked at), any other law is the command. start is n pairs of lower and
  * upper side, as in a question. out gets the n pairs of the end box and then those of the swept box:
- * its first 16n bytes, and no others. Answers the rounds. Refused with 1 to 11 or 20, then 16, 14, 15
- * (also for another length of start), then 17 where out is shorter than 16n bytes. */
+ * its first 16n bytes, and no others. Answers the rounds. Refused with 1 to 11, 20 or 22, then 16, 14,
+ * 15 (also for another length of start), then 17 where out is shorter than 16n bytes. */
 uint64_t guard_reach(const uint8_t *sheet, size_t sheet_length, uint32_t ticks, uint32_t width,
                      uint32_t law, int32_t command, const uint8_t *start, size_t start_length,
                      uint8_t *out, size_t out_length);

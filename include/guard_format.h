@@ -1,7 +1,7 @@
 /* The greatest counts of a sheet, the slots of its numbers, and lengths in bytes ("document 01", "Sheet
- * layout"; the order of the no-go boxes: "document 02", paper 2). guard.h and sheet.h include this file,
- * and bindings/ reads it for Rust; no other file outside the archive and the two guards of reference/ has
- * these numbers.
+ * layout"; what is asked of the no-go boxes: "document 02", papers 2 and 8). guard.h and sheet.h include
+ * this file, and bindings/ reads it for Rust; no other file outside the archive and the two guards of
+ * reference/ has these numbers.
  *
  * For bindings/ each name stands in an enum with its value: numbers, earlier names, +, * and brackets. */
 #ifndef GUARD_FORMAT_H
@@ -64,7 +64,7 @@ static inline size_t guard_slot_row(size_t k, size_t i)
 
 /* No-go box j's first lower side; its upper sides stand GUARD_VARIABLES further. Each box is greater than
  * the one before, compared by first lower side, first upper side, second lower side and so on over the n
- * variables. */
+ * variables, and none shares a state with the recovery box. */
 static inline size_t guard_slot_unsafe(size_t j)
 {
     return GUARD_SLOT_UNSAFE + GUARD_BOX_SIZE * j;

@@ -13,7 +13,8 @@ pub fn slot_row(k: usize, i: usize) -> usize {
     slot_band(k) + BAND_HEAD + ROW_SIZE * i
 }
 
-/// No-go box j's first lower side; its upper sides stand VARIABLES further. The boxes ascend.
+/// No-go box j's first lower side; its upper sides stand VARIABLES further. The boxes ascend, and none
+/// shares a state with the recovery box.
 pub fn slot_unsafe(j: usize) -> usize {
     SLOT_UNSAFE + BOX_SIZE * j
 }
