@@ -1,7 +1,7 @@
 /* The calls of include/guard.h from C, linked with the archive alone: sheet A's answers, every refusal
  * with the lent buffers and arrays compared, empty, missing, overlong and overlapping slices, the slots and
- * lengths of include/guard_format.h, and no-go boxes in and out of order. The last line is
- * `N passed, M failed`. */
+ * lengths of include/guard_format.h, no-go boxes in and out of order, and recovery boxes on and beside no-go
+ * boxes. The last line is `N passed, M failed`. */
 #include "guard.h"
 
 #include <stdio.h>
@@ -106,7 +106,7 @@ static void expect_unread(const char *what, int number, const uint8_t *sheet, si
 
 static void answers(void)
 {
-    for (uint32_t number = 1; number <= GUARD_REFUSED_ORDER; number++) {
+    for (uint32_t number = 1; number <= GUARD_REFUSED_OVERLAP; number++) {
         expect("refusal", (int)number, guard_refusal(refusal(number)), number);
         expect("length of a refusal", (int)number, guard_length(refusal(number)), 0);
     }
@@ -310,11 +310,11 @@ static void refused_writes(void)
 
 /* ---- the largest sheet: every slot, every length */
 
-static void box_of_largest(size_t slot, int32_t limit, int32_t step)
+static void box_of_largest(size_t slot, int32_t low, int32_t high, int32_t step)
 {
     for (size_t i = 0; i < GUARD_VARIABLES; i++) {
-        numbers[slot + i] = -limit + step + (int32_t)i;
-        numbers[slot + GUARD_VARIABLES + i] = limit - step - (int32_t)i;
+        numbers[slot + i] = low + step + (int32_t)i;
+        numbers[slot + GUARD_VARIABLES + i] = high - step - (int32_t)i;
     }
 }
 
@@ -347,8 +347,8 @@ static void numbers_of_largest(void)
         }
     }
     for (size_t j = 0; j < GUARD_UNSAFE_BOXES; j++)
-        box_of_largest(guard_slot_unsafe(j), 2000000, 10 * (int32_t)j);
-    box_of_largest(GUARD_SLOT_RECOVERY, 1000000, 90);
+        box_of_largest(guard_slot_unsafe(j), -2000000, -1000000, 10 * (int32_t)j);
+    box_of_largest(GUARD_SLOT_RECOVERY, -1000000, 1000000, 90);
 }
 
 static const uint8_t *next; /* the next field of the sheet that was written */
@@ -507,14 +507,24 @@ enum {
 static int32_t boxes[BOXES][SIDES];
 static uint8_t ordered[ORDERED];
 
-/* Sheet A with a second variable, which stays as it is. */
-static void numbers_of_ordered(void)
+/* Sheet A with more variables, which stay as they are, and more no-go boxes. */
+static void numbers_of_wider(size_t n, size_t count)
 {
     numbers_of_a();
-    numbers[GUARD_SLOT_N] = 2;
-    numbers[GUARD_SLOT_UNSAFE_BOXES] = BOXES;
-    numbers[GUARD_SLOT_CAPS + 1] = 5;
-    numbers[guard_slot_row(0, 1) + GUARD_VARIABLES + 3] = 1;
+    numbers[GUARD_SLOT_N] = (int32_t)n;
+    numbers[GUARD_SLOT_UNSAFE_BOXES] = (int32_t)count;
+    for (size_t i = 1; i < n; i++) {
+        numbers[GUARD_SLOT_CAPS + i] = 5;
+        numbers[guard_slot_row(0, i) + GUARD_VARIABLES + 3] = 1;
+    }
+}
+
+/* The recovery box is clear of the no-go boxes below, wherever they are moved. */
+static void numbers_of_ordered(void)
+{
+    numbers_of_wider(2, BOXES);
+    numbers[GUARD_SLOT_RECOVERY + 1] = 1000;
+    numbers[GUARD_SLOT_RECOVERY + GUARD_VARIABLES + 1] = 1000;
 }
 
 static size_t slot_of_side(size_t j, size_t i)
@@ -542,29 +552,37 @@ static void boxes_in_order(void)
     put_boxes();
 }
 
-static void expect_accepted(const char *what, int number)
+/* The writer writes this sheet from the numbers. */
+static void expect_written(const char *what, int number, const uint8_t *sheet, size_t length)
 {
-    static const int32_t sides[SIDES] = {0};
-    uint8_t question[GUARD_LONGEST_QUESTION], start[2 * GUARD_PAIR] = {0};
-    size_t length = guard_question(question, 100, 25, sides, 2);
-    expect(what, number, guard_sheet(ordered, ORDERED), 0);
-    expect(what, number, guard_refusal(guard_recovery(ordered, ORDERED)), 0);
-    expect(what, number, guard_refusal(guard_decide(ordered, ORDERED, question, length)), 0);
-    expect_read(what, ordered, ORDERED, numbers);
-    expect(what, number, guard_reach(ordered, ORDERED, 0, 1, 0, 0, start, sizeof start, lent, ROOM), 0);
     fill();
-    expect(what, number, guard_sheet_write(numbers, lent, ROOM, 7), ORDERED);
-    expect_lent(what, number, 7, ordered, ORDERED);
+    expect(what, number, guard_sheet_write(numbers, lent, ROOM, 7), length);
+    expect_lent(what, number, 7, sheet, length);
     fill();
-    expect_refused(what, 17, guard_sheet_write(numbers, lent, ORDERED - 1, 0));
+    expect_refused(what, 17, guard_sheet_write(numbers, lent, length - 1, 0));
 }
 
-/* The writer refuses the numbers, before it looks at the room. */
-static void expect_unwritten(const char *what, int number)
+/* Every call takes this sheet, which has the numbers. */
+static void expect_accepted(const char *what, int number, const uint8_t *sheet, size_t length)
+{
+    static const int32_t sides[2 * GUARD_VARIABLES] = {0};
+    uint8_t question[GUARD_LONGEST_QUESTION], start[GUARD_PAIR * GUARD_VARIABLES] = {0};
+    size_t n = (size_t)numbers[GUARD_SLOT_N];
+    size_t asked = guard_question(question, 100, 25, sides, n);
+    expect(what, number, guard_sheet(sheet, length), 0);
+    expect(what, number, guard_refusal(guard_recovery(sheet, length)), 0);
+    expect(what, number, guard_refusal(guard_decide(sheet, length, question, asked)), 0);
+    expect_read(what, sheet, length, numbers);
+    expect(what, number, guard_reach(sheet, length, 0, 1, 0, 0, start, GUARD_PAIR * n, lent, ROOM), 0);
+    expect_written(what, number, sheet, length);
+}
+
+/* The writer refuses the numbers of a sheet of this length, before it looks at the room. */
+static void expect_unwritten(const char *what, int number, size_t length)
 {
     fill();
     expect_refused(what, number, guard_sheet_write(numbers, lent, ROOM, 0));
-    expect_refused(what, number, guard_sheet_write(numbers, lent, ORDERED - 1, 0));
+    expect_refused(what, number, guard_sheet_write(numbers, lent, length - 1, 0));
     expect_refused(what, number, guard_sheet_write(numbers, NULL, 0, 0));
 }
 
@@ -572,7 +590,7 @@ static void expect_boxes_refused(const char *what, int number)
 {
     put_boxes();
     expect_sheet_refused(what, number, ordered, ORDERED);
-    expect_unwritten(what, number);
+    expect_unwritten(what, number, ORDERED);
 }
 
 /* A box is the one before with one side moved; the sides behind it move the other way, or not at all. */
@@ -593,7 +611,7 @@ static void compared_sides(void)
             for (int32_t rest = 0; rest <= 1; rest++) {
                 boxes_in_order();
                 box_beside(j, side, 1, -rest);
-                expect_accepted("greater side", (int)side);
+                expect_accepted("greater side", (int)side, ordered, ORDERED);
                 boxes_in_order();
                 box_beside(j, side, -1, rest);
                 expect_boxes_refused("less side", GUARD_REFUSED_ORDER);
@@ -611,7 +629,7 @@ static void compared_boxes(void)
         boxes[2][0] = boxes[2][1] = 2000000;
         boxes[2][3] = 2000000;
         put_boxes();
-        expect_accepted("step", (int)i);
+        expect_accepted("step", (int)i, ordered, ORDERED);
         boxes[0][0] = boxes[0][1] = steps[i + 1];
         boxes[1][0] = boxes[1][1] = steps[i];
         expect_boxes_refused("step down", GUARD_REFUSED_ORDER);
@@ -673,7 +691,7 @@ static void order_of_numbers(void)
         boxes_in_order();
         box_beside(both[i].equal, 0, 0, 0);
         numbers[both[i].slot] = both[i].value;
-        expect_unwritten("order and another number", both[i].number);
+        expect_unwritten("order and another number", both[i].number, ORDERED);
     }
     numbers_of_ordered();
     boxes_in_order();
@@ -690,11 +708,343 @@ static void orders(void)
     numbers_of_ordered();
     boxes_in_order();
     expect("ordered", 0, guard_sheet_write(numbers, ordered, ORDERED, 0), ORDERED);
-    expect_accepted("ordered", 0);
+    expect_accepted("ordered", 0, ordered, ORDERED);
     compared_sides();
     compared_boxes();
     order_and_other_faults();
     order_of_numbers();
+    numbers_of_a();
+}
+
+/* ---- the recovery box on a no-go box: sheets of 1 to 4 variables with 1, 2 and 8 no-go boxes */
+
+/* Where the recovery box is in a variable: its sides, counted from the lower side of a no-go box. */
+enum { BELOW, AT_LOWER, INSIDE, AROUND, AT_UPPER, ABOVE, PLACES };
+
+static const struct {
+    int32_t low, high;
+    bool shares;
+} places[PLACES] = {{-30, -1, false}, {-30, 0, true}, {5, 15, true}, {-30, 50, true}, {20, 50, true}, {21, 50, false}};
+
+static uint8_t placed[GUARD_LONGEST_SHEET];
+static size_t placed_length, variables, unsafe_boxes;
+
+/* No-go box j is 20 wide in each variable, and far from the others in each. */
+static int32_t lower_of(size_t j, size_t i)
+{
+    return 1000 * (int32_t)j + 10 * (int32_t)i - 3000;
+}
+
+/* Puts the sides of a box in a variable at their slots and at their places in the file; the recovery box is
+ * the box behind the no-go boxes. */
+static void put_sides(size_t box, size_t i, int32_t low, int32_t high)
+{
+    size_t slot = box < unsafe_boxes ? guard_slot_unsafe(box) : (size_t)GUARD_SLOT_RECOVERY;
+    uint8_t *record = placed + placed_length - (unsafe_boxes + 1 - box) * (2 + GUARD_PAIR * variables);
+    numbers[slot + i] = low;
+    numbers[slot + GUARD_VARIABLES + i] = high;
+    guard_put(record + 2, 2 * i, low);
+    guard_put(record + 2, 2 * i + 1, high);
+}
+
+static void put_recovery(size_t i, int32_t low, int32_t high)
+{
+    put_sides(unsafe_boxes, i, low, high);
+}
+
+/* The recovery box has the same sides in every variable. */
+static void put_recovery_everywhere(int32_t low, int32_t high)
+{
+    for (size_t i = 0; i < variables; i++)
+        put_recovery(i, low, high);
+}
+
+static void place(size_t j, size_t i, size_t at)
+{
+    put_recovery(i, lower_of(j, i) + places[at].low, lower_of(j, i) + places[at].high);
+}
+
+static void place_everywhere(size_t j, size_t at)
+{
+    for (size_t i = 0; i < variables; i++)
+        place(j, i, at);
+}
+
+/* A sheet whose recovery box is far from all no-go boxes. */
+static void put_sheet(size_t n, size_t count)
+{
+    variables = n;
+    unsafe_boxes = count;
+    placed_length = 20 + 2 * n + 14 + n * (2 * n + 12) + (2 + GUARD_PAIR * n) * (count + 1);
+    numbers_of_wider(n, count);
+    for (size_t j = 0; j < count; j++)
+        for (size_t i = 0; i < n; i++)
+            put_sides(j, i, lower_of(j, i), lower_of(j, i) + 20);
+    put_recovery_everywhere(-6000, -5000);
+    expect("placed", (int)n, guard_sheet_write(numbers, placed, sizeof placed, 0), placed_length);
+}
+
+/* Every call refuses the sheet and its numbers. */
+static void expect_both_refused(const char *what, int number)
+{
+    expect_sheet_refused(what, number, placed, placed_length);
+    expect_unwritten(what, number, placed_length);
+}
+
+/* 22 where the boxes share a state; elsewhere every call takes the sheet. */
+static void expect_placed(const char *what, size_t number, bool shares)
+{
+    if (shares)
+        expect_both_refused(what, GUARD_REFUSED_OVERLAP);
+    else
+        expect_accepted(what, (int)number, placed, placed_length);
+}
+
+/* Beside, at, in and around one no-go box: in every variable, and in one of them alone. */
+static void beside_a_box(size_t j)
+{
+    for (size_t at = 0; at < PLACES; at++) {
+        place_everywhere(j, at);
+        expect_placed("every variable", at, places[at].shares);
+        for (size_t i = 0; i < variables; i++) {
+            place_everywhere(j, AROUND);
+            place(j, i, at);
+            expect_placed("one variable", at, places[at].shares);
+        }
+    }
+}
+
+/* On all boxes at once; in one variable at the last box, in the others at the first. */
+static void on_several_boxes(void)
+{
+    size_t last = unsafe_boxes - 1;
+    put_recovery_everywhere(-4000, 6000);
+    expect_placed("all boxes", 0, true);
+    for (size_t i = 0; i < variables; i++) {
+        place_everywhere(0, AROUND);
+        place(last, i, AROUND);
+        expect_placed("two boxes", i, variables == 1);
+    }
+}
+
+/* Each variable at any place: 22 just where every variable shares a value. */
+static void at_any_places(void)
+{
+    size_t all = 1;
+    for (size_t i = 0; i < variables; i++)
+        all *= PLACES;
+    uint64_t right = 1;
+    for (size_t chosen = 0; chosen < all; chosen++) {
+        bool shares = true;
+        for (size_t i = 0, rest = chosen; i < variables; i++, rest /= PLACES) {
+            place(0, i, rest % PLACES);
+            shares &= places[rest % PLACES].shares;
+        }
+        uint32_t number = shares ? GUARD_REFUSED_OVERLAP : 0;
+        right &= guard_refusal(guard_sheet(placed, placed_length)) == number;
+        right &= guard_refusal(guard_sheet_write(numbers, lent, ROOM, 0)) == number;
+    }
+    expect("any places", (int)variables, right, 1);
+}
+
+/* Numbers beyond n of the recovery box, and of every no-go box up to the count. */
+static void put_beyond_variables(int32_t low, int32_t high)
+{
+    for (size_t i = variables; i < GUARD_VARIABLES; i++)
+        for (size_t j = 0; j <= unsafe_boxes; j++) {
+            size_t slot = j < unsafe_boxes ? guard_slot_unsafe(j) : (size_t)GUARD_SLOT_RECOVERY;
+            numbers[slot + i] = j < unsafe_boxes ? low : 0;
+            numbers[slot + GUARD_VARIABLES + i] = j < unsafe_boxes ? high : 9;
+        }
+}
+
+/* Boxes beyond the count that hold every recovery box. */
+static void put_beyond_boxes(void)
+{
+    for (size_t j = unsafe_boxes; j < GUARD_UNSAFE_BOXES; j++)
+        for (size_t i = 0; i < GUARD_VARIABLES; i++) {
+            numbers[guard_slot_unsafe(j) + i] = -1000000;
+            numbers[guard_slot_unsafe(j) + GUARD_VARIABLES + i] = 1000000;
+        }
+}
+
+/* The writer looks at no number beyond the counts: none makes boxes share a state, and none takes them apart. */
+static void beyond_the_counts(void)
+{
+    place_everywhere(0, AROUND);
+    place(0, variables - 1, BELOW);
+    put_beyond_variables(0, 9);
+    put_beyond_boxes();
+    expect_written("beyond, apart", (int)variables, placed, placed_length);
+    place_everywhere(0, AT_UPPER);
+    for (int32_t low = -20; low <= 20; low += 40) {
+        put_beyond_variables(low, low + 5);
+        expect_unwritten("beyond, shared", GUARD_REFUSED_OVERLAP, placed_length);
+    }
+}
+
+/* Numbers are compared, not bytes; a box of one value shares it; the greatest boxes. */
+static void compared_values(void)
+{
+    static const int32_t values[] = {-999999, -65537, -65536, -257, -256, -1, 0, 255, 256, 65535, 65536, 999999};
+    static const struct {
+        int32_t low, high;
+        bool shares;
+    } greatest[] = {{-2000000, -1000001, false}, {-2000000, -1000000, true}, {-2000000, 2000000, true},
+                    {1000000, 2000000, true}, {1000001, 2000000, false}};
+    put_sheet(1, 1);
+    for (size_t i = 0; i < sizeof values / sizeof *values; i++)
+        for (int32_t by = -1; by <= 1; by++) {
+            put_sides(0, 0, values[i], values[i]);
+            put_recovery(0, values[i] + by, values[i] + by);
+            expect_placed("one value", i, by == 0);
+        }
+    put_recovery(0, -1000000, 1000000);
+    for (size_t i = 0; i < sizeof greatest / sizeof *greatest; i++) {
+        put_sides(0, 0, greatest[i].low, greatest[i].high);
+        expect_placed("greatest", i, greatest[i].shares);
+    }
+}
+
+/* ---- which fault of several counts, where the recovery box is on a no-go box */
+
+/* A sheet of two variables with three boxes, all of them on the recovery box. */
+static void put_shared_sheet(void)
+{
+    put_sheet(2, BOXES);
+    put_recovery_everywhere(-4000, 4000);
+}
+
+/* A number of the file, and of the array where it has a slot, is changed: 22 comes after each other fault. */
+static void overlap_and_other_faults(void)
+{
+    enum { NO_SLOT = GUARD_NUMBERS, LAST = RECORDS + BOXES * RECORD };
+    const struct {
+        int number;
+        size_t place, size;
+        int32_t value;
+        size_t slot;
+    } both[] = {{1, 0, 1, 'T', NO_SLOT}, {2, 2, 1, 5, GUARD_SLOT_N}, {2, 5, 1, 2, GUARD_SLOT_BAND_VARIABLE},
+                {3, 10, 2, 0, GUARD_SLOT_RHO}, {4, 12, 4, 26, GUARD_SLOT_LEAST_COMMAND}, {5, 3, 1, 2, NO_SLOT},
+                {5, 4, 1, 2, NO_SLOT}, {6, 22, 2, 0, GUARD_SLOT_CAPS + 1}, {7, 24, 1, 'b', NO_SLOT},
+                {8, 26, 4, 0, guard_slot_band(0)}, {9, 30, 4, 1, guard_slot_band(0) + 1},
+                {10, RECORDS - 2, 2, 0, guard_slot_row(0, 1) + GUARD_VARIABLES + 3}, {7, RECORDS, 1, 'n', NO_SLOT},
+                {11, RECORDS + 2, 4, -2000001, slot_of_side(0, 0)}, {11, RECORDS + 14, 4, -2991, slot_of_side(0, 3)},
+                {7, RECORDS + RECORD, 1, 'n', NO_SLOT}, {7, LAST - RECORD + 1, 1, 'g', NO_SLOT},
+                {11, LAST - RECORD + 6, 4, -1001, slot_of_side(2, 1)}, {11, LAST - 4, 4, 2000001, slot_of_side(2, 3)},
+                {7, LAST, 1, 'r', NO_SLOT}, {7, LAST + 1, 1, 'c', NO_SLOT},
+                {11, LAST + 2, 4, -1000001, GUARD_SLOT_RECOVERY},
+                {11, LAST + 14, 4, 1000001, GUARD_SLOT_RECOVERY + GUARD_VARIABLES + 1}};
+    for (size_t i = 0; i < sizeof both / sizeof *both; i++) {
+        put_shared_sheet();
+        put_bytes(placed + both[i].place, both[i].size, (uint32_t)both[i].value);
+        expect_sheet_refused("overlap and another fault", both[i].number, placed, placed_length);
+        if (both[i].slot == NO_SLOT)
+            continue;
+        numbers[both[i].slot] = both[i].value;
+        expect_unwritten("overlap and another number", both[i].number, placed_length);
+    }
+    put_shared_sheet();
+    expect_sheet_refused("overlap and head", GUARD_REFUSED_HEAD, placed, 19);
+    expect_sheet_refused("overlap and length", GUARD_REFUSED_LENGTH, placed, placed_length - 1);
+}
+
+/* Box j is equal to the one before. */
+static void overlap_and_order(void)
+{
+    for (size_t j = 1; j < BOXES; j++) {
+        put_shared_sheet();
+        for (size_t i = 0; i < variables; i++)
+            put_sides(j, i, lower_of(j - 1, i), lower_of(j - 1, i) + 20);
+        expect_both_refused("overlap and order", GUARD_REFUSED_ORDER);
+    }
+}
+
+/* The recovery box is reversed in a variable, with both sides in the range of a no-go box. */
+static void overlap_and_reversed(void)
+{
+    put_sheet(2, BOXES);
+    for (size_t j = 0; j < BOXES; j++)
+        for (size_t i = 0; i < variables; i++) {
+            place_everywhere(j, INSIDE);
+            put_recovery(i, lower_of(j, i) + 15, lower_of(j, i) + 5);
+            expect_both_refused("overlap and reversed", GUARD_REFUSED_SIDE);
+        }
+}
+
+/* Questions with one fault or none; the sheet's refusal comes first, where it has one. */
+static void questions_behind(uint32_t sheets)
+{
+    static const int32_t sides[SIDES] = {0};
+    static const struct {
+        uint32_t number;
+        size_t place, size;
+        uint32_t value;
+    } asked[] = {{0, 0, 1, 'Q'}, {12, 1, 1, 'R'}, {13, 2, 4, 1000001}, {14, 6, 4, 26}, {14, 6, 4, (uint32_t)-26},
+                 {15, 10, 4, 1}, {15, 22, 4, 1000001}};
+    uint8_t question[GUARD_LONGEST_QUESTION];
+    for (size_t i = 0; i < sizeof asked / sizeof *asked; i++) {
+        size_t length = guard_question(question, 100, 25, sides, 2);
+        put_bytes(question + asked[i].place, asked[i].size, asked[i].value);
+        expect("question behind", (int)i, guard_refusal(guard_decide(placed, placed_length, question, length)),
+               sheets != 0 ? sheets : asked[i].number);
+        expect("short question behind", (int)i,
+               guard_refusal(guard_decide(placed, placed_length, question, length - 1)),
+               sheets != 0 ? sheets : GUARD_REFUSED_QUESTION);
+    }
+}
+
+/* The same of reaches; the buffer is as it was. */
+static void reaches_behind(int sheets)
+{
+    static const struct {
+        int number;
+        uint32_t ticks, width, law;
+        int32_t command, low;
+        size_t start_length, room;
+    } asked[] = {{16, 1001, 1, 0, 0, 0, 16, 32}, {16, 4, 0, 0, 0, 0, 16, 32}, {16, 4, 1001, 0, 0, 0, 16, 32},
+                 {14, 4, 1, 1, 26, 0, 16, 32}, {15, 4, 1, 1, 25, 1, 16, 32}, {15, 4, 1, 0, 0, -1000001, 16, 32},
+                 {15, 4, 1, 0, 0, 0, 8, 32}, {17, 4, 1, 0, 0, 0, 16, 31}, {17, 0, 1, 1, 25, 0, 16, 0}};
+    uint8_t start[2 * GUARD_PAIR] = {0};
+    fill();
+    for (size_t i = 0; i < sizeof asked / sizeof *asked; i++) {
+        guard_put(start, 2, asked[i].low);
+        expect_refused("reach behind", sheets != 0 ? sheets : asked[i].number,
+                       guard_reach(placed, placed_length, asked[i].ticks, asked[i].width, asked[i].law,
+                                   asked[i].command, start, asked[i].start_length, lent, asked[i].room));
+    }
+}
+
+/* 22 comes before each fault of a question and of a reach. */
+static void overlap_and_later_faults(void)
+{
+    put_sheet(2, BOXES);
+    questions_behind(0);
+    reaches_behind(0);
+    put_shared_sheet();
+    questions_behind(GUARD_REFUSED_OVERLAP);
+    reaches_behind(GUARD_REFUSED_OVERLAP);
+}
+
+static void overlaps_of_boxes(void)
+{
+    static const size_t counts[] = {1, 2, GUARD_UNSAFE_BOXES};
+    for (size_t n = 1; n <= GUARD_VARIABLES; n++)
+        for (size_t i = 0; i < sizeof counts / sizeof *counts; i++) {
+            put_sheet(n, counts[i]);
+            expect_placed("far", n, false);
+            for (size_t j = 0; j < counts[i]; j++)
+                beside_a_box(j);
+            if (counts[i] > 1)
+                on_several_boxes();
+            at_any_places();
+            beyond_the_counts();
+        }
+    compared_values();
+    overlap_and_other_faults();
+    overlap_and_order();
+    overlap_and_reversed();
+    overlap_and_later_faults();
     numbers_of_a();
 }
 
@@ -713,6 +1063,7 @@ int main(void)
         largest();
         reaches();
         orders();
+        overlaps_of_boxes();
     }
     printf("%d passed, %d failed\n", passed, failed);
     return failed != 0;

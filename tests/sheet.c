@@ -1,7 +1,7 @@
 /* The calls of include/sheet.h from C, linked with the archive of the crate `sheet` beside that of the
  * guard: sheet A's numbers at each slot, and the refusal, with the array as it was, for each shorter file,
- * for each byte of it changed and for no-go boxes out of order, as guard_sheet and guard_sheet_read answer.
- * The last line is `N passed, M failed`. */
+ * for each byte of it changed, for no-go boxes out of order and for a recovery box on a no-go box, as
+ * guard_sheet and guard_sheet_read answer. The last line is `N passed, M failed`. */
 #include "guard.h"
 #include "sheet.h"
 
@@ -9,7 +9,8 @@
 #include <string.h>
 
 enum {
-    SHEET = 70, /* the bytes of sheet A */
+    SHEET = 70,    /* the bytes of sheet A */
+    RECOVERY = 62, /* where the sides of its recovery box stand */
     FILL = 77
 };
 
@@ -53,7 +54,16 @@ static void compare(const char *what, size_t number, const uint8_t *sheet, size_
     expect(what, number, numbers[SHEET_NUMBERS], FILL);
 }
 
-/* Sheet A with two no-go boxes: refused with 20 unless the second one is greater. */
+/* The refusal is the one that is due, from both archives. */
+static void expect_refusal(const char *what, size_t number, const uint8_t *sheet, size_t length, uint8_t due)
+{
+    int32_t numbers[SHEET_NUMBERS];
+    expect(what, number, sheet_read(sheet, length, numbers), due);
+    compare(what, number, sheet, length);
+}
+
+/* Sheet A with two no-go boxes: refused with 20 unless the second one is greater, and then with 22 if the
+ * recovery box is on them. */
 static void two_boxes(void)
 {
     enum { BOX = 50, RECORD = 10, BOTH = SHEET + RECORD };
@@ -61,7 +71,6 @@ static void two_boxes(void)
     static const size_t count = sizeof ascending / sizeof *ascending;
     for (size_t pair = 0; pair < count * count; pair++) {
         size_t first = pair / count, second = pair % count;
-        int32_t numbers[SHEET_NUMBERS];
         uint8_t sheet[BOTH];
         memcpy(sheet, sheet_a, BOX + RECORD);
         memcpy(sheet + BOX + RECORD, sheet_a + BOX, 2 * RECORD);
@@ -70,9 +79,115 @@ static void two_boxes(void)
             guard_put(sheet + BOX + 2, side, ascending[first][side]);
             guard_put(sheet + BOX + RECORD + 2, side, ascending[second][side]);
         }
-        expect("two boxes", pair, sheet_read(sheet, BOTH, numbers), first < second ? 0 : GUARD_REFUSED_ORDER);
-        compare("two boxes", pair, sheet, BOTH);
+        expect_refusal("two boxes", pair, sheet, BOTH, first < second ? 0 : GUARD_REFUSED_ORDER);
+        guard_put(sheet + RECOVERY + RECORD, 0, -1000);
+        guard_put(sheet + RECOVERY + RECORD, 1, 1000);
+        expect_refusal("overlap and order", pair, sheet, BOTH,
+                       first < second ? GUARD_REFUSED_OVERLAP : GUARD_REFUSED_ORDER);
     }
+}
+
+/* Sheet A's recovery box is changed, and a byte before its sides: 22 comes after each other fault. */
+static void overlap_and_byte(void)
+{
+    for (size_t at = 0; at < RECOVERY; at++) {
+        int32_t numbers[SHEET_NUMBERS];
+        uint8_t sheet[SHEET];
+        memcpy(sheet, sheet_a, SHEET);
+        sheet[at] ^= 0x80;
+        uint8_t other = sheet_read(sheet, SHEET, numbers);
+        guard_put(sheet + RECOVERY, 1, 1000000);
+        expect_refusal("overlap and byte", at, sheet, SHEET, other != 0 ? other : GUARD_REFUSED_OVERLAP);
+    }
+}
+
+/* Sheet A with other recovery boxes, whole and cut short; its no-go box begins at 130. */
+static void recovery_boxes(void)
+{
+    static const struct {
+        int32_t low, high;
+        uint8_t number;
+    } boxes[] = {{-100, 129, 0}, {-100, 130, GUARD_REFUSED_OVERLAP}, {130, 130, GUARD_REFUSED_OVERLAP},
+                 {200, 300, GUARD_REFUSED_OVERLAP}, {-1000000, 1000000, GUARD_REFUSED_OVERLAP},
+                 {-1000001, 130, GUARD_REFUSED_SIDE}, {-100, 1000001, GUARD_REFUSED_SIDE},
+                 {300, 200, GUARD_REFUSED_SIDE}};
+    for (size_t i = 0; i < sizeof boxes / sizeof *boxes; i++) {
+        uint8_t sheet[SHEET];
+        memcpy(sheet, sheet_a, SHEET);
+        guard_put(sheet + RECOVERY, 0, boxes[i].low);
+        guard_put(sheet + RECOVERY, 1, boxes[i].high);
+        expect_refusal("recovery box", i, sheet, SHEET, boxes[i].number);
+        expect_refusal("overlap and length", i, sheet, SHEET - 1, GUARD_REFUSED_LENGTH);
+        expect_refusal("overlap and head", i, sheet, 19, GUARD_REFUSED_HEAD);
+    }
+}
+
+/* Writes a sheet of n variables. No-go box j is 100j..100j + 20 in each, the recovery box far from all. */
+static size_t wider(uint8_t *sheet, size_t n, size_t count)
+{
+    int32_t numbers[SHEET_NUMBERS];
+    sheet_read(sheet_a, SHEET, numbers);
+    numbers[GUARD_SLOT_N] = (int32_t)n;
+    numbers[GUARD_SLOT_UNSAFE_BOXES] = (int32_t)count;
+    for (size_t i = 0; i < n; i++) {
+        numbers[GUARD_SLOT_CAPS + i] = 5;
+        numbers[guard_slot_row(0, i) + GUARD_VARIABLES + 3] = 20;
+        numbers[GUARD_SLOT_RECOVERY + i] = -1000;
+        numbers[GUARD_SLOT_RECOVERY + GUARD_VARIABLES + i] = -900;
+        for (size_t j = 0; j < count; j++) {
+            numbers[guard_slot_unsafe(j) + i] = 100 * (int32_t)j;
+            numbers[guard_slot_unsafe(j) + GUARD_VARIABLES + i] = 100 * (int32_t)j + 20;
+        }
+    }
+    return guard_length(guard_sheet_write(numbers, sheet, GUARD_LONGEST_SHEET, 0));
+}
+
+/* The recovery box is around no-go box j, but in variable i below, at, in, around or above it. */
+static void beside_a_box(uint8_t *sheet, size_t length, size_t n, size_t j, size_t i)
+{
+    static const struct {
+        int32_t low, high;
+        uint8_t number;
+    } places[] = {{-30, -1, 0}, {-30, 0, GUARD_REFUSED_OVERLAP}, {5, 15, GUARD_REFUSED_OVERLAP},
+                  {-30, 50, GUARD_REFUSED_OVERLAP}, {20, 50, GUARD_REFUSED_OVERLAP}, {21, 50, 0}};
+    uint8_t *sides = sheet + length - GUARD_PAIR * n;
+    int32_t from = 100 * (int32_t)j;
+    for (size_t at = 0; at < sizeof places / sizeof *places; at++) {
+        for (size_t other = 0; other < n; other++) {
+            guard_put(sides, 2 * other, from + (other == i ? places[at].low : -30));
+            guard_put(sides, 2 * other + 1, from + (other == i ? places[at].high : 50));
+        }
+        expect_refusal("beside a box", at, sheet, length, places[at].number);
+    }
+}
+
+/* In variable i around the last no-go box, in the others around the first: on none if these are two. */
+static void at_two_boxes(uint8_t *sheet, size_t length, size_t n, size_t count)
+{
+    uint8_t *sides = sheet + length - GUARD_PAIR * n;
+    for (size_t i = 0; i < n; i++) {
+        for (size_t other = 0; other < n; other++) {
+            int32_t from = other == i ? 100 * (int32_t)(count - 1) : 0;
+            guard_put(sides, 2 * other, from - 30);
+            guard_put(sides, 2 * other + 1, from + 50);
+        }
+        expect_refusal("at two boxes", i, sheet, length, n > 1 && count > 1 ? 0 : GUARD_REFUSED_OVERLAP);
+    }
+}
+
+static void wider_sheets(void)
+{
+    static const size_t counts[] = {1, 2, GUARD_UNSAFE_BOXES};
+    uint8_t sheet[GUARD_LONGEST_SHEET];
+    for (size_t n = 1; n <= GUARD_VARIABLES; n++)
+        for (size_t k = 0; k < sizeof counts / sizeof *counts; k++) {
+            size_t length = wider(sheet, n, counts[k]);
+            expect_refusal("far", n, sheet, length, 0);
+            for (size_t j = 0; j < counts[k]; j++)
+                for (size_t i = 0; i < n; i++)
+                    beside_a_box(sheet, length, n, j, i);
+            at_two_boxes(sheet, length, n, counts[k]);
+        }
 }
 
 int main(void)
@@ -97,6 +212,9 @@ int main(void)
         compare("byte", at, changed, SHEET);
     }
     two_boxes();
+    overlap_and_byte();
+    recovery_boxes();
+    wider_sheets();
     printf("%d passed, %d failed\n", passed, failed);
     return failed != 0;
 }
