@@ -9,6 +9,7 @@ pub mod box_order;
 pub mod causes;
 pub mod listing;
 pub mod names;
+pub mod panels;
 pub mod picture;
 pub mod record_order;
 pub mod refusal;

@@ -2,6 +2,10 @@
 
 use crate::attempts::{Attempt, Attempts, Ending};
 use crate::names::{Named, Names};
+use crate::panels::{
+    heading, legend, Labels, Panel, BOLD, FAILED, FRAME, GAP, LEFT, LINE, PANEL, RECOVERY, RIGHT,
+    SMALL, UNSAFE, WIDTH,
+};
 use crate::sheet_text::range;
 use crate::show::{ending, ticks_before, unit_sides};
 use crate::svg::{
@@ -11,25 +15,13 @@ use second_guard::boxes::StateBox;
 use second_guard::reach::{Law, Step};
 use second_guard::sheet::{Sheet, FIRST_EDGE, SIDE_LIMIT};
 
-const WIDTH: f64 = 1000.0;
-const LEFT: f64 = 80.0;
-const RIGHT: f64 = 220.0;
 const TOP: f64 = 112.0;
-const PANEL: f64 = 190.0;
-const GAP: f64 = 34.0;
-const LINE: f64 = 16.0;
 
 const COMMAND: &str = "#2b6cb0";
 const BASELINE: &str = "#b7791f";
-const UNSAFE: &str = "#c53030";
-const RECOVERY: &str = "#2f855a";
 const EDGE: &str = "#4a5568";
-const FRAME: &str = "#a0aec0";
-const FAILED: &str = "#742a2a";
 const SWITCH: &str = "#1a202c";
 
-const SMALL: &str = r##"font-size="11" fill="#4a5568""##;
-const BOLD: &str = r##"font-weight="bold""##;
 const OVER_BOXES: &str =
     r##"font-size="11" font-weight="bold" stroke="white" stroke-width="3" paint-order="stroke""##;
 
@@ -45,15 +37,9 @@ struct Drawing<'a> {
     time: Scale,
 }
 
-/// One variable's panel.
-struct Panel {
-    variable: usize,
-    values: Scale,
-}
-
 /// The picture of one attempt, with two lines above it and what became of every width below.
 pub fn picture(
-    heading: &str,
+    title: &str,
     answer: &str,
     found: &Attempts,
     attempt: &Attempt,
@@ -62,7 +48,7 @@ pub fn picture(
 ) -> String {
     let drawing = Drawing::new(attempt, sheet, names);
     let mut svg = Svg::default();
-    drawing.head(&mut svg, heading, answer);
+    drawing.head(&mut svg, title, answer);
     let mut bottom = TOP;
     for variable in 0..sheet.n() {
         let panel = drawing.panel_at(variable, bottom);
@@ -99,16 +85,11 @@ impl<'a> Drawing<'a> {
 }
 
 impl Drawing<'_> {
-    fn head(&self, svg: &mut Svg, heading: &str, answer: &str) {
-        let style = r##"font-size="15" font-weight="bold""##;
-        svg.text((LEFT, 22.0), Anchor::Start, style, heading);
+    fn head(&self, svg: &mut Svg, title: &str, answer: &str) {
+        heading(svg, title);
         let width = self.attempt.width;
         let line = format!("answer: {answer}. Drawn: the attempt at width {width}.");
         svg.text((LEFT, 40.0), Anchor::Start, "", &line);
-        self.legend(svg, 58.0);
-    }
-
-    fn legend(&self, svg: &mut Svg, y: f64) {
         let entries = [
             (filled(COMMAND, 0.35), "command"),
             (filled(BASELINE, 0.35), "plain law"),
@@ -118,16 +99,7 @@ impl Drawing<'_> {
             (outlined(EDGE, 1.0, "1 3"), "band"),
             (outlined(FAILED, 2.5, ""), "first box that fails"),
         ];
-        let mut x = LEFT;
-        for (paint, words) in entries {
-            let area = Area {
-                x: (x, x + 14.0),
-                y: (y - 9.0, y + 1.0),
-            };
-            svg.rect(area, paint);
-            svg.text((x + 18.0, y), Anchor::Start, SMALL, words);
-            x += 34.0 + 6.1 * words.len() as f64;
-        }
+        legend(svg, 58.0, &entries);
     }
 
     /// A panel whose values hold every box drawn, the recovery box and what is forbidden nearby.
@@ -139,31 +111,12 @@ impl Drawing<'_> {
             lower = lower.min(step.swept.lower[i]);
             upper = upper.max(step.swept.upper[i]);
         }
-        let near = (upper - lower) / 2;
-        for unsafe_box in self.sheet.unsafe_boxes() {
-            for side in [unsafe_box.lower[i], unsafe_box.upper[i]] {
-                if side.abs() < SIDE_LIMIT && side < lower && lower - side < near {
-                    lower = side;
-                }
-                if side.abs() < SIDE_LIMIT && side > upper && side - upper < near {
-                    upper = side;
-                }
-            }
-        }
-        let margin = ((upper - lower) as f64 * 0.06).max(1.0);
-        let values = Scale {
-            from: lower as f64 - margin,
-            to: upper as f64 + margin,
-            at: top + PANEL,
-            length: -PANEL,
-        };
-        Panel { variable, values }
+        Panel::new(self.sheet, variable, (lower, upper), top)
     }
 
     fn panel(&self, svg: &mut Svg, panel: &Panel) {
-        let top = panel.values.at - PANEL;
         let named = &self.names.variables[panel.variable];
-        svg.text((LEFT, top - 7.0), Anchor::Start, BOLD, &axis_name(named));
+        panel.name(svg, named);
         let mut labels = Labels::default();
         self.recovery(svg, panel, &mut labels);
         self.unsafe_boxes(svg, panel, &mut labels);
@@ -171,38 +124,16 @@ impl Drawing<'_> {
         self.boxes(svg, panel);
         self.switch_line(svg, panel);
         self.failure(svg, panel);
-        value_axis(svg, panel, named);
-        svg.rect(self.frame(panel), outlined(FRAME, 1.0, ""));
-        labels.draw(svg, top);
-    }
-
-    fn frame(&self, panel: &Panel) -> Area {
-        Area {
-            x: (self.time.at, self.time.at + self.time.length),
-            y: (panel.values.at - PANEL, panel.values.at),
-        }
+        panel.finish(svg, named, labels);
     }
 
     fn recovery(&self, svg: &mut Svg, panel: &Panel, labels: &mut Labels) {
-        let i = panel.variable;
-        let recovery = &self.sheet.recovery;
-        let y = |side: i64| panel.values.place(side as f64);
-        let (lower, upper) = (y(recovery.lower[i]), y(recovery.upper[i]));
-        let frame = self.frame(panel);
-        let area = Area {
-            x: frame.x,
-            y: (lower, upper),
-        };
-        svg.rect(area, filled(RECOVERY, 0.10));
-        for y in [lower, upper] {
-            let dashes = outlined(RECOVERY, 1.0, "5 3");
-            svg.line((frame.x.0, y), (frame.x.1, y), dashes);
-        }
+        panel.recovery(svg, self.sheet, labels);
         // Only at the last tick does the box have to be within the recovery box.
-        let end = frame.x.1 + 4.0;
-        let bar = outlined(RECOVERY, 4.0, "");
-        svg.line((end, lower), (end, upper), bar);
-        labels.add((lower + upper) / 2.0, RECOVERY, "recovery box".into());
+        let (i, recovery) = (panel.variable, &self.sheet.recovery);
+        let end = panel.frame().x.1 + 4.0;
+        let (lower, upper) = (panel.y(recovery.lower[i]), panel.y(recovery.upper[i]));
+        svg.line((end, lower), (end, upper), outlined(RECOVERY, 4.0, ""));
     }
 
     /// Strong where every other variable's swept box meets the no-go box too, faint elsewhere.
@@ -260,7 +191,7 @@ impl Drawing<'_> {
             return;
         }
         let bands = self.sheet.bands();
-        let frame = self.frame(panel);
+        let frame = panel.frame();
         for (k, band) in bands.iter().enumerate() {
             let next = bands.get(k + 1).map_or(SIDE_LIMIT, |b| i64::from(b.edge));
             let y = |side: i64| panel.values.place(side as f64);
@@ -378,7 +309,7 @@ impl Drawing<'_> {
             return;
         }
         let x = self.time.place(f64::from(self.switch));
-        let frame = self.frame(panel);
+        let frame = panel.frame();
         let dashes = outlined(SWITCH, 1.2, "6 3");
         svg.line((x, frame.y.0), (x, frame.y.1), dashes);
     }
@@ -443,53 +374,11 @@ fn is_free(unsafe_box: &StateBox, i: usize) -> bool {
     unsafe_box.lower[i] == -SIDE_LIMIT && unsafe_box.upper[i] == SIDE_LIMIT
 }
 
-/// `position, mm`.
-fn axis_name(named: &Named) -> String {
-    match &named.unit {
-        Some(unit) => format!("{}, {}", named.name, unit.name),
-        None => named.name.clone(),
-    }
-}
-
 /// A command's numbers with its unit, where a step of it is 1.
 fn with_unit(numbers: &str, named: &Named) -> String {
     match &named.unit {
         Some(unit) if unit.factor() == 1.0 => format!("{numbers} {}", unit.name),
         Some(unit) => format!("{numbers} × {unit}"),
         None => numbers.into(),
-    }
-}
-
-fn value_axis(svg: &mut Svg, panel: &Panel, named: &Named) {
-    let factor = named.unit.as_ref().map_or(1.0, |unit| unit.factor());
-    let (from, to) = (panel.values.from * factor, panel.values.to * factor);
-    let step = nice_step(to - from, 6.0);
-    for value in multiples(from, to, step) {
-        let y = panel.values.place(value / factor);
-        svg.line((LEFT - 4.0, y), (LEFT, y), outlined(FRAME, 1.0, ""));
-        let at = (LEFT - 8.0, y + 4.0);
-        svg.text(at, Anchor::End, SMALL, &decimal(value, step));
-    }
-}
-
-/// Words at the right of a panel, kept apart.
-#[derive(Default)]
-struct Labels(Vec<(f64, &'static str, String)>);
-
-impl Labels {
-    fn add(&mut self, y: f64, colour: &'static str, words: String) {
-        self.0.push((y, colour, words));
-    }
-
-    fn draw(mut self, svg: &mut Svg, top: f64) {
-        self.0.sort_by(|one, other| one.0.total_cmp(&other.0));
-        let mut free = top + 4.0;
-        for (y, colour, words) in self.0 {
-            let y = (y + 4.0).max(free);
-            free = y + 13.0;
-            let style = format!(r##"font-size="11" fill="{colour}""##);
-            let at = (WIDTH - RIGHT + 14.0, y);
-            svg.text(at, Anchor::Start, &style, &words);
-        }
     }
 }
