@@ -194,7 +194,7 @@ impl Ask {
                 command,
                 measured,
             } => question_fault(sheet, names, i64::from(*allowance), *command, measured)
-                .map(|test| (test.refusal, test.words)),
+                .map(|test| (test.refusal, test.words(|()| None))),
         }
     }
 

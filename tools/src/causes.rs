@@ -1,6 +1,6 @@
 //! The refusals of document 01, and of the papers of document 02 that have landed, in words.
 
-const CAUSES: [(u8, &str); 18] = [
+const CAUSES: [(u8, &str); 19] = [
     (1, "under 20 bytes, or mark not SH"),
     (2, "n, a count or band variable out of range"),
     (3, "delta, alpha, rho"),
@@ -20,6 +20,8 @@ const CAUSES: [(u8, &str); 18] = [
     (17, "too little buffer from the named place"),
     // Document 02, paper 2.
     (20, "no-go record not greater than the one before"),
+    // Document 02, paper 8.
+    (22, "recovery box shares a state with a no-go box"),
 ];
 
 /// The cause for a refusal's number.
@@ -39,7 +41,7 @@ mod tests {
         let unused: Vec<u8> = (0..=u8::MAX)
             .filter(|&number| cause(number).starts_with("no refusal"))
             .collect();
-        let expected: Vec<u8> = [0, 18, 19].into_iter().chain(21..=u8::MAX).collect();
+        let expected: Vec<u8> = [0, 18, 19, 21].into_iter().chain(23..=u8::MAX).collect();
         assert_eq!(unused, expected);
     }
 }

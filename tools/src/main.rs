@@ -7,6 +7,7 @@ use sheet_tool::attempts::{attempts, Attempt, Attempts, Subject};
 use sheet_tool::listing::{listing, recovery_sentence, sentence};
 use sheet_tool::picture::picture;
 use sheet_tool::record_order;
+use sheet_tool::records;
 use sheet_tool::sheet_parser;
 use sheet_tool::sheet_text::{self, SheetText};
 use sheet_tool::show::show;
@@ -97,7 +98,7 @@ fn read_text(path: &str) -> Result<String, String> {
 fn load_sheet(path: &str) -> Result<Loaded, String> {
     if path.ends_with(".bin") {
         let bytes = read_bytes(path)?;
-        let refused = |number| in_file(path)(record_order::refused(number, &bytes));
+        let refused = |number| in_file(path)(records::refused(number, &bytes));
         let sheet = archive::read(&bytes).map_err(refused)?;
         let text = sheet_text::from_sheet(&sheet);
         return Ok(Loaded { text, bytes });

@@ -3,15 +3,12 @@
 
 use crate::archive;
 use crate::box_order::{ascending, compare, words};
+use crate::records::{fault, parts, refused, Parts, MARK};
 use crate::tokens::Fault;
-use guard_bindings::format::PAIR;
-use second_guard::boxes::StateBox;
 use std::cmp::Ordering;
 
 /// The refusal of a no-go record that is not greater than the one before.
-const ORDER: u8 = 20;
-/// The mark of a no-go record.
-const MARK: &[u8] = b"NG";
+pub const ORDER: u8 = 20;
 
 /// A sheet's bytes, and which numbers their no-go records had before, counted from 0.
 pub struct Ordered {
@@ -19,36 +16,9 @@ pub struct Ordered {
     pub bytes: Vec<u8>,
 }
 
-/// A file in parts: all before the no-go records, these records, and the recovery record.
-struct Parts<'a> {
-    n: usize,
-    before: &'a [u8],
-    records: Vec<&'a [u8]>,
-    recovery: &'a [u8],
-}
-
-/// The parts of a file whose counts and length are those of a sheet.
-fn parts(file: &[u8]) -> Option<Parts<'_>> {
-    let (n, count) = (usize::from(*file.get(2)?), usize::from(*file.get(4)?));
-    let length = MARK.len() + PAIR * n;
-    let (rest, recovery) = file.split_at(file.len().checked_sub(length)?);
-    let (before, records) = rest.split_at(rest.len().checked_sub(length * count)?);
-    Some(Parts {
-        n,
-        before,
-        records: records.chunks_exact(length).collect(),
-        recovery,
-    })
-}
-
 impl Parts<'_> {
-    fn boxes(&self) -> Vec<StateBox> {
-        let sides = self.records.iter().map(|record| &record[MARK.len()..]);
-        sides.map(archive::box_in).collect()
-    }
-
     /// The records' numbers as they stand.
-    fn standing(&self) -> Vec<usize> {
+    pub fn standing(&self) -> Vec<usize> {
         (0..self.records.len()).collect()
     }
 
@@ -69,7 +39,7 @@ impl Parts<'_> {
 
     /// Which record is not greater than the one before it in this order, in words with the numbers as they
     /// stand.
-    fn at_fault(&self, order: &[usize]) -> Option<String> {
+    pub fn at_fault(&self, order: &[usize]) -> Option<String> {
         let boxes = self.boxes();
         let found = |pair: &[usize]| compare(&boxes[pair[1]], &boxes[pair[0]], self.n);
         let pair = order.windows(2).find(|pair| found(pair).is_le())?;
@@ -87,27 +57,8 @@ impl Parts<'_> {
     }
 }
 
-fn fault(number: u8, file: &[u8], record: Option<String>) -> Fault {
-    Fault {
-        line: None,
-        refusal: Some(number),
-        what: record.unwrap_or_else(|| format!("{} bytes", file.len())),
-    }
-}
-
-/// The fault of bytes that the archive refuses with this number.
-pub fn refused(number: u8, file: &[u8]) -> Fault {
-    // With 20 its counts, its length and all earlier records are in range.
-    let parts = match number {
-        ORDER => parts(file),
-        _ => None,
-    };
-    let record = parts.and_then(|parts| parts.at_fault(&parts.standing()));
-    fault(number, file, record)
-}
-
 /// The file with its no-go records in ascending order; nothing where the archive accepts it as it is.
-/// The archive accepts what this gives.
+/// The archive accepts what this gives. A fault has the records' numbers in the file that is given.
 pub fn in_order(file: &[u8]) -> Result<Option<Ordered>, Fault> {
     let parts = match archive::read(file) {
         Ok(_) => return Ok(None),
@@ -119,7 +70,7 @@ pub fn in_order(file: &[u8]) -> Result<Option<Ordered>, Fault> {
     match archive::read(&bytes) {
         Ok(_) => Ok(Some(Ordered { order, bytes })),
         Err(ORDER) => Err(fault(ORDER, file, parts.at_fault(&order))),
-        Err(number) => Err(refused(number, &bytes)),
+        Err(number) => Err(refused(number, file)),
     }
 }
 

@@ -1,9 +1,10 @@
 //! Which number of a sheet or a question is at fault, in words.
 //! Every test of a value is a range whose ends are constants or earlier values; a no-go box is compared with
-//! the one before it, too.
+//! the one before it, too, and the recovery box with all of them.
 
 use crate::box_order;
 use crate::names::{Item, Names};
+use crate::overlap::{self, OVERLAP};
 use guard_bindings::format::{BANDS, UNSAFE_BOXES, VARIABLES};
 use second_guard::boxes::StateBox;
 use second_guard::sheet::{
@@ -17,16 +18,14 @@ const OFFSET_LIMIT: i32 = 100_000_000;
 const DIVISOR_LIMIT: i32 = 4_096;
 const ALLOWANCE_LIMIT: i64 = 1_000_000;
 
-/// A value that has to lie within two ends, or a box that has to be greater than another one.
+/// A value that has to lie within two ends, or a box that is compared with other ones.
 pub struct Test<P> {
     pub refusal: u8,
     /// Where the value or the box stands.
     pub place: P,
-    /// Where the other box stands; the words end on it.
-    pub other: Option<P>,
     fails: bool,
-    /// What is wrong if the test fails.
-    pub words: String,
+    /// What is wrong if the test fails, in parts. A part may end on another box; then it says where that stands.
+    parts: Vec<(String, Option<P>)>,
 }
 
 impl<P> Test<P> {
@@ -47,10 +46,20 @@ impl<P> Test<P> {
         Test {
             refusal,
             place,
-            other: None,
             fails: value < least || value > greatest,
-            words,
+            parts: vec![(words, None)],
         }
+    }
+}
+
+impl<P: Copy> Test<P> {
+    /// What is wrong if the test fails, with the lines of the other boxes.
+    pub fn words(&self, line_of: impl Fn(P) -> Option<usize>) -> String {
+        let part = |(words, other): &(String, Option<P>)| match other.and_then(&line_of) {
+            Some(line) => format!("{words} on line {line}"),
+            None => words.clone(),
+        };
+        self.parts.iter().map(part).collect()
     }
 }
 
@@ -178,18 +187,38 @@ fn order(sheet: &Sheet, names: &Names, j: usize) -> Option<Test<Item>> {
     let before = j.checked_sub(1)?;
     let boxes = sheet.unsafe_boxes();
     let found = box_order::compare(&boxes[j], &boxes[before], sheet.n());
-    let named = |j: usize, unnamed: &str| match &names.unsafe_boxes[j] {
-        Some(name) => format!("no-go box \"{name}\""),
-        None => unnamed.into(),
-    };
-    let (this, other) = (named(j, "this no-go box"), named(before, "the one"));
+    let this = named(names, j, "this no-go box");
+    let other = named(names, before, "the one");
+    let words = format!("{this} {} {other}", box_order::words(found));
     Some(Test {
         refusal: 20,
         place: Item::Unsafe(j),
-        other: Some(Item::Unsafe(before)),
         fails: found.is_le(),
-        words: format!("{this} {} {other}", box_order::words(found)),
+        parts: vec![(words, Some(Item::Unsafe(before)))],
     })
+}
+
+/// No-go box j by its name; other words where it has none.
+fn named(names: &Names, j: usize, unnamed: &str) -> String {
+    match &names.unsafe_boxes[j] {
+        Some(name) => format!("no-go box \"{name}\""),
+        None => unnamed.into(),
+    }
+}
+
+/// The recovery box has to share no state with any no-go box.
+fn overlap(sheet: &Sheet, names: &Names) -> Test<Item> {
+    let named = |j| named(names, j, "the no-go box");
+    let parts: Vec<_> = overlap::words(sheet, names, "the recovery box", named)
+        .into_iter()
+        .map(|(words, j)| (words, Some(Item::Unsafe(j))))
+        .collect();
+    Test {
+        refusal: OVERLAP,
+        place: Item::Recovery,
+        fails: !parts.is_empty(),
+        parts,
+    }
 }
 
 fn first_failing<P>(tests: Vec<Test<P>>) -> Option<Test<P>> {
@@ -213,6 +242,7 @@ pub fn sheet_fault(sheet: &Sheet, names: &Names) -> Option<Test<Item>> {
     }
     let recovery = &sheet.recovery;
     tests.extend(sides(11, Item::Recovery, recovery, n, START_LIMIT, names));
+    tests.push(overlap(sheet, names));
     first_failing(tests)
 }
 

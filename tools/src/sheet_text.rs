@@ -3,7 +3,7 @@
 use crate::archive;
 use crate::box_order::{ascending, counterparts};
 use crate::names::{Item, Named, Names};
-use crate::refusal::{sheet_fault, Test};
+use crate::refusal::sheet_fault;
 use crate::tokens::{split_comment, Fault, Unit};
 use second_guard::boxes::StateBox;
 use second_guard::sheet::{Band, Row, Sheet, FIRST_EDGE, SIDE_LIMIT};
@@ -114,14 +114,6 @@ impl SheetText {
         text
     }
 
-    /// What a failed test says, with the line of the other box if it speaks of one.
-    fn words(&self, test: &Test<Item>) -> String {
-        match test.other.and_then(|item| self.line_of(item)) {
-            Some(line) => format!("{} on line {line}", test.words),
-            None => test.words.clone(),
-        }
-    }
-
     /// The sheet's bytes, by the archive's writer. What it refuses is a fault with its line.
     pub fn bytes(&self) -> Result<Vec<u8>, Fault> {
         let found = sheet_fault(&self.sheet, &self.names);
@@ -130,7 +122,7 @@ impl SheetText {
             (Err(number), Some(test)) if number == test.refusal => Err(Fault {
                 line: self.line_of(test.place),
                 refusal: Some(number),
-                what: self.words(&test),
+                what: test.words(|item| self.line_of(item)),
             }),
             (answer, found) => Err(Fault::general(format!(
                 "the archive's writer and this tool differ: {:?} and {:?}",

@@ -58,14 +58,25 @@ pub fn ending(attempt: &Attempt, sheet: &Sheet, names: &Names, sides: Sides) -> 
 /// A box in the variables that a no-go box bounds.
 fn bounded_sides(sheet: &Sheet, names: &Names, swept: &StateBox, j: usize, sides: Sides) -> String {
     let unsafe_box = &sheet.unsafe_boxes()[j];
-    let bounded: Vec<String> = (0..sheet.n())
-        .filter(|&i| unsafe_box.lower[i] > -SIDE_LIMIT || unsafe_box.upper[i] < SIDE_LIMIT)
+    let bounded = (0..sheet.n())
+        .filter(|&i| unsafe_box.lower[i] > -SIDE_LIMIT || unsafe_box.upper[i] < SIDE_LIMIT);
+    listed_sides(names, swept, bounded, sides)
+}
+
+/// `position 950..1020, coasting 900..980`: a box in some of its variables.
+pub fn listed_sides(
+    names: &Names,
+    of: &StateBox,
+    variables: impl Iterator<Item = usize>,
+    sides: Sides,
+) -> String {
+    let listed: Vec<String> = variables
         .map(|i| {
-            let sides = sides(names, i, swept.lower[i], swept.upper[i]);
+            let sides = sides(names, i, of.lower[i], of.upper[i]);
             format!("{} {sides}", names.variable(i))
         })
         .collect();
-    bounded.join(", ")
+    listed.join(", ")
 }
 
 /// The ticks covered before a step.

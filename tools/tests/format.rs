@@ -9,7 +9,7 @@ use second_guard::{boxes, decision};
 use sheet_tool::archive;
 
 /// A sheet with every count at its greatest; each number that a test looks for stands there once, and the
-/// no-go boxes ascend.
+/// no-go boxes ascend and keep clear of the recovery box.
 fn largest() -> Sheet {
     let mut sheet = Sheet {
         variables: VARIABLES as i32,
@@ -28,6 +28,7 @@ fn largest() -> Sheet {
         }
     }
     sheet.recovery.upper[0] = 10_000;
+    (sheet.recovery.lower[1], sheet.recovery.upper[1]) = (1, 1);
     for (j, unsafe_box) in sheet.unsafe_boxes.iter_mut().enumerate() {
         unsafe_box.upper[0] = 20_000 + j as i64;
     }

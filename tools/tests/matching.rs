@@ -5,7 +5,7 @@ mod common;
 
 use common::{load, Numbers};
 use second_guard::boxes::StateBox;
-use second_guard::decision::Question;
+use second_guard::decision::{trace_recovery, Question};
 use second_guard::sheet::Sheet;
 use sheet_tool::archive;
 use sheet_tool::attempts::{attempts, Ending, Subject};
@@ -51,10 +51,18 @@ fn random_questions_to_the_examples() {
         .any(|ending| matches!(ending, Ending::Outside(_))));
 }
 
-/// The examples with one number moved, most of them no longer of use.
+/// Without the test of the boxes, the recovery check would fail at this width and at each half of it.
+fn fails_at_every_width(sheet: &Sheet, width: u32) -> bool {
+    !trace_recovery(sheet, width).succeeded
+        && (width == 1 || fails_at_every_width(sheet, width / 2))
+}
+
+/// The examples with one number moved, most of them no longer of use. A recovery box that is moved onto a no-go
+/// box is refused.
 #[test]
 fn recovery_checks_of_changed_sheets() {
     let mut numbers = Numbers(6);
+    let mut refused = 0;
     for name in NAMES {
         let (sheet, _, _) = load(name);
         for _ in 0..100 {
@@ -68,8 +76,17 @@ fn recovery_checks_of_changed_sheets() {
                 3 => sheet.bands[k].rows[i].q = numbers.whole(1, 4_096) as i32,
                 _ => sheet.recovery.upper[i] = numbers.whole(sheet.recovery.lower[i], 60_000),
             }
-            let bytes = archive::write(&sheet).expect("within the ranges");
-            attempts(&bytes, &sheet, Subject::Recovery).expect("no difference");
+            match archive::write(&sheet) {
+                Ok(bytes) => {
+                    attempts(&bytes, &sheet, Subject::Recovery).expect("no difference");
+                }
+                Err(number) => {
+                    assert_eq!(number, 22);
+                    assert!(fails_at_every_width(&sheet, sheet.rho as u32));
+                    refused += 1;
+                }
+            }
         }
     }
+    assert!(refused > 10, "{refused}");
 }

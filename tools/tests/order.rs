@@ -196,7 +196,7 @@ fn damage(bytes: &mut [u8], numbers: &mut Numbers) {
 #[test]
 fn damaged_files_become_sheets_or_faults() {
     let mut numbers = Numbers(13);
-    let (mut stay, mut moved, mut same, mut later) = (0, 0, 0, 0);
+    let (mut stay, mut moved, mut same, mut later, mut overlap) = (0, 0, 0, 0, 0);
     for _ in 0..4_000 {
         let bytes = archive::write(&random_sheet(&mut numbers)).expect("a sheet");
         let order = random_order(usize::from(bytes[4]), &mut numbers);
@@ -210,6 +210,7 @@ fn damaged_files_become_sheets_or_faults() {
                 assert_eq!(with_records(&file, &ordered.order), ordered.bytes);
                 moved += 1;
             }
+            (Some(20), Err(fault)) if fault.refusal == Some(22) => overlap += 1,
             (Some(20), Err(fault)) => {
                 assert!(matches!(fault.refusal, Some(7 | 11 | 20)), "{fault}");
                 later += 1;
@@ -223,4 +224,5 @@ fn damaged_files_become_sheets_or_faults() {
     }
     let counts = [stay, moved, same, later];
     assert!(counts.iter().all(|&count| count > 100), "{counts:?}");
+    assert!(overlap > 20, "{overlap}");
 }

@@ -74,6 +74,12 @@ fn sheets() {
             "line 13: refused 11 (no-go or recovery side): the upper side of x is 1000001, it has to lie within -100..1000000",
         ),
         (
+            "recovery  x -100..100",
+            "recovery  x -100..130",
+            "line 13: refused 22 (recovery box shares a state with a no-go box): the recovery box shares x 130..130 with no-go box \"the end\" on line 12",
+        ),
+        ("recovery  x -100..100", "recovery  x -100..129", "accepted"),
+        (
             "no-go \"the end\"  x 130..\n",
             "",
             "refused 2 (n, a count or band variable out of range): the number of no-go boxes is 0, it has to lie within 1..8",
@@ -141,7 +147,7 @@ fn no_go_boxes_in_another_order_are_accepted() {
     let boxes = [
         "no-go  x 130..\nno-go  x -200..-150\n",
         "no-go  x 130..140\nno-go  x 130..139\n",
-        "no-go  x 130..\nno-go  x any\nno-go  x ..-150\n",
+        "no-go  x 130..\nno-go  x ..-120\nno-go  x ..-150\n",
     ];
     for boxes in boxes {
         assert_eq!(boxes_fault(boxes), "accepted");
@@ -213,22 +219,35 @@ fn small_box(numbers: &mut Numbers) -> StateBox {
     sides
 }
 
-/// Values in another order than the file's, which no text gives.
+/// A recovery box of one state with values from 0 to 3, so that it often lies in a small box or beside it. Now
+/// and then a pair is reversed.
+fn small_recovery(numbers: &mut Numbers) -> StateBox {
+    let lower = std::array::from_fn(|_| numbers.whole(0, 3));
+    let mut sides = StateBox {
+        lower,
+        upper: lower,
+    };
+    if numbers.whole(0, 9) == 0 {
+        sides.lower[numbers.whole(0, 3) as usize] = 4;
+    }
+    sides
+}
+
+/// Values in another order than the file's, which no text gives, and with values beyond n.
 #[test]
-fn the_archive_and_the_tool_agree_on_the_order() {
+fn the_archive_and_the_tool_agree_on_the_boxes() {
     let mut numbers = Numbers(10);
     let mut tally = Tally::default();
     let (sheet, _, _) = load("pendulum");
     for _ in 0..4_000 {
         let mut sheet = sheet;
         sheet.unsafe_count = numbers.whole(1, 3) as i32;
+        sheet.variables = numbers.whole(1, 4) as i32;
         sheet.unsafe_boxes = std::array::from_fn(|_| small_box(&mut numbers));
-        if numbers.whole(0, 9) == 0 {
-            sheet.recovery.lower[0] = sheet.recovery.upper[0] + 1;
-        }
+        sheet.recovery = small_recovery(&mut numbers);
         tally.count(&sheet_text::from_sheet(&sheet));
     }
-    tally.has_all(&[None, Some(11), Some(20)]);
+    tally.has_all(&[None, Some(11), Some(20), Some(22)]);
 }
 
 /// Texts with boxes of a few small sides, some of them reversed, in any order.
@@ -241,10 +260,12 @@ fn random_boxes_are_accepted_or_refused() {
             .map(|_| (numbers.whole(-2, 2), numbers.whole(1, 4)))
             .map(|(lower, upper)| format!("no-go  x {lower}..{upper}\n"))
             .collect();
+        let recovery = format!("x {}..100", numbers.whole(2, 5));
         let text = example_text("sheet_a.txt").replace(THE_END, &boxes);
+        let text = text.replace("x -100..100", &recovery);
         tally.count(&sheet_parser::parse(&text).expect("a sheet's text"));
     }
-    tally.has_all(&[None, Some(11), Some(20)]);
+    tally.has_all(&[None, Some(11), Some(20), Some(22)]);
 }
 
 /// What is no sheet's text at all has no number of document 01, but a line.

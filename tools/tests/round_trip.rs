@@ -121,7 +121,7 @@ fn named_boxes(sheet: &Sheet) -> String {
 /// The same sheet with some no-go boxes replaced.
 fn with_other_boxes(sheet: &Sheet, numbers: &mut Numbers) -> Sheet {
     let count = sheet.unsafe_count as usize;
-    let mut boxes = random_boxes(numbers, sheet.n(), count);
+    let mut boxes = random_boxes(numbers, &sheet.recovery, sheet.n(), count);
     boxes.extend(sheet.unsafe_boxes());
     let pairs = |b: &StateBox| -> Vec<(i64, i64)> { b.lower.into_iter().zip(b.upper).collect() };
     boxes.sort_by_key(pairs);

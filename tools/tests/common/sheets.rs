@@ -34,8 +34,31 @@ fn random_box(numbers: &mut Numbers, n: usize, limit: i64) -> StateBox {
     sides
 }
 
-/// No-go boxes that differ, in ascending order; now and then with most of their sides equal.
-pub fn random_boxes(numbers: &mut Numbers, n: usize, count: usize) -> Vec<StateBox> {
+/// A no-go box that shares a state with the recovery box, moved until it lies beside it in one variable.
+fn beside(recovery: &StateBox, mut sides: StateBox, n: usize, numbers: &mut Numbers) -> StateBox {
+    if !sides.meets(recovery) {
+        return sides;
+    }
+    let i = numbers.whole(0, n as i64 - 1) as usize;
+    let size = sides.upper[i] - sides.lower[i];
+    if numbers.whole(0, 1) == 0 {
+        sides.upper[i] = recovery.lower[i] - 1;
+        sides.lower[i] = (sides.upper[i] - size).max(-2_000_000);
+    } else {
+        sides.lower[i] = recovery.upper[i] + 1;
+        sides.upper[i] = (sides.lower[i] + size).min(2_000_000);
+    }
+    sides
+}
+
+/// No-go boxes that differ and keep clear of the recovery box, in ascending order; now and then with most of
+/// their sides equal.
+pub fn random_boxes(
+    numbers: &mut Numbers,
+    recovery: &StateBox,
+    n: usize,
+    count: usize,
+) -> Vec<StateBox> {
     let limit = match numbers.whole(0, 1) {
         0 => 3,
         _ => 2_000_000,
@@ -43,6 +66,7 @@ pub fn random_boxes(numbers: &mut Numbers, n: usize, count: usize) -> Vec<StateB
     let mut boxes = BTreeMap::new();
     while boxes.len() < count {
         let sides = random_box(numbers, n, limit);
+        let sides = beside(recovery, sides, n, numbers);
         let pairs = sides.lower.into_iter().zip(sides.upper);
         boxes.insert(pairs.collect::<Vec<(i64, i64)>>(), sides);
     }
@@ -95,6 +119,7 @@ pub fn random_sheet(numbers: &mut Numbers) -> Sheet {
         };
     }
     let count = sheet.unsafe_count as usize;
-    sheet.unsafe_boxes[..count].copy_from_slice(&random_boxes(numbers, n, count));
+    let boxes = random_boxes(numbers, &sheet.recovery, n, count);
+    sheet.unsafe_boxes[..count].copy_from_slice(&boxes);
     sheet
 }
