@@ -10,6 +10,7 @@ pub mod causes;
 pub mod listing;
 pub mod names;
 pub mod overlap;
+pub mod overlap_picture;
 pub mod panels;
 pub mod picture;
 pub mod record_order;

@@ -1,10 +1,14 @@
 //! The program `sheet`.
 
 use second_guard::decision::Question;
+use second_guard::sheet::Sheet;
 use sheet_tool::archive;
 use sheet_tool::asks_text::{self, Ask, Asked, AsksText};
 use sheet_tool::attempts::{attempts, Attempt, Attempts, Subject};
 use sheet_tool::listing::{listing, recovery_sentence, sentence};
+use sheet_tool::names::Names;
+use sheet_tool::overlap::OVERLAP;
+use sheet_tool::overlap_picture::overlap_picture;
 use sheet_tool::picture::picture;
 use sheet_tool::record_order;
 use sheet_tool::records;
@@ -27,7 +31,30 @@ sheet picture SHEET [ASKS NUMBER]         draw the recovery check, or one decisi
 
 SHEET and ASKS are text, or bytes where the name ends in .bin.
 A text may have its no-go boxes in any order; the file has them in ascending order.
+A sheet whose recovery box shares a state with a no-go box is refused; its picture has the boxes alone.
 ";
+
+/// Why the program fails. Of a sheet whose recovery box shares a state with a no-go box, it has the picture too.
+struct Failure {
+    message: String,
+    picture: String,
+}
+
+impl From<String> for Failure {
+    fn from(message: String) -> Failure {
+        Failure {
+            message,
+            picture: String::new(),
+        }
+    }
+}
+
+/// Every use but `picture` leaves the picture out.
+impl From<Failure> for String {
+    fn from(failure: Failure) -> String {
+        failure.message
+    }
+}
 
 fn main() -> ExitCode {
     let words: Vec<String> = std::env::args().skip(1).collect();
@@ -36,22 +63,38 @@ fn main() -> ExitCode {
             print!("{text}");
             ExitCode::SUCCESS
         }
-        Err(message) => {
+        Err(Failure { message, picture }) => {
+            print!("{picture}");
             eprintln!("{message}");
             ExitCode::FAILURE
         }
     }
 }
 
-fn run(words: &[String]) -> Result<String, String> {
+fn run(words: &[String]) -> Result<String, Failure> {
     let Some((verb, words)) = words.split_first() else {
-        return Err(USAGE.into());
+        return Err(Failure::from(USAGE.to_string()));
     };
     let (words, option) = match words.iter().position(|word| word.starts_with("--")) {
         Some(at) => (&words[..at], Some((words[at].as_str(), &words[at + 1..]))),
         None => (words, None),
     };
     match (verb.as_str(), words, option) {
+        ("picture", [sheet, which @ ..], None) => draw(sheet, which, None),
+        ("picture", [sheet, which @ ..], Some(("--width", [width]))) => {
+            draw(sheet, which, Some(width))
+        }
+        (verb, words, option) => Ok(print(verb, words, option)?),
+    }
+}
+
+/// What every use but a picture prints.
+fn print(
+    verb: &str,
+    words: &[String],
+    option: Option<(&str, &[String])>,
+) -> Result<String, String> {
+    match (verb, words, option) {
         ("pack", [sheet, asks @ ..], None) if asks.len() < 2 => pack(sheet, asks.first(), "."),
         ("pack", [sheet, asks @ ..], Some(("--to", [folder]))) if asks.len() < 2 => {
             pack(sheet, asks.first(), folder)
@@ -69,10 +112,6 @@ fn run(words: &[String]) -> Result<String, String> {
         ("show", [sheet], None) => show_recovery(sheet),
         ("show", [sheet, asks], None) => show_asks(sheet, asks, None),
         ("show", [sheet, asks, number], None) => show_asks(sheet, asks, Some(number)),
-        ("picture", [sheet, which @ ..], None) => draw(sheet, which, None),
-        ("picture", [sheet, which @ ..], Some(("--width", [width]))) => {
-            draw(sheet, which, Some(width))
-        }
         _ => Err(USAGE.into()),
     }
 }
@@ -95,16 +134,36 @@ fn read_text(path: &str) -> Result<String, String> {
     std::fs::read_to_string(path).map_err(|error| format!("{path}: {error}"))
 }
 
-fn load_sheet(path: &str) -> Result<Loaded, String> {
+/// The failure to load a sheet with this fault. Where that is the overlap of boxes, they are drawn.
+fn refused(path: &str, fault: Fault, boxes: impl FnOnce() -> Option<(Sheet, Names)>) -> Failure {
+    let words = fault.to_string();
+    let overlapping = (fault.refusal == Some(OVERLAP)).then(boxes).flatten();
+    let picture = overlapping.map(|(sheet, names)| overlap_picture(&words, &sheet, &names));
+    Failure {
+        message: in_file(path)(fault),
+        picture: picture.unwrap_or_default(),
+    }
+}
+
+fn load_sheet(path: &str) -> Result<Loaded, Failure> {
     if path.ends_with(".bin") {
-        let bytes = read_bytes(path)?;
-        let refused = |number| in_file(path)(records::refused(number, &bytes));
-        let sheet = archive::read(&bytes).map_err(refused)?;
-        let text = sheet_text::from_sheet(&sheet);
-        return Ok(Loaded { text, bytes });
+        return load_sheet_bytes(path);
     }
     let text = sheet_parser::parse(&read_text(path)?).map_err(in_file(path))?;
-    let bytes = text.bytes().map_err(in_file(path))?;
+    let boxes = || Some((text.sheet, text.names.clone()));
+    let bytes = text.bytes().map_err(|fault| refused(path, fault, boxes))?;
+    Ok(Loaded { text, bytes })
+}
+
+fn load_sheet_bytes(path: &str) -> Result<Loaded, Failure> {
+    let bytes = read_bytes(path)?;
+    let boxes = || {
+        let sheet = records::overlapping_boxes(&bytes)?;
+        Some((sheet, Names::plain(&sheet)))
+    };
+    let sheet = archive::read(&bytes)
+        .map_err(|number| refused(path, records::refused(number, &bytes), boxes))?;
+    let text = sheet_text::from_sheet(&sheet);
     Ok(Loaded { text, bytes })
 }
 
@@ -121,7 +180,7 @@ fn load_asks(sheet: &Loaded, path: &str) -> Result<AsksText, String> {
     asks_text::parse(&read_text(path)?, values, names).map_err(in_file(path))
 }
 
-fn load_both(sheet: &str, asks: &str) -> Result<(Loaded, AsksText), String> {
+fn load_both(sheet: &str, asks: &str) -> Result<(Loaded, AsksText), Failure> {
     let sheet = load_sheet(sheet)?;
     let asks = load_asks(&sheet, asks)?;
     Ok((sheet, asks))
@@ -241,25 +300,41 @@ fn show_asks(sheet: &str, asks: &str, number: Option<&String>) -> Result<String,
     Ok(shown)
 }
 
-/// The picture of the recovery check, or of one question's decision.
-fn draw(path: &str, which: &[String], width: Option<&String>) -> Result<String, String> {
-    let (Loaded { text, bytes }, heading, question) = match which {
+/// The picture of the recovery check, or of one question's decision. Where the recovery box shares a state with
+/// a no-go box there is neither, and the boxes are drawn.
+fn draw(path: &str, which: &[String], width: Option<&String>) -> Result<String, Failure> {
+    let (sheet, heading, question) = match which {
         [] => (load_sheet(path)?, "recovery check".into(), None),
         [asks, number] => {
             let (sheet, asks) = load_both(path, asks)?;
-            let index = chosen(&asks, Some(number))?[0];
-            let ask = &asks.asks[index];
-            let question = question(ask).filter(|_| ask.refused.is_none());
-            let question = question.ok_or("a refused question has no picture")?;
-            let heading = format!("question {}", heading(index, ask));
+            let (heading, question) = drawn_question(&asks, number)?;
             (sheet, heading, Some(question))
         }
-        _ => return Err(USAGE.into()),
+        _ => return Err(Failure::from(USAGE.to_string())),
     };
+    Ok(draw_attempt(path, &sheet, &heading, question, width)?)
+}
+
+/// The question that is drawn, with the words above it.
+fn drawn_question(asks: &AsksText, number: &String) -> Result<(String, Question), String> {
+    let index = chosen(asks, Some(number))?[0];
+    let ask = &asks.asks[index];
+    let question = question(ask).filter(|_| ask.refused.is_none());
+    let question = question.ok_or("a refused question has no picture")?;
+    Ok((format!("question {}", heading(index, ask)), question))
+}
+
+fn draw_attempt(
+    path: &str,
+    Loaded { text, bytes }: &Loaded,
+    heading: &str,
+    question: Option<Question>,
+    width: Option<&String>,
+) -> Result<String, String> {
     let subject = question
         .as_ref()
         .map_or(Subject::Recovery, Subject::Question);
-    let found = attempts(&bytes, &text.sheet, subject).map_err(in_file(path))?;
+    let found = attempts(bytes, &text.sheet, subject).map_err(in_file(path))?;
     let heading = format!("{}, {heading}", text.names.title());
     let answer = match subject {
         Subject::Recovery => recovery_sentence(found.answer),

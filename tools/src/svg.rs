@@ -2,6 +2,9 @@
 
 use std::fmt::Write;
 
+/// How far apart the strokes of a hatched rectangle are, along an axis.
+const HATCH: f64 = 8.0;
+
 /// Draws values from..to along a length of the picture.
 #[derive(Clone, Copy, Debug)]
 pub struct Scale {
@@ -52,6 +55,10 @@ pub struct Paint {
     pub stroke: &'static str,
     pub width: f64,
     pub dashes: &'static str,
+    /// A rectangle has slanted strokes inside.
+    pub hatched: bool,
+    /// What the element stands for, where others read the picture.
+    pub class: &'static str,
 }
 
 pub fn filled(fill: &'static str, opacity: f64) -> Paint {
@@ -61,6 +68,8 @@ pub fn filled(fill: &'static str, opacity: f64) -> Paint {
         stroke: "none",
         width: 0.0,
         dashes: "",
+        hatched: false,
+        class: "",
     }
 }
 
@@ -75,11 +84,18 @@ pub fn edged(fill: &'static str, opacity: f64, width: f64) -> Paint {
 
 pub fn outlined(stroke: &'static str, width: f64, dashes: &'static str) -> Paint {
     Paint {
-        fill: "none",
-        opacity: 1.0,
         stroke,
         width,
         dashes,
+        ..filled("none", 1.0)
+    }
+}
+
+/// Outlined, with slanted strokes inside: seen without colours too.
+pub fn hatched(stroke: &'static str, width: f64) -> Paint {
+    Paint {
+        hatched: true,
+        ..outlined(stroke, width, "")
     }
 }
 
@@ -111,12 +127,31 @@ impl Svg {
     pub fn rect(&mut self, area: Area, paint: Paint) {
         let (x, y) = (ordered(area.x), ordered(area.y));
         let (width, height) = (x.1 - x.0, y.1 - y.0);
+        self.strokes(Area { x, y }, paint);
         self.add(format_args!(
             r#"<rect x="{:.1}" y="{:.1}" width="{width:.1}" height="{height:.1}"{}/>"#,
             x.0,
             y.0,
             attributes(paint)
         ));
+    }
+
+    /// A rectangle as a shape, whose edge is drawn even where it has no height or no width.
+    pub fn area(&mut self, area: Area, paint: Paint) {
+        let (x, y) = (ordered(area.x), ordered(area.y));
+        self.strokes(Area { x, y }, paint);
+        let corners = vec![(x.0, y.1), (x.1, y.1), (x.1, y.0), (x.0, y.0)];
+        self.shapes(&[corners], paint);
+    }
+
+    /// The slanted strokes of a hatched rectangle, in one element.
+    fn strokes(&mut self, area: Area, paint: Paint) {
+        let sums = multiples(area.x.0 + area.y.0, area.x.1 + area.y.1, HATCH);
+        let path: String = sums.filter_map(|sum| stroke(area, sum)).collect();
+        if paint.hatched && !path.is_empty() {
+            let paint = attributes(outlined(paint.stroke, 1.2, ""));
+            self.add(format_args!(r#"<path d="{path}"{paint}/>"#));
+        }
     }
 
     pub fn line(&mut self, from: (f64, f64), to: (f64, f64), paint: Paint) {
@@ -168,6 +203,16 @@ fn ordered(ends: (f64, f64)) -> (f64, f64) {
     (ends.0.min(ends.1), ends.0.max(ends.1))
 }
 
+/// The stroke inside an area whose places have this sum; nothing where that is one place.
+fn stroke(area: Area, sum: f64) -> Option<String> {
+    let from = area.x.0.max(sum - area.y.1);
+    let to = area.x.1.min(sum - area.y.0);
+    (to - from > 0.05).then(|| {
+        let (low, high) = (sum - from, sum - to);
+        format!("M{from:.1} {low:.1}L{to:.1} {high:.1}")
+    })
+}
+
 fn closed_path(shape: &[(f64, f64)]) -> String {
     let mut path = String::new();
     for (index, (x, y)) in shape.iter().enumerate() {
@@ -180,7 +225,11 @@ fn closed_path(shape: &[(f64, f64)]) -> String {
 }
 
 fn attributes(paint: Paint) -> String {
-    let mut text = format!(r#" fill="{}""#, paint.fill);
+    let mut text = String::new();
+    if !paint.class.is_empty() {
+        text.push_str(&format!(r#" class="{}""#, paint.class));
+    }
+    text.push_str(&format!(r#" fill="{}""#, paint.fill));
     if paint.fill != "none" {
         text.push_str(&format!(r#" fill-opacity="{}""#, paint.opacity));
     }
