@@ -82,6 +82,25 @@ records_come_back() {
         diff - "$old/said" && cmp "$work/sheet.bin" "$old/sheet.bin"
 }
 
+# With a recovery box that ends on the front buffer the leg press is refused, with both lines, and both boxes
+# are drawn with their common part marked in each of the two panels.
+overlap_is_drawn() {
+    overlap=$work/overlap
+    mkdir -p "$overlap" || return 1
+    sed 's/^recovery .*/recovery  position 1000..5800  coasting 1400..4600/' "$root/examples/leg_press.txt" \
+        >"$overlap/leg_press.txt"
+    line_of() { grep -n "^$1" "$overlap/leg_press.txt" | cut -d : -f 1; }
+    (
+        cd "$overlap" || exit 1
+        ! "$sheet" pack leg_press.txt 2>packed && ! [ -e sheet.bin ] || exit 1
+        ! "$sheet" picture leg_press.txt >picture.svg 2>said && cmp packed said
+    ) || return 1
+    echo "leg_press.txt: line $(line_of recovery): refused 22 (recovery box shares a state with a no-go box):" \
+        "the recovery box shares position 5800..5800, coasting 1400..4600 with no-go box \"front buffer\" on" \
+        "line $(line_of 'no-go "front buffer"')" | diff - "$overlap/said" || return 1
+    [ "$(grep -c 'class="common"' "$overlap/picture.svg")" -eq 2 ] && [ "$(tail -n 1 "$overlap/picture.svg")" = "</svg>" ]
+}
+
 packs_without_a_word() {
     "$sheet" pack "$root/examples/leg_press.txt" "$root/examples/leg_press.asks.txt" --to "$work" \
         >"$work/said_at_packing" && ! [ -s "$work/said_at_packing" ]
@@ -100,6 +119,7 @@ package_tests
 check "the leg press packs" packs_without_a_word
 check "the leg press packs in another order" other_order_packs
 check "the leg press's records are put in order" records_come_back
+check "the leg press on a no-go box is drawn" overlap_is_drawn
 check "drive.c builds" compile "$work/drive" "$root/examples/drive.c"
 check "the drive prints its summary" drive_prints_its_summary
 check "the drive refuses no sheet" drive_refuses_no_sheet

@@ -3,9 +3,10 @@
 
 mod common;
 
-use common::{example, load, sheet, shell};
+use common::{example, example_text, load, sheet, shell};
 use second_guard::decision::{Decision, RecoveryCheck};
 use second_guard::{decision, listing};
+use sheet_tool::sheet_parser;
 use std::collections::BTreeSet;
 
 /// Each example, and the question that its picture shows.
@@ -40,6 +41,30 @@ fn pictures() {
         let made = sheet(&["picture", &text(name), &asks(name), question]);
         compare(&format!("{name}.svg"), &made);
     }
+}
+
+/// The example that is refused: its words stand in the README, and its picture beside it.
+#[test]
+fn the_overlap_is_said_and_drawn() {
+    let path = text("overlap");
+    let (success, made, message) = shell(&["picture", &path]);
+    assert!(!success);
+    compare("overlap.svg", &made);
+    let said = message.replace(&path, "overlap.txt");
+    assert!(
+        example_text("README.md").contains(&format!("\n    {said}\n")),
+        "{said}"
+    );
+}
+
+#[test]
+fn the_overlap_is_the_leg_press_with_another_recovery_box() {
+    let parsed = |name| sheet_parser::parse(&example_text(name)).expect("a sheet's text");
+    let (leg_press, mut overlap) = (parsed("leg_press.txt"), parsed("overlap.txt"));
+    assert!(overlap.sheet != leg_press.sheet);
+    overlap.sheet.recovery = leg_press.sheet.recovery;
+    overlap.names.title = leg_press.names.title.clone();
+    assert!(overlap.sheet == leg_press.sheet && overlap.names == leg_press.names);
 }
 
 fn text(name: &str) -> String {
