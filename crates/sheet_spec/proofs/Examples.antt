@@ -12,6 +12,9 @@ use Rattle.sheet_spec.specs.Box.{meets}
 use Rattle.sheet_spec.specs.Order.{compareBoxes}
 use Rattle.sheet_spec.specs.declared.Comparison.{Comparison}
 use Rattle.sheet_spec.specs.declared.Comparison.the-variants.{Less, Equal, Greater}
+use Rattle.sheet_spec.specs.declared.Record.the-variants.{Recovery}
+use Rattle.sheet_spec.specs.declared.Shape.{Shape}
+use Rattle.sheet_spec.specs.File.{closing}
 use Rattle.sheet_spec.specs.Sheet.{zeros, refusal, values, bytesOf, length-of, writeRefusal, written}
 use Rattle.sheet_spec.specs.SheetA.{headA, bandA, boxesA, fileA}
 use Rattle.sheet_spec.specs.Refusals.{Cause, number}
@@ -36,54 +39,6 @@ readA = (refl, refl)
 backA : (bytesOf valueA ≡ fileA) × (length-of valueA ≡ 70)
 unfolding everything valueA
 backA = (refl, refl)
-
--- ---- a damaged file, and its refusal
-
-damage : ℕ → List ℕ → List ℕ
-damage = sets fileA
-
-damaged : List (List ℕ × ℕ)
-damaged =
-    (take 19 fileA, 1)
-    ∷ (damage 1 (73 ∷ []), 1)
-    -- n, bands, no-go boxes, band variable
-    ∷ (damage 2 (0 ∷ []), 2)
-    ∷ (damage 2 (5 ∷ []), 2)
-    ∷ (damage 3 (9 ∷ []), 2)
-    ∷ (damage 4 (255 ∷ []), 2)
-    ∷ (damage 5 (1 ∷ []), 2)
-    -- δ + α = 1,000, and 1,001; ρ
-    ∷ (damage 6 (0 ∷ 1 ∷ 3 ∷ 231 ∷ []), 0)
-    ∷ (damage 6 (0 ∷ 1 ∷ 3 ∷ 232 ∷ []), 3)
-    ∷ (damage 10 (3 ∷ 233 ∷ []), 3)
-    -- least command over the greatest
-    ∷ (damage 15 (231 ∷ 255 ∷ []), 4)
-    -- length, which comes before the cap
-    ∷ (take 69 fileA, 5)
-    ∷ (fileA ++ (0 ∷ []), 5)
-    ∷ (take 69 (damage 21 (0 ∷ [])), 5)
-    ∷ (damage 21 (0 ∷ []), 6)
-    -- marks, each before its record's numbers
-    ∷ (damage 23 (0 ∷ 0 ∷ []), 7)
-    ∷ (damage 50 (82 ∷ []), 7)
-    ∷ (damage 49 (0 ∷ 82 ∷ []), 10)
-    ∷ (damage 60 (78 ∷ []), 7)
-    ∷ (damage 27 (129 ∷ []), 8)
-    -- the safety range, with ends in the wrong order
-    ∷ (damage 31 (26 ∷ 0 ∷ 0 ∷ 0 ∷ 26 ∷ []), 9)
-    ∷ (damage 31 (1 ∷ []), 9)
-    -- a = 1,001, d = −1, q = 4,097
-    ∷ (damage 36 (3 ∷ 233 ∷ []), 10)
-    ∷ (damage 44 (255 ∷ 255 ∷ 255 ∷ 255 ∷ []), 10)
-    ∷ (damage 48 (16 ∷ 1 ∷ []), 10)
-    -- a no-go side of 2,000,001, one of the recovery box of 1,000,001
-    ∷ (damage 59 (129 ∷ []), 11)
-    ∷ (damage 66 (0 ∷ 15 ∷ 66 ∷ 65 ∷ []), 11)
-    ∷ []
-
-refusals : map (λ t. refusal (t .0)) damaged ≡ map (λ t. t .1) damaged
-unfolding everything damaged damage
-refusals = refl
 
 -- ---- the order of boxes of two variables, by their sides in the file's order
 
@@ -210,28 +165,26 @@ pub recoverySideFirst : refusal (withRecovery (pos 100) (pos 1000001) (noGo (pos
 unfolding everything withRecovery noGo
 recoverySideFirst = refl
 
--- a sheet of two variables, whose recovery box is −100..100 in both, with a no-go box of these lower and upper sides
-pub withTwo : List ℤ → List ℤ → List ℕ
-withTwo lower upper = bytesOf
-    (sets (sets (sets (sets (sets (sets (sets (sets (sets (sets zeros
-    0 (pos 2 ∷ pos 1 ∷ pos 1 ∷ pos 0 ∷ pos 4 ∷ pos 4 ∷ pos 4 ∷ negsuc 24 ∷ pos 25 ∷ pos 5 ∷ pos 5 ∷ []))
-    (bandSlot 0) (negsuc 1999999 ∷ []))
-    (rowSlot 0 0) (negsuc 0 ∷ [])) (rowSlot 0 0 + N) (pos 4 ∷ pos 0 ∷ pos 0 ∷ pos 20 ∷ []))
-    (rowSlot 0 1) (pos 0 ∷ negsuc 0 ∷ [])) (rowSlot 0 1 + N) (pos 4 ∷ pos 0 ∷ pos 0 ∷ pos 20 ∷ []))
-    (unsafeSlot 0) lower) (unsafeSlot 0 + N) upper)
-    recoverySlot (negsuc 99 ∷ negsuc 99 ∷ [])) (recoverySlot + N) (pos 100 ∷ pos 100 ∷ []))
+-- the boxes of a value of two variables: the recovery box is −100..100 in both, the no-go box has these lower and upper sides
+pub two : Shape
+two = record { vars = 2; bands = 1; boxes = 1 }
 
--- it is refused where the boxes meet in both variables
-pub metInBoth : refusal (withTwo (pos 0 ∷ pos 100 ∷ []) (pos 50 ∷ pos 200 ∷ [])) ≡ number Cause.overlap
-unfolding everything withTwo
+pub withTwo : List ℤ → List ℤ → List ℤ
+withTwo lower upper =
+    sets (sets (sets (sets zeros (unsafeSlot 0) lower) (unsafeSlot 0 + N) upper)
+    recoverySlot (negsuc 99 ∷ negsuc 99 ∷ [])) (recoverySlot + N) (pos 100 ∷ pos 100 ∷ [])
+
+-- the recovery record is refused where the boxes meet in both variables
+pub metInBoth : closing (withTwo (pos 0 ∷ pos 100 ∷ []) (pos 50 ∷ pos 200 ∷ [])) two Recovery ≡ number Cause.overlap
+unfolding everything two withTwo
 metInBoth = refl
 
-pub metInFirst : refusal (withTwo (pos 0 ∷ pos 101 ∷ []) (pos 50 ∷ pos 200 ∷ [])) ≡ 0
-unfolding everything withTwo
+pub metInFirst : closing (withTwo (pos 0 ∷ pos 101 ∷ []) (pos 50 ∷ pos 200 ∷ [])) two Recovery ≡ 0
+unfolding everything two withTwo
 metInFirst = refl
 
-pub metInSecond : refusal (withTwo (pos 101 ∷ pos 0 ∷ []) (pos 200 ∷ pos 50 ∷ [])) ≡ 0
-unfolding everything withTwo
+pub metInSecond : closing (withTwo (pos 101 ∷ pos 0 ∷ []) (pos 200 ∷ pos 50 ∷ [])) two Recovery ≡ 0
+unfolding everything two withTwo
 metInSecond = refl
 
 pub overlapping : List (List ℕ × ℕ)
@@ -260,6 +213,54 @@ overlapping =
 pub overlaps : map (λ t. refusal (t .0)) overlapping ≡ map (λ t. t .1) overlapping
 unfolding everything overlapping withBoxes withRecovery noGo
 overlaps = refl
+
+-- ---- a damaged file, and its refusal
+
+damage : ℕ → List ℕ → List ℕ
+damage = sets fileA
+
+damaged : List (List ℕ × ℕ)
+damaged =
+    (take 19 fileA, 1)
+    ∷ (damage 1 (73 ∷ []), 1)
+    -- n, bands, no-go boxes, band variable
+    ∷ (damage 2 (0 ∷ []), 2)
+    ∷ (damage 2 (5 ∷ []), 2)
+    ∷ (damage 3 (9 ∷ []), 2)
+    ∷ (damage 4 (255 ∷ []), 2)
+    ∷ (damage 5 (1 ∷ []), 2)
+    -- δ + α = 1,000, and 1,001; ρ
+    ∷ (damage 6 (0 ∷ 1 ∷ 3 ∷ 231 ∷ []), 0)
+    ∷ (damage 6 (0 ∷ 1 ∷ 3 ∷ 232 ∷ []), 3)
+    ∷ (damage 10 (3 ∷ 233 ∷ []), 3)
+    -- least command over the greatest
+    ∷ (damage 15 (231 ∷ 255 ∷ []), 4)
+    -- length, which comes before the cap
+    ∷ (take 69 fileA, 5)
+    ∷ (fileA ++ (0 ∷ []), 5)
+    ∷ (take 69 (damage 21 (0 ∷ [])), 5)
+    ∷ (damage 21 (0 ∷ []), 6)
+    -- marks, each before its record's numbers
+    ∷ (damage 23 (0 ∷ 0 ∷ []), 7)
+    ∷ (damage 50 (82 ∷ []), 7)
+    ∷ (damage 49 (0 ∷ 82 ∷ []), 10)
+    ∷ (damage 60 (78 ∷ []), 7)
+    ∷ (damage 27 (129 ∷ []), 8)
+    -- the safety range, with ends in the wrong order
+    ∷ (damage 31 (26 ∷ 0 ∷ 0 ∷ 0 ∷ 26 ∷ []), 9)
+    ∷ (damage 31 (1 ∷ []), 9)
+    -- a = 1,001, d = −1, q = 4,097
+    ∷ (damage 36 (3 ∷ 233 ∷ []), 10)
+    ∷ (damage 44 (255 ∷ 255 ∷ 255 ∷ 255 ∷ []), 10)
+    ∷ (damage 48 (16 ∷ 1 ∷ []), 10)
+    -- a no-go side of 2,000,001, one of the recovery box of 1,000,001
+    ∷ (damage 59 (129 ∷ []), 11)
+    ∷ (damage 66 (0 ∷ 15 ∷ 66 ∷ 65 ∷ []), 11)
+    ∷ []
+
+refusals : map (λ t. refusal (t .0)) damaged ≡ map (λ t. t .1) damaged
+unfolding everything damaged damage
+refusals = refl
 
 zerosA : values (take 69 fileA) ≡ zeros
 unfolding everything

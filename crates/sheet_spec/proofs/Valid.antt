@@ -135,7 +135,7 @@ module _ (v : List ℤ) (g : AllInRange v) where
 -- no-go boxes that pass their tests ascend
 pub ascending : (v : List ℤ) → ((j : ℕ) → j < boxes v → orderTest (vars v) v j ≡ 0) → Ascending v
 unfolding orderTest
-ascending v pass = record { at = λ j l. unless-zero (ascendsAt (vars v) v j) Cause.order (pass (suc j) l) }
+ascending v pass = record { at = λ j l. unless-zero (ascendsAt (vars v) v j) Cause.order (pass (suc j) (omega arith)) }
 
 -- a sheet whose records are good
 module _ (v : List ℤ) (g : AllGood v) where
@@ -147,7 +147,8 @@ module _ (v : List ℤ) (g : AllGood v) where
   good-clear =
       let s = shape v in
       let c = closed-at (1 + (s .bands + s .boxes)) (omega arith) (recovery-at s) in
-      record { at = clear-at (s .vars) v (s .boxes) (recoveryBox v) (unless-zero (clear (s .vars) v (s .boxes) (recoveryBox v)) Cause.overlap c) }
+      let e = unless-zero (clear (s .vars) v (s .boxes) (recoveryBox v)) Cause.overlap c in
+      record { at = λ j l. clear-at (s .vars) v (s .boxes) (recoveryBox v) e j (omega arith) }
 
   pub good-valid : length v ≡ slots → ((i : ℕ) → SFits w32 (v ! i)) → Valid v
   unfolding closing

@@ -97,7 +97,7 @@ module _ {v : List ℤ} where
     closed : (r : ℕ) → r < records (shape v) → closing v (shape v) (recordAt (shape v) r) ≡ 0
     unfolding closing
     closed =
-        let clear = clear-of (vars v) v (shape v .boxes) (recoveryBox v) (a .clear .at) in
+        let clear = clear-of (vars v) v (shape v .boxes) (recoveryBox v) (λ j l. a .clear .at j (omega arith)) in
         record-cases (shape v) (λ r x. closing v (shape v) x ≡ 0) refl (λ k l. refl) (order-passes (a .order)) (sym (overlap-clear (vars v) v (shape v .boxes) clear))
 
     -- so the writer accepts it
@@ -113,14 +113,14 @@ module _ {v : List ℤ} where
   overlapping : AllButLast v → ValidNumbers v → Overlapping v
   overlapping t wf =
       let met = lowest-met (vars v) v (boxes v) (recoveryBox v) (overlap-found (vars v) v (boxes v) (t .overlap)) in
-      record { numbers = wf; order = ascending v (t .order); box = lowestMet (vars v) v (boxes v) (recoveryBox v); below = met .0; shares = met .1 }
+      record { numbers = wf; order = ascending v (t .order); box = lowestMet (vars v) v (boxes v) (recoveryBox v); below = omega (arith, met .0); shares = met .1 }
 
   all-but-last : Overlapping v → AllButLast v
   all-but-last o = record {
     marked = λ r l. refl;
     ranges = in-ranges (o .numbers);
     order = order-passes (o .order);
-    overlap = sym (overlap-met (vars v) v (boxes v) (o .box) (o .below) (o .shares));
+    overlap = sym (overlap-met (vars v) v (boxes v) (o .box) (omega (arith, o .below)) (o .shares));
   }
 
 pub exactly-valid : ExactlyValid
