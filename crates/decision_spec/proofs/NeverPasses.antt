@@ -1,26 +1,26 @@
 -- A recovery box on a no-go box: the first swept box of every attempt holds the recovery box, so it shares a state with that no-go box. Assumes nothing.
-use mathlib.Core.Path.{_≡_, refl, sym, ap, _∙_, subst}
-use mathlib.Core.Bool.{Bool, true, false}
-use mathlib.Core.List.{List, [], _∷_}
-use Prim.Native.Nat.{ℕ, _≤_, _<_}
+use mathlib.Core.Path.{_≡_, refl, subst}
+use mathlib.Core.Bool.{true, false}
+use mathlib.Core.List.{List}
+use Prim.Native.Nat.{ℕ, _<_}
 use native.Mathlib.Omega.{arith}
 use lib.Dec.{T}
 use lib.IntN.{ℤ}
 use Rattle.sheet_spec.specs.Slots.{vars, boxes, ρ, recoveryBox, unsafeBox}
 use Rattle.sheet_spec.specs.Box.{meets, clear}
-use Rattle.sheet_spec.specs.Valid.{ValidNumbers, Ascending, RecoveryClear, Overlapping, Valid}
+use Rattle.sheet_spec.specs.Valid.{ValidNumbers, RecoveryClear, Overlapping}
 use Rattle.sheet_spec.proofs.Box.{is-false, not-clear}
 use Rattle.sheet_spec.proofs.Validity.{exactly-valid, overlap-last}
 use Rattle.machine_spec.specs.declared.Law.the-variants.{Baseline}
 use Rattle.machine_spec.specs.Machine.{machine}
 use Rattle.machine_spec.proofs.Facts.{room}
 use Rattle.machine_spec.proofs.Inside.{Inside, inside-meets, inside-within, hull-left}
-use Rattle.boxes_spec.specs.Step.{unsafe, Result, failed, andThen, Step, swept}
+use Rattle.boxes_spec.specs.Step.{unsafe, andThen, Step, swept}
 use Rattle.boxes_spec.proofs.Stages.{Failed}
 use Rattle.boxes_spec.proofs.Settled.{Hits, firstPlace, reach-blocked}
-use Rattle.decision_spec.specs.Decision.{phaseReach, phase, follow, attempt, recoveryPhases, recoveryOf, finest, Reply, answered, isKeep}
+use Rattle.decision_spec.specs.Decision.{phaseReach, phase, follow, attempt, recoveryPhases, recoveryOf, Reply, isKeep}
 use Rattle.decision_spec.specs.NeverPasses.{FailsAtOnce, NeverPasses, OverlapFails, NothingLost}
-use Rattle.decision_spec.proofs.Attempts.{AnsweredFinest, all-fail}
+use Rattle.decision_spec.proofs.Attempts.{all-fail}
 
 module _ {v : List ℤ} (wf : ValidNumbers v) (j : ℕ) (h : j < boxes v) (shares : meets (vars v) (recoveryBox v) (unsafeBox v j) ≡ true) where
   -- a swept box holds the box that its step starts from

@@ -1,14 +1,13 @@
 -- `meet`: whether two boxes of a sheet share a state, variable by variable. Assumes nothing.
 use mathlib.Core.Path.{_≡_, refl, sym, ap, ap₂, _∙_}
-use mathlib.Core.Bool.{Bool, true, false, _&&_}
+use mathlib.Core.Bool.{Bool, true, _&&_}
 use mathlib.Core.List.{List}
-use Prim.Native.Nat.{ℕ, _+_, _-_, _≤_, _<_}
+use Prim.Native.Nat.{ℕ, _-_, _≤_, _<_}
 use native.Mathlib.Omega.{arith}
 use lib.IntN.{ℤ}
 use lib.Signed.{leZ}
-use borrow.Author.Needs.{needs}
 use borrow.Author.Tests.{not-true, not-false}
-use Rattle.sheet_spec.specs.Slots.{_!_, N, boxAt}
+use Rattle.sheet_spec.specs.Slots.{N, boxAt}
 use Rattle.sheet_spec.specs.Box.{lo, hi, all, meets}
 use Rattle.sheet_spec.proofs.Box.{all-more, all-stop, box-lo, box-hi}
 use Rattle.sheet_validation.proofs.overlap.meet.Statement.{statement}
