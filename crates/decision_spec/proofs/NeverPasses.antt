@@ -10,7 +10,7 @@ use Rattle.sheet_spec.specs.Slots.{vars, boxes, ρ, recoveryBox, unsafeBox}
 use Rattle.sheet_spec.specs.Box.{meets, clear}
 use Rattle.sheet_spec.specs.Valid.{ValidNumbers, RecoveryClear, Overlapping}
 use Rattle.sheet_spec.proofs.Box.{is-false, not-clear}
-use Rattle.sheet_spec.proofs.Validity.{exactly-valid, overlap-last}
+use Rattle.sheet_spec.proofs.Validity.{exactly-valid, overlap-refused}
 use Rattle.machine_spec.specs.declared.Law.the-variants.{Baseline}
 use Rattle.machine_spec.specs.Machine.{machine}
 use Rattle.machine_spec.proofs.Facts.{room}
@@ -70,7 +70,7 @@ passed-clear {v} wf passed = record {
 
 pub nothing-lost : NothingLost
 nothing-lost = record {
-  read = λ f e. overlapping-fails (overlap-last f e);
+  read = λ f e. overlapping-fails (overlap-refused .only f e);
   write = λ v array e. overlapping-fails (exactly-valid v array .overlap .0 e);
   runs = λ v wf order passed. record { numbers = wf; order = order; clear = passed-clear wf passed };
 }

@@ -11,7 +11,7 @@ use lib.Seq.{sets, take-all, take-at, drop-at, length-take-le, sets-eq}
 use borrow.Author.Tests.{eq-eqb, le-leb, leb-true}
 use Rattle.integers.specs.Bytes.{Bytes}
 use Rattle.sheet_spec.specs.Slots.{_!_, headSize, varsSlot, bandsSlot, boxesSlot}
-use Rattle.sheet_spec.specs.Refusals.{Cause}
+use Rattle.sheet_spec.specs.Refusals.{Cause, number}
 use Rattle.sheet_spec.specs.Fields.{decoded, offset}
 use Rattle.sheet_spec.specs.Sizes.{letters, capsAt}
 use Rattle.sheet_spec.specs.declared.Record.{Record}
@@ -19,17 +19,18 @@ use Rattle.sheet_spec.specs.declared.Record.the-variants.{Head}
 use Rattle.sheet_spec.specs.Layout.{_▸_, headFields, fields, fieldCount}
 use Rattle.sheet_spec.specs.declared.Shape.{Shape}
 use Rattle.sheet_spec.specs.File.{shape, records, fieldsAt, recordStart, filledAll, codedAll, marked, markedAt, badAll}
-use Rattle.sheet_spec.specs.Sheet.{zeros, headOf, shapeOf, contents, stage, stages, refusal, values, valueRefusal, length-of, bytesOf, writeRefusal, written, Same}
+use Rattle.sheet_spec.specs.Sheet.{zeros, headOf, shapeOf, contents, stage, refusal, values, valueRefusal, length-of, bytesOf, writeRefusal, written, Same}
 use Rattle.sheet_spec.proofs.Streams.{Each}
 use Rattle.sheet_spec.proofs.Records.{EachField, each-head, head-at}
-use Rattle.sheet_spec.proofs.Laws.{goes-on, none-either, none-first, unless-zero}
-use Rattle.sheet_spec.proofs.Tests.{InRange, AllGood, good-ranges, value-good, ranges-bad, good-all}
+use Rattle.sheet_spec.proofs.Laws.{goes-on, none-either, first-next, none-first, unless-zero}
+use Rattle.sheet_spec.proofs.Tests.{InRange, AllInRange, AllGood, good-ranges, value-good, ranges-bad, good-all}
+use Rattle.sheet_spec.proofs.LastTest.{LastTest, test-last}
 use Rattle.sheet_spec.proofs.Filled.{all-at}
 use Rattle.sheet_spec.proofs.Ranges.{small, all-fit}
 use Rattle.sheet_spec.proofs.Accepted.{accepted, head-number, number-at, shape-same, same-shape, length-zeros}
 use Rattle.sheet_spec.proofs.Length.{file-length}
 use Rattle.sheet_spec.proofs.Says.{Says, bytes-of, says, length-codedAll}
-use Rattle.sheet_spec.proofs.Same.{Equal, same-good, same-head}
+use Rattle.sheet_spec.proofs.Same.{Equal, same-ranges, same-order, same-overlap, same-good, same-head}
 
 pub write-read : (f : List ℕ) → Bytes f → refusal f ≡ 0 → bytesOf (values f) ≡ f
 unfolding bytesOf
@@ -40,10 +41,10 @@ write-read f b e =
     ∙ bytes-of s f (contents f) b (records s) (record { marks = a .marks; numbers = number-at f (a .small) }) (omega (arith, a .size))
     ∙ take-all (recordStart s (records s)) f (omega (arith, a .size))
 
--- a file of the right length that says a sheet whose numbers are in range is accepted, and is read as that sheet
-module _ (v : List ℤ) (f : List ℕ) (g : AllGood v) (size : length f ≡ recordStart (shape v) (records (shape v))) (t : Says (shape v) f v (records (shape v))) where
+-- a file of the right length that says a sheet whose numbers are in range is refused as its records are, or accepted and read as that sheet
+module _ (v : List ℤ) (f : List ℕ) (g : AllInRange v) (size : length f ≡ recordStart (shape v) (records (shape v))) (t : Says (shape v) f v (records (shape v))) where
   nine : Each (InRange v) headFields headSize
-  nine = record { at = λ j l. each-head (shape v) (good-ranges v (shape v) g) .at j (omega arith) }
+  nine = record { at = λ j l. each-head (shape v) g .at j (omega arith) }
 
   head-equal : Each (Equal v (headOf f)) headFields headSize
   unfolding fields recordStart
@@ -67,34 +68,58 @@ module _ (v : List ℤ) (f : List ℕ) (g : AllGood v) (size : length f ≡ reco
   unfolding recordStart
   first-mark = subst (λ (x : Record). marked f 0 x ≡ true) (head-at (shape v)) (t .marks 0 (omega arith))
 
-  passes : (i : ℕ) → stage f i ≡ 0
+  passes : (i : ℕ) → i < 3 → stage f i ≡ 0
   unfolding stage
-  passes zero = rw (le-leb capsAt (length f) (omega (arith, size, file-length (shape v))), first-mark)
-  passes (suc zero) = ranges-bad headFields (headOf f) headSize (same-head v (headOf f) head-equal nine)
-  passes (suc (suc zero)) = rw (← shape-is, eq-eqb (length f) (recordStart (shape v) (records (shape v))) size)
-  passes (suc (suc (suc i))) =
-      subst (λ (s : Shape). badAll (markedAt s f) s (contents f) (records s) ≡ 0) shape-is
-      (good-all (markedAt (shape v) f) (shape v) (contents f) (records (shape v)) (t .marks) (same-good v (contents f) (shape v) contents-equal (small v nine .vars) g))
+  passes zero l = rw (le-leb capsAt (length f) (omega (arith, size, file-length (shape v))), first-mark)
+  passes (suc zero) l = ranges-bad headFields (headOf f) headSize (same-head v (headOf f) head-equal nine)
+  passes (suc (suc zero)) l = rw (← shape-is, eq-eqb (length f) (recordStart (shape v) (records (shape v))) size)
+  passes (suc (suc (suc i))) l = absurd (let z : ⊥ = omega arith in z)
 
-  says-read : (refusal f ≡ 0) × Same v (values f)
-  unfolding refusal
-  says-read =
-      let e = none-first (stage f) stages (record { at = λ i l. passes i }) in
+  -- what the records' tests say
+  says-refusal : {c : ℕ} → badAll (markedAt (shape v) f) (shape v) (contents f) (records (shape v)) ≡ c → refusal f ≡ c
+  unfolding refusal stage
+  says-refusal {c} e =
+      first-next (stage f) 3 c (none-first (stage f) 3 (record { at = passes }))
+      (sym (subst (λ (s : Shape). badAll (markedAt s f) s (contents f) (records s) ≡ c) shape-is e))
+
+  says-read : AllGood v → (refusal f ≡ 0) × Same v (values f)
+  says-read all =
+      let same = same-good v (contents f) (shape v) contents-equal (small v nine .vars) all in
+      let e = says-refusal (good-all (markedAt (shape v) f) (shape v) (contents f) (records (shape v)) (t .marks) same) in
       (e, record { same = λ r l j k. contents-equal .at r l .at j k ∙ ap (λ (w : List ℤ). w ! fieldsAt (shape v) r j .slot) (sym (accepted f e .values)) })
 
-pub read-write : (v : List ℤ) → valueRefusal v ≡ 0 → (refusal (bytesOf v) ≡ 0) × Same v (values (bytesOf v))
-unfolding bytesOf
-read-write v e =
-    let g = value-good v e in
-    let s = shape v in
-    says-read v (bytesOf v) g (length-codedAll s v (records s))
-    (subst (λ (f : List ℕ). Says s f v (records s)) (append-nil (bytesOf v)) (says s v (records s) [] (all-fit v (good-ranges v s g) .at)))
+  says-overlap : LastTest (λ r. true) (shape v) v → refusal f ≡ number Cause.overlap
+  says-overlap l = says-refusal (test-last (markedAt (shape v) f) (shape v) (contents f) (record {
+    marked = t .marks;
+    ranges = same-ranges v (contents f) (shape v) contents-equal g;
+    order = λ j h. sym (same-order v (contents f) (shape v) contents-equal (small v nine .vars) j h) ∙ l .order j h;
+    overlap = sym (same-overlap v (contents f) (shape v) contents-equal (small v nine .vars)) ∙ l .overlap;
+  }))
 
--- ---- in a buffer
+-- a value's bytes say it
+bytes-say : (v : List ℤ) → AllInRange v → Says (shape v) (bytesOf v) v (records (shape v))
+unfolding bytesOf
+bytes-say v g =
+    let s = shape v in
+    subst (λ (f : List ℕ). Says s f v (records s)) (append-nil (bytesOf v)) (says s v (records s) [] (all-fit v g .at))
 
 pub length-bytesOf : (v : List ℤ) → length (bytesOf v) ≡ length-of v
 unfolding bytesOf length-of
 length-bytesOf v = length-codedAll (shape v) v (records (shape v))
+
+pub read-write : (v : List ℤ) → valueRefusal v ≡ 0 → (refusal (bytesOf v) ≡ 0) × Same v (values (bytesOf v))
+unfolding length-of
+read-write v e =
+    let g = value-good v e in
+    let ranges = good-ranges v (shape v) g in
+    says-read v (bytesOf v) ranges (length-bytesOf v) (bytes-say v ranges) g
+
+-- those of a value that only the last test refuses are refused by it
+pub read-overlap : (v : List ℤ) → LastTest (λ r. true) (shape v) v → refusal (bytesOf v) ≡ number Cause.overlap
+unfolding length-of
+read-overlap v l = says-overlap v (bytesOf v) (l .ranges) (length-bytesOf v) (bytes-say v (l .ranges)) l
+
+-- ---- in a buffer
 
 module _ (v : List ℤ) (buffer : List ℕ) (place : ℕ) (e : writeRefusal v buffer place ≡ 0) where
   pub passed : (valueRefusal v ≡ 0) × (place + length-of v ≤ length buffer)

@@ -103,7 +103,7 @@ module _ (v w : List ℤ) where
         (each-next _ _ (given (each-head s e .at leastSlot (omega arith)) greatest)
         (each-next _ _ (given (each-band s e k l .at leastInBand (omega arith)) greatest) (each-groups n (rowCount n) _ (λ i m. row-ends n (rowSlot k i))))))
 
-    same-ranges : EachField (InRange v) s → EachField (InRange w) s
+    pub same-ranges : EachField (InRange v) s → EachField (InRange w) s
     same-ranges g =
         each-field s (moved (each-head s e) (head-ends (s .vars) (each-head s e)) (each-head s g))
         (λ k l. moved (each-band s e k l) (band-ends k l) (each-band s g k l))
@@ -115,12 +115,12 @@ module _ (v w : List ℤ) where
       unsafe-same j l = box-same (s .vars) maxUnsafeSide (unsafeSlot j) room (each-unsafe s e j l)
 
       -- the test of a whole record goes by the sheet's numbers up to the counts
-      same-order : (j : ℕ) → j < s .boxes → orderTest (s .vars) v j ≡ orderTest (s .vars) w j
+      pub same-order : (j : ℕ) → j < s .boxes → orderTest (s .vars) v j ≡ orderTest (s .vars) w j
       unfolding orderTest
       same-order zero l = refl
       same-order (suc j) l = ap (λ (b : Bool). refuseUnless b Cause.order) (ascends-sides (s .vars) v w j (unsafe-same j (omega arith)) (unsafe-same (suc j) l))
 
-      same-overlap : overlapTest (s .vars) v (s .boxes) ≡ overlapTest (s .vars) w (s .boxes)
+      pub same-overlap : overlapTest (s .vars) v (s .boxes) ≡ overlapTest (s .vars) w (s .boxes)
       unfolding overlapTest
       same-overlap =
           let recovery = box-same (s .vars) maxRecoverySide recoverySlot room (each-recovery s e) in

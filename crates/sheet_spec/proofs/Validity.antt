@@ -20,7 +20,7 @@ use Rattle.sheet_spec.specs.declared.Record.the-variants.{Head}
 use Rattle.sheet_spec.specs.declared.Shape.{Shape}
 use Rattle.sheet_spec.specs.File.{shape, records, recordAt, fieldsAt, fieldCountAt, recordStart, marked, markedAt, orderTest, closing}
 use Rattle.sheet_spec.specs.Sheet.{headOf, shapeOf, contents, stage, refusal, valueRefusal}
-use Rattle.sheet_spec.specs.Validity.{ExactlyValid, OverlapLast}
+use Rattle.sheet_spec.specs.Validity.{ExactlyValid, OverlapRefused}
 use Rattle.sheet_spec.proofs.Streams.{Each, each-next, each-first, each-groups, rows-more, caps-more}
 use Rattle.sheet_spec.proofs.Records.{record-cases, each-field}
 use Rattle.sheet_spec.proofs.Box.{clear-of, lowest-met}
@@ -30,6 +30,7 @@ use Rattle.sheet_spec.proofs.Tests.{InRange, AllInRange, bad-ranges, ra
 use Rattle.sheet_spec.proofs.LastTest.{LastTest, last-test, test-last, head-refusal}
 use Rattle.sheet_spec.proofs.Ranges.{abs-is, in-abs, small}
 use Rattle.sheet_spec.proofs.Accepted.{same-shape}
+use Rattle.sheet_spec.proofs.RoundTrip.{read-overlap}
 use Rattle.sheet_spec.proofs.Valid.{numbers-of, ascending, good-valid, contents-size, contents-fit}
 
 -- ---- each number of a valid value lies in its range
@@ -147,9 +148,9 @@ early f (suc zero) l = head-refusal (headOf f)
 early f (suc (suc zero)) l = let s = shapeOf f in unless-below (eqb (length f) (recordStart s (records s))) Cause.length (omega arith)
 early f (suc (suc (suc i))) l = absurd (let z : ⊥ = omega arith in z)
 
-pub overlap-last : OverlapLast
+only-overlap : (f : List ℕ) → refusal f ≡ number Cause.overlap → Overlapping (contents f)
 unfolding refusal stage firstRefusal shapeOf
-overlap-last f e =
+only-overlap f e =
     let s = shapeOf f in
     let p = either-last (firstRefusal (stage f) 3) (stage f 3) (number Cause.overlap) (omega (arith, first-most (stage f) 3 (early f))) e in
     let m = small (headOf f) (bad-ranges headFields (headOf f) headSize (first-none (stage f) 3 (p .0) .at 1 (omega arith))) in
@@ -157,3 +158,6 @@ overlap-last f e =
     let l : LastTest (λ r. true) s (contents f) = record { marked = λ r l. refl; ranges = t .ranges; order = t .order; overlap = t .overlap } in
     let u : AllButLast (contents f) = subst (λ (s : Shape). LastTest (λ r. true) s (contents f)) (sym (same-shape f m)) l in
     overlapping u (numbers-of (contents f) (u .ranges) (contents-size f m) (contents-fit f m (u .ranges)))
+
+pub overlap-refused : OverlapRefused
+overlap-refused = record { only = only-overlap; always = λ v o. read-overlap v (all-but-last o) }

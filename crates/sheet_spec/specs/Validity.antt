@@ -13,7 +13,7 @@ use Rattle.sheet_spec.specs.Valid.{ValidNumbers, Overlapping, Valid}
 use Rattle.sheet_spec.specs.Refusals.{Cause, number}
 use Rattle.sheet_spec.specs.Fields.{bad}
 use Rattle.sheet_spec.specs.File.{shape, records, fieldsAt, fieldCountAt}
-use Rattle.sheet_spec.specs.Sheet.{contents, refusal, valueRefusal}
+use Rattle.sheet_spec.specs.Sheet.{contents, refusal, valueRefusal, bytesOf}
 
 -- a value as the calls have it: a number of 32 bits for each slot
 pub record Array (v : List ℤ) : Type 0 where
@@ -35,6 +35,9 @@ pub record ValidByTests (v : List ℤ) : Type 0 where
 abbrev pub ExactlyValid : Type 0
 ExactlyValid = (v : List ℤ) → Array v → ValidByTests v
 
--- and a file is refused with 22 just where its numbers are such a value: every other test has passed
-abbrev pub OverlapLast : Type 0
-OverlapLast = (f : List ℕ) → refusal f ≡ number Cause.overlap → Overlapping (contents f)
+-- the reader's refusal 22, which comes of such values and of no others
+pub record OverlapRefused : Type 0 where
+  -- the numbers of a file that is refused with it: every other test has passed
+  pub only : (f : List ℕ) → refusal f ≡ number Cause.overlap → Overlapping (contents f)
+  -- the bytes of a value that is valid but for this
+  pub always : (v : List ℤ) → Overlapping v → refusal (bytesOf v) ≡ number Cause.overlap
