@@ -50,11 +50,11 @@ pub fn words(found: Ordering) -> &'static str {
 }
 
 #[cfg(test)]
-mod tests {
+pub(crate) mod tests {
     use super::*;
 
     /// A box of two variables by its sides in the order in which they are compared.
-    fn two([lower, upper, second_lower, second_upper]: [i64; 4]) -> StateBox {
+    pub(crate) fn two([lower, upper, second_lower, second_upper]: [i64; 4]) -> StateBox {
         StateBox {
             lower: [lower, second_lower, 0, 0],
             upper: [upper, second_upper, 0, 0],

@@ -55,14 +55,7 @@ pub fn words(
 #[cfg(test)]
 mod tests {
     use super::*;
-
-    /// A box of two variables: the first one's sides, then the second one's.
-    fn two([lower, upper, second_lower, second_upper]: [i64; 4]) -> StateBox {
-        StateBox {
-            lower: [lower, second_lower, 0, 0],
-            upper: [upper, second_upper, 0, 0],
-        }
-    }
+    use crate::box_order::tests::two;
 
     #[test]
     fn one_common_value_in_every_variable_is_enough() {
