@@ -75,5 +75,5 @@ module _ {σ : ℕ → ℕ} {v w : List ℤ} (o : Reordered σ v w) where
           let i = p .origin-inside j h in
           subst (λ (n : ℕ). meets n (recoveryBox w) (unsafeBox w j) ≡ false) vars-same
           (subst (λ (x : ℕ). meets (vars v) (recoveryBox w) (unsafeBox w x) ≡ false) (p .of-origin j h)
-          (sym (meets-sides (vars v) recovery-sides (o .moved k i)) ∙ a .at k i));
+          (sym (meets-sides (vars v) recovery-sides (o .moved k (omega (arith, i)))) ∙ a .at k i));
     }
