@@ -1,5 +1,5 @@
--- Of all orders of a sheet's no-go boxes just one is valid, if no two boxes are equal and none is on the recovery box (document 02, paper 2). proofs/OneOrder, SomeOrder and
--- EveryOrder prove it.
+-- Of all orders of a sheet's no-go boxes just one is valid, if no two boxes are equal and none is on the recovery box (document 02, papers 2 and 8).
+-- proofs/OneOrder, SomeOrder and EveryOrder prove it.
 use mathlib.Core.Path.{_≡_}
 use mathlib.Core.List.{List}
 use Prim.Native.Nat.{ℕ, _<_}

@@ -7,7 +7,8 @@ use native.Mathlib.Omega.{arith}
 use lib.Dec.{leb}
 use lib.IntN.{ℤ}
 use borrow.Author.Tests.{leb-true, leb-false}
-use Rattle.boxes_spec.specs.Step.{Failure, Result, ok, failed, exhausted}
+use Rattle.boxes_spec.specs.Step.{Result, ok, failed, exhausted}
+use Rattle.boxes_spec.proofs.Stages.{Failed}
 use Rattle.decision_spec.specs.Decision.{Attempt, tried, withNext, attempts, FailedWidth, withFailure, failures, keep, finest, spent, Reply, answered, conclusion, lastReply}
 
 -- ---- the reply
@@ -36,12 +37,7 @@ with-next w (failed why c) next more = by (leb w 1)
     by false = more (tried w (failed why c)) c
 with-next w (exhausted c) next more = refl
 
--- a result that is a failure, and the reply finest at width 1
-pub record Fails (g : Result (List ℤ)) : Type 0 where
-  pub why : Failure
-  pub count : ℕ
-  pub same : g ≡ failed why count
-
+-- the reply finest at width 1
 pub record AnsweredFinest (r : Reply) : Type 0 where
   pub rounds : ℕ
   pub same : r ≡ answered finest 1 rounds
@@ -66,7 +62,7 @@ module _ (attemptAt : ℕ → ℕ → Result (List ℤ)) where
       more (suc fuel) a c′ = last-more a (w / 2) (attemptAt (w / 2) c′) (λ c″. attempts attemptAt fuel (w / 2 / 2) c″)
 
 -- where every attempt fails, the last one is that at width 1
-pub all-fail : (attemptAt : ℕ → ℕ → Result (List ℤ)) → ((w c : ℕ) → 0 < w → Fails (attemptAt w c)) → (fuel w c : ℕ) → 0 < w → w ≤ fuel → AnsweredFinest (replyFrom attemptAt fuel w c)
+pub all-fail : (attemptAt : ℕ → ℕ → Result (List ℤ)) → ((w c : ℕ) → 0 < w → Failed (λ why. Unit {0}) (attemptAt w c)) → (fuel w c : ℕ) → 0 < w → w ≤ fuel → AnsweredFinest (replyFrom attemptAt fuel w c)
 unfolding outcome
 all-fail attemptAt fails zero w c z h = absurd (omega arith)
 all-fail attemptAt fails (suc fuel) w c z h =

@@ -50,7 +50,7 @@ module _ {v : List ℤ} (wf : ValidNumbers v) (j : ℕ) (h : j < boxes v) (share
   never-passes =
       let answer =
       all-fail (λ w c. attempt false 0 v w (recoveryPhases v) (recoveryBox v) c)
-      (λ w c z. let f = fails-at-once w c z in record { why = unsafe (ρ v) (f .swept); count = f .rounds; same = f .fails }) (ρ v) (ρ v) 0 (wf .ρ-low) (omega arith) in
+      (λ w c z. let f = fails-at-once w c z in record { why = unsafe (ρ v) (f .swept); count = f .rounds; same = f .fails; holds = tt }) (ρ v) (ρ v) 0 (wf .ρ-low) (omega arith) in
       record { attempts = λ w c z. fails-at-once w c (omega arith); rounds = answer .rounds; check = answer .same }
 
 pub overlap-fails : OverlapFails
