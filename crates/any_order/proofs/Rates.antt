@@ -16,9 +16,9 @@ use Rattle.sheet_spec.specs.Slots.{N, Row, vars, bands, bandVar, edge, row}
 use Rattle.sheet_spec.specs.Slots as sheet
 use Rattle.sheet_spec.specs.Box.{lo, hi}
 use Rattle.machine_spec.specs.declared.Law.{Law}
-use Rattle.machine_spec.specs.declared.Law.the-variants.{Baseline, Command}
+use Rattle.machine_spec.specs.declared.Law.the-variants.{Baseline, Span}
 use Rattle.machine_spec.specs.Box.{sum, boxOf, side}
-use Rattle.machine_spec.specs.Machine.{machine, cap, bandMeets, safetyEnd, clamp, change}
+use Rattle.machine_spec.specs.Machine.{machine, cap, bandMeets, safetyEnd, spanEnd, clamp, change}
 use Rattle.machine_spec.specs.Rate.{outer, outermost, weighted, bound, bandMet, cutToBand, part, offeredOver, rowOver, neutral, bandRate, rate, neighborhood, faceRate, rates}
 use Rattle.machine_spec.proofs.Box.{set-both, set-two, sides-same}
 
@@ -141,9 +141,9 @@ module _ {v w : List ℤ} (s : AlikeSheets v w) (l : Law) where
     unfolding offeredOver
     offered-same up A B = by l
       where
-        by : (l : Law) → _≡_ {A = ℤ} (elim l [ Baseline ↦ safetyEnd up v k | Command u ↦ u ]) (elim l [ Baseline ↦ safetyEnd up w k | Command u ↦ u ])
+        by : (l : Law) → _≡_ {A = ℤ} (elim l [ Baseline ↦ safetyEnd up v k | Span a b ↦ spanEnd up a b ]) (elim l [ Baseline ↦ safetyEnd up w k | Span a b ↦ spanEnd up a b ])
         by Baseline = s .safety up k h
-        by (Command u) = refl
+        by (Span a b) = refl
 
     part-same : {A B : List ℤ} → AlikeBoxes (vars v) A B → AlikeBoxes (vars v) (part (machine v l) k A) (part (machine w l) k B)
     unfolding part

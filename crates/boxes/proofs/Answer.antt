@@ -27,12 +27,11 @@ use Rattle.boxes_spec.proofs.Ranges.{lawful, start-sized}
 pub record Refusal (v : List ℤ) (ticks w : ℕ) (l : Law) (B : List ℤ) (a : ℕ) : Type 0 where
   pub is : a ≡ reachRefusal v ticks w l B
 
--- what holds of a reach of T ticks at the width w from S that is not refused, on the sheet v under the law k
-pub record Reachable (v : List ℤ) (T w : ℕ) (k : Law) (S : List ℤ) : Type 0 where
+-- what holds of a reach of T ticks at the width w from S that is not refused, on the sheet v
+pub record Reachable (v : List ℤ) (T w : ℕ) (S : List ℤ) : Type 0 where
   pub some : 0 < w
   pub most : w ≤ maxWidth
   pub ticks : T ≤ maxTicks
-  pub law : Lawful v k
   pub start : Sized (vars v) maxSide S
 
 module _ {v : List ℤ} (wf : ValidNumbers v) {ticks w : ℕ} {l : Law} {B : List ℤ} {a : ℕ} (r : Refusal v ticks w l B a) where
@@ -40,12 +39,15 @@ module _ {v : List ℤ} (wf : ValidNumbers v) {ticks w : ℕ} {l : Law} {B : Lis
   unfolding reachOf
   reach-refused n = found-stops refused _ (r .is) n
 
+  pub law-allowed : a ≡ 0 → Lawful v l
+  law-allowed e = lawful v l (reach-passes v ticks w l B (sym (r .is) ∙ e) .law)
+
   -- nothing is refused; the law, the number of variables and the start box as the code has them
   module _ (e : a ≡ 0) {k : Law} (q : k ≡ l) {n : ℕ} (p : n ≡ vars v) {S : List ℤ} (s : S ≡ trim n B) where
     start-is : S ≡ trim (vars v) B
     start-is = s ∙ ap (λ (i : ℕ). trim i B) p
 
-    pub reachable : Reachable v ticks w k S
+    pub reachable : Reachable v ticks w S
     reachable =
         let passes = reach-passes v ticks w l B (sym (r .is) ∙ e) in
         let asked = start-sized (vars v) B (passes .start) in
@@ -53,7 +55,6 @@ module _ {v : List ℤ} (wf : ValidNumbers v) {ticks w : ℕ} {l : Law} {B : Lis
           some = passes .some;
           most = passes .most;
           ticks = passes .few;
-          law = rw q (lawful v l (passes .law));
           start = sized-as start-is (record { near = trim-near (room wf) (asked .near); ordered = inside-ordered (trim-holds (room wf) B) (asked .ordered) });
         }
 

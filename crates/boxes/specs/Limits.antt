@@ -6,7 +6,6 @@ use lib.IntN.{ℤ}
 use Rattle.sheet_spec.specs.Limits.{maxBoxes, maxTicks, maxWidth}
 use Rattle.sheet_spec.specs.Slots.{vars}
 use Rattle.machine_spec.specs.Box.{Sized, trim}
-use Rattle.machine_spec.specs.Accepted.{Lawful}
 use Rattle.boxes_rates.specs.Plant.{Describes}
 use Rattle.boxes_step.specs.Limits.{stepLimit, countLimit}
 use Rattle.boxes.specs.declared.steps.ReachPlan.{ReachPlan}
@@ -14,7 +13,6 @@ use Rattle.boxes.specs.declared.steps.ReachPlan.{ReachPlan}
 -- the plan can be followed on the sheet v
 pub record Followable (p : ReachPlan) (v : List ℤ) : Type 0 where
   pub plant : Describes (p .plant) v
-  pub law : Lawful v (p .plant .law)
   pub boxes : p .boxes ≤ maxBoxes
   pub some : 0 < p .width
   pub most : p .width ≤ maxWidth

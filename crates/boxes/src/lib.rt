@@ -16,8 +16,10 @@ use boxes_shape::compare::trim;
 use boxes_step::Budget;
 use machine_spec::Law;
 use sheet::read_zeroed;
+use sheet_encoding::count;
 use sheet_spec::slots::BOX_SIZE;
 use sheet_spec::slots::SLOTS;
+use sheet_spec::slots::VARS;
 
 // A refusal number, or 0 with the two boxes and the rounds.
 pub struct ReachAnswer {
@@ -49,11 +51,11 @@ pub fn reach_of(
     requires { ⌜ ValidNumbers (now sheet) ⌝ }
     ensures { λ r. ⌜ answerOf r ≡ spec.reachOf (now (sheet .entry)) ticks width law (now (start .entry)) ⌝ }
 {
-    let p = plant(sheet, law);
-    let refusal = reach_refusal(p.n, sheet, ticks, width, law, start);
+    let refusal = reach_refusal(count(sheet, VARS), sheet, ticks, width, law, start);
     if refusal != 0 {
         return refused(refusal);
     }
+    let p = plant(sheet, law);
     let mut end = trim(p.n, start);
     let mut swept = end;
     let free = Budget {

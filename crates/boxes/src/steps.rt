@@ -4,6 +4,7 @@
 ghost use Prim.Native.Nat.{min};
 ghost use mathlib.Core.Path.{_≡_};
 ghost use Rattle.sheet_spec.specs.Valid.{ValidNumbers};
+ghost use Rattle.machine_spec.specs.Accepted.{Lawful};
 ghost use Rattle.boxes_rates.specs.Plant.{Describes};
 ghost use Rattle.boxes.specs.Limits.{ReachAsked, TestedAsked};
 ghost use Rattle.boxes.specs.ReachResult.{ReachDone, TestedDone};
@@ -21,9 +22,9 @@ use sheet_spec::slots::BOX_SIZE;
 use sheet_spec::slots::SLOTS;
 use sheet_spec::slots::VARS;
 
-// The machine of an accepted sheet's value under a law.
+// The machine of an accepted sheet's value under a law that the sheet allows.
 pub fn plant(sheet: &[i32; SLOTS], law: Law) -> Plant
-    requires { ⌜ ValidNumbers (now sheet) ⌝ }
+    requires { ⌜ ValidNumbers (now sheet) × Lawful (now sheet) law ⌝ }
     ensures { λ r. ⌜ (r .law ≡ law) × Describes r (now (sheet .entry)) ⌝ }
 {
     let n = sheet[VARS] as usize;

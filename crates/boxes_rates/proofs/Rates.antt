@@ -6,8 +6,8 @@ use Prim.Native.Nat.{ℕ, _+_}
 use native.Mathlib.Numerals.{add-one}
 use lib.IntN.{ℤ}
 use Rattle.machine_spec.specs.declared.Law.{Law}
-use Rattle.machine_spec.specs.declared.Law.the-variants.{Baseline, Command}
-use Rattle.machine_spec.specs.Machine.{machine, safetyEnd}
+use Rattle.machine_spec.specs.declared.Law.the-variants.{Baseline, Span}
+use Rattle.machine_spec.specs.Machine.{machine, safetyEnd, spanEnd}
 use Rattle.machine_spec.specs.Rate.{outer, outermost, offeredOver}
 
 pub outermost-more : (up : Bool) (z : ℤ) (n : ℕ) (f : ℕ → ℤ) → outermost up z (n + 1) f ≡ outer up (outermost up z n f) (f n)
@@ -21,7 +21,7 @@ module _ {l : Law} (up : Bool) (v : List ℤ) (k : ℕ) (B : List ℤ) where
   unfolding offeredOver
   over-plain e = rw e refl
 
-  -- one command is the least and the greatest
-  pub over-one : {u : ℤ} → l ≡ Command u → offeredOver up (machine v l) k B ≡ u
+  -- in a span its own ends
+  pub over-span : {a b : ℤ} → l ≡ Span a b → offeredOver up (machine v l) k B ≡ spanEnd up a b
   unfolding offeredOver
-  over-one e = rw e refl
+  over-span e = rw e refl

@@ -9,8 +9,10 @@ use Rattle.integers.specs.Bound.{Bound}
 use Rattle.sheet_spec.specs.Limits.{maxTicks, maxCap, maxDivisor, maxEdge}
 use Rattle.sheet_spec.specs.Slots.{N, rowSize, bandSlot, slots, vars, bands, cap, Row, rowAt}
 use Rattle.sheet_spec.specs.Box.{lo, hi}
-use Rattle.sheet_spec.specs.Valid.{Between}
+use Rattle.sheet_spec.specs.Valid.{Between, ValidNumbers}
 use Rattle.machine_spec.specs.Box.{side, Near, Ordered, Sized, within}
+use Rattle.machine_spec.specs.declared.Law.{Law}
+use Rattle.machine_spec.specs.Accepted.{Lawful}
 use Rattle.machine_spec.specs.Machine.{Machine, rowOf, change}
 use Rattle.machine_spec.specs.Rate.{bound, offeredOver, outer, rowOver}
 use Rattle.boxes_arithmetic.specs.Limits.{Capped, limit, word}
@@ -31,10 +33,14 @@ neighborhoodLimit = (maxTicks + 1) * maxCap
 
 -- ---- a row of the sheet
 
--- the place of the side of variable j at which the product with a is the outer one, in a box that is not empty
-unfoldable pub outerPlace : Bool → ℤ → ℕ → ℕ
-outerPlace false a j = cond (ltZ a (pos 0)) (j + N) j
-outerPlace true a j = cond (ltZ a (pos 0)) j (j + N)
+-- of the lower and the upper end of an interval that is not empty the one at which the product with a is the outer one
+unfoldable pub outerEnd : {A : Type 0} → Bool → ℤ → A → A → A
+outerEnd false a l h = cond (ltZ a (pos 0)) h l
+outerEnd true a l h = cond (ltZ a (pos 0)) l h
+
+-- the place of that side of variable j, in a box that is not empty
+abbrev pub outerPlace : Bool → ℤ → ℕ → ℕ
+outerPlace up a j = outerEnd up a j (j + N)
 
 -- a coefficient's products with the sides of variable j of the box B can be bounded
 pub record TermAsked (B : List ℤ) (j : ℕ) : Type 0 where
@@ -47,6 +53,15 @@ pub record RowAsked (n row : ℕ) (B : List ℤ) : Type 0 where
   pub vars : n ≤ N
   pub place : row + rowSize ≤ slots
   pub sides : Sized n limit B
+
+-- the commands that the law l offers in the band at a slot can be bounded, for the row at a slot
+pub record CommandsAsked (v : List ℤ) (l : Law) (row at : ℕ) : Type 0 where
+  pub sheet : ValidNumbers v
+  pub law : Lawful v l
+  pub room : row + rowSize ≤ slots
+  pub band : ℕ
+  pub place : at ≡ bandSlot band
+  pub among : band < bands v
 
 -- t is the outer one of b·u over the commands u that the law offers in the band k at a slot, over any box
 pub record CommandTerm (up : Bool) (m : Machine) (r : Row) (at : ℕ) (t : ℤ) : Type 0 where

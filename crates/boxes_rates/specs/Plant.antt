@@ -8,11 +8,13 @@ use lib.IntN.{ℤ}
 use lib.Signed.{leZ, _≤ℤ_, _<ℤ_}
 use Rattle.sheet_spec.specs.Slots.{_!_, N, bandSlot, vars, bands, bandVar, edge}
 use Rattle.sheet_spec.specs.Valid.{ValidNumbers}
+use Rattle.machine_spec.specs.Accepted.{Lawful}
 use Rattle.boxes_rates.specs.declared.Plant.{Plant}
 
--- the plant has the numbers of v, the value of an accepted sheet: with its law it describes the machine of v under that law
+-- the plant has the numbers of v, the value of an accepted sheet, and a law that v allows: it describes the machine of v under that law
 pub record Describes (p : Plant) (v : List ℤ) : Type 0 where
   pub sheet : ValidNumbers v
+  pub law : Lawful v (p .law)
   pub n : p .n ≡ vars v
   pub bands : p .bands ≡ bands v
   pub var : p .var ≡ bandVar v

@@ -7,15 +7,14 @@ ghost use Rattle.sheet_spec.specs.Slots as slots;
 ghost use Rattle.sheet_spec.specs.Valid.{ValidNumbers};
 ghost use Rattle.machine_spec.specs.Machine.{machine};
 ghost use Rattle.machine_spec.specs.Rate.{faceRate, neighborhood, neutral, rate, rates};
-ghost use Rattle.boxes_rates.specs.Limits.{BandAsked, CommandTerm, NarrowAsked, RateAsked, RatesAsked, RowRated};
+ghost use Rattle.boxes_rates.specs.Limits.{BandAsked, CommandTerm, CommandsAsked, NarrowAsked, RateAsked, RatesAsked, RowRated};
 ghost use Rattle.boxes_rates.specs.Plant.{FirstBand, cutAt, startsBy};
 use crate::Plant;
 use crate::row::bound;
 use crate::row::further;
-use crate::row::product;
+use crate::row::span_term;
 use boxes_arithmetic::max;
 use boxes_arithmetic::min;
-use boxes_arithmetic::outer;
 use machine_spec::Law;
 use sheet_spec::slots::BAND_SIZE;
 use sheet_spec::slots::BOX_SIZE;
@@ -62,7 +61,7 @@ fn neutral(up: bool, cap: i64) -> i64
 
 // The outer one of b·u over the commands u that the law offers in the band at the slot `band`, where b is that of the row at a slot.
 fn command_term(up: bool, law: Law, sheet: &[i32; SLOTS], row: usize, band: usize) -> i64
-    requires { ⌜ (row + slots.rowSize ≤ slots.slots) × (band + slots.bandSize ≤ slots.slots) ⌝ }
+    requires { ⌜ CommandsAsked (now sheet) law row band ⌝ }
     ensures { λ r. ⌜ CommandTerm up (machine (now (sheet .entry)) law) (slots.rowAt (now (sheet .entry)) row) band r ⌝ }
 {
     let slot = row + ROW_B;
@@ -71,13 +70,9 @@ fn command_term(up: bool, law: Law, sheet: &[i32; SLOTS], row: usize, band: usiz
         Law::Baseline => {
             let least = band + SAFETY_LEAST;
             let greatest = band + SAFETY_GREATEST;
-            outer(
-                up,
-                product(coefficient, sheet[least]),
-                product(coefficient, sheet[greatest]),
-            )
+            span_term(up, coefficient, sheet[least], sheet[greatest])
         }
-        Law::Command(u) => product(coefficient, u),
+        Law::Span { least, greatest } => span_term(up, coefficient, least, greatest),
     }
 }
 

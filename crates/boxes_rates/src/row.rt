@@ -4,13 +4,14 @@
 ghost use mathlib.Core.Path.{_≡_};
 ghost use Prim.Native.Nat.{_*_, _<_};
 ghost use lib.IntN.{_*ℤ_};
+ghost use lib.Signed.{_≤ℤ_};
 ghost use Rattle.integers.specs.Bound.{Bound};
 ghost use Rattle.sheet_spec.specs.Slots as slots;
 ghost use Rattle.sheet_spec.specs.Box.{lo, hi};
 ghost use Rattle.machine_spec.specs.Machine.{change};
 ghost use Rattle.machine_spec.specs.Rate.{outer, weighted};
 ghost use Rattle.boxes_arithmetic.specs.Limits.{limit, word};
-ghost use Rattle.boxes_rates.specs.Limits.{ChangeAsked, RowAsked, RowBounded, TermAsked, outerPlace, termLimit};
+ghost use Rattle.boxes_rates.specs.Limits.{ChangeAsked, RowAsked, RowBounded, TermAsked, outerEnd, outerPlace, termLimit};
 use boxes_arithmetic::outer_quotient;
 use sheet_spec::slots::BOX_SIZE;
 use sheet_spec::slots::N;
@@ -58,10 +59,29 @@ fn weighted(up: bool, n: usize, sheet: &[i32; SLOTS], row: usize, over: &[i64; B
 }
 
 // A coefficient times a command.
-pub fn product(coefficient: i32, command: i32) -> i64
+fn product(coefficient: i32, command: i32) -> i64
     ensures { λ r. ⌜ (r ≡ coefficient *ℤ command) × Bound r termLimit ⌝ }
 {
     (coefficient as i64) * (command as i64)
+}
+
+// The end of a span at which a coefficient's product is the outer one.
+fn outer_end(up: bool, coefficient: i32, least: i32, greatest: i32) -> i32
+    ensures { λ r. ⌜ r ≡ outerEnd up coefficient least greatest ⌝ }
+{
+    if up {
+        if coefficient < 0 { least } else { greatest }
+    } else {
+        if coefficient < 0 { greatest } else { least }
+    }
+}
+
+// The outer one of a coefficient's products with the commands of a span.
+pub fn span_term(up: bool, coefficient: i32, least: i32, greatest: i32) -> i64
+    requires { ⌜ least ≤ℤ greatest ⌝ }
+    ensures { λ r. ⌜ (r ≡ outer up (coefficient *ℤ least) (coefficient *ℤ greatest)) × Bound r termLimit ⌝ }
+{
+    product(coefficient, outer_end(up, coefficient, least, greatest))
 }
 
 // The number N of the row at a slot, bounded over the box and over the commands whose outer term is given.

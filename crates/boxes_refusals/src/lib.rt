@@ -1,4 +1,4 @@
-// Why a reach is refused (document 01, "Refused calls"): 16 its ticks or its width, 14 its command, 15 its start box. A question
+// Why a reach is refused (document 01, "Refused calls"): 16 its ticks or its width, 14 its commands, 15 its start box. A question
 // is refused for the last two as well, with the same numbers. The definitions are in boxes_spec/specs/Reach; the sheet's own
 // refusals are in `sheet_spec`.
 ghost use mathlib.Core.Path.{_≡_};
@@ -36,13 +36,16 @@ fn ticks_refusal(ticks: u32, width: u32) -> u8
 pub fn law_refusal(sheet: &[i32; SLOTS], law: Law) -> u8
     ensures { λ r. ⌜ r ≡ lawRefusal (now (sheet .entry)) law ⌝ }
 {
-    let Law::Command(command) = law else {
+    let Law::Span { least, greatest } = law else {
         return 0;
     };
-    if command < sheet[LEAST] {
+    if least < sheet[LEAST] {
         return COMMAND;
     }
-    if sheet[GREATEST] < command {
+    if greatest < least {
+        return COMMAND;
+    }
+    if sheet[GREATEST] < greatest {
         return COMMAND;
     }
     0

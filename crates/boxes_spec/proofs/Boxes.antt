@@ -9,8 +9,7 @@ use Rattle.sheet_spec.specs.Slots.{N}
 use Rattle.sheet_spec.specs.Sheet.{values}
 use Rattle.sheet_spec.specs.SheetA.{fileA}
 use Rattle.sheet_spec.specs.Box.{lo, hi}
-use Rattle.machine_spec.specs.declared.Law.the-variants.{Command}
-use Rattle.machine_spec.specs.Machine.{Machine, machine}
+use Rattle.machine_spec.specs.Machine.{Machine, machine, oneCommand}
 use Rattle.boxes_spec.specs.Step.{lifted, settles, endBox, grown, swept}
 use Rattle.boxes_spec.proofs.Everything.{everything}
 
@@ -19,7 +18,7 @@ abbrev box : ℤ → ℤ → List ℤ
 box l h = (l ∷ replicate (N - 1) (pos 0)) ++ (h ∷ replicate (N - 1) (pos 0))
 
 abbrev m : Machine
-m = machine (values fileA) (Command (pos 25))
+m = machine (values fileA) (oneCommand (pos 25))
 
 abbrev start : List ℤ
 start = box (pos 0) (pos 0)

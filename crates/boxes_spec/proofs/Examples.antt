@@ -1,9 +1,9 @@
 -- The definitions compute: reaches and a step on document 01's sheet A. Assumes nothing.
 use mathlib.Core.Path.{_≡_, refl}
 use mathlib.Core.Bool.{false}
-use mathlib.Core.List.{List, _∷_, _++_}
+use mathlib.Core.List.{List, [], _∷_, _++_, map}
 use Prim.Native.Nat.{ℕ, _-_}
-use lib.IntN.{ℤ, pos}
+use lib.IntN.{ℤ, pos, negsuc}
 use lib.ListN.{replicate}
 use Rattle.sheet_spec.specs.Slots.{N}
 use Rattle.sheet_spec.specs.Sheet.{values}
@@ -11,8 +11,8 @@ use Rattle.sheet_spec.specs.SheetA.{fileA}
 use Rattle.sheet_spec.specs.Refusals.{Cause, number}
 use Rattle.sheet_spec.specs.Box.{clear}
 use Rattle.machine_spec.specs.declared.Law.{Law}
-use Rattle.machine_spec.specs.declared.Law.the-variants.{Baseline, Command}
-use Rattle.machine_spec.specs.Machine.{machine}
+use Rattle.machine_spec.specs.declared.Law.the-variants.{Baseline, Span}
+use Rattle.machine_spec.specs.Machine.{machine, oneCommand}
 use Rattle.boxes_spec.specs.Step.{Result, Step, ok, failed, unsafe}
 use Rattle.boxes_spec.specs.Reach.{Reached, testedStep, reach, Answer, refused, reachFile}
 use Rattle.boxes_spec.proofs.Everything.{everything}
@@ -28,7 +28,7 @@ four l S c = reach false 0 (machine (values fileA) l) (clear 1 (values fileA) 1)
 one : Law → List ℤ → Result Step
 one l S = testedStep false 0 (machine (values fileA) l) (clear 1 (values fileA) 1) 1 S 4 0
 
-after-δ : four (Command (pos 25)) (box (pos 0) (pos 0)) 0 ≡ ok (record { end = box (pos 16) (pos 20); swept = box (pos 0) (pos 20) }) 2
+after-δ : four (oneCommand (pos 25)) (box (pos 0) (pos 0)) 0 ≡ ok (record { end = box (pos 16) (pos 20); swept = box (pos 0) (pos 20) }) 2
 unfolding everything box four
 after-δ = refl
 
@@ -37,9 +37,14 @@ unfolding everything box four
 after-α = refl
 
 -- here the rates hang on where the box is at the last tick but one, and not at the last
-under-24 : four (Command (pos 24)) (box (pos 0) (pos 0)) 0 ≡ ok (record { end = box (pos 16) (pos 20); swept = box (pos 0) (pos 20) }) 2
+under-24 : four (oneCommand (pos 24)) (box (pos 0) (pos 0)) 0 ≡ ok (record { end = box (pos 16) (pos 20); swept = box (pos 0) (pos 20) }) 2
 unfolding everything box four
 under-24 = refl
+
+-- under a span the box goes both ways
+under-span : four (Span (negsuc 24) (pos 24)) (box (pos 0) (pos 0)) 0 ≡ ok (record { end = box (negsuc 19) (pos 20); swept = box (negsuc 19) (pos 20) }) 2
+unfolding everything box four
+under-span = refl
 
 -- a step from 131 ends clear of the no-go box from 130, and its swept box is not clear
 from-131 : one Baseline (box (pos 131) (pos 131)) ≡ failed (unsafe 4 (box (pos 126) (pos 131))) 1
@@ -54,6 +59,14 @@ no-ticks : answers Baseline 1 (box (pos 5) (pos 7)) ≡ record { refusal = 0; en
 unfolding everything box answers
 no-ticks = refl
 
-refusals : (answers (Command (pos 26)) 0 (box (pos 1) (pos 0)) ≡ refused (number Cause.reach)) × (answers (Command (pos 26)) 1 (box (pos 1) (pos 0)) ≡ refused (number Cause.command)) × (answers Baseline 1 (box (pos 1) (pos 0)) ≡ refused (number Cause.start))
+refusals : (answers (oneCommand (pos 26)) 0 (box (pos 1) (pos 0)) ≡ refused (number Cause.reach)) × (answers (oneCommand (pos 26)) 1 (box (pos 1) (pos 0)) ≡ refused (number Cause.command)) × (answers Baseline 1 (box (pos 1) (pos 0)) ≡ refused (number Cause.start))
 unfolding everything box answers
 refusals = (refl, refl, refl)
+
+-- a span is refused where it is reversed, or an end of it is not the head's; the head's commands are one
+spans : List Law → List ℕ
+spans ls = map (λ l. answers l 1 (box (pos 1) (pos 1)) .refusal) ls
+
+span-refusals : spans (Span (negsuc 24) (pos 25) ∷ Span (pos 1) (pos 0) ∷ Span (negsuc 25) (pos 0) ∷ Span (pos 0) (pos 26) ∷ []) ≡ 0 ∷ 14 ∷ 14 ∷ 14 ∷ []
+unfolding everything box answers spans
+span-refusals = refl

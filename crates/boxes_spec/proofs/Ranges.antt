@@ -17,7 +17,7 @@ use Rattle.sheet_spec.specs.Box.{lo, hi, clear}
 use Rattle.machine_spec.specs.Box.{side, Near, Ordered, Sized, trim, hull}
 use Rattle.sheet_spec.specs.Valid.{ValidNumbers}
 use Rattle.machine_spec.specs.declared.Law.{Law}
-use Rattle.machine_spec.specs.declared.Law.the-variants.{Baseline, Command}
+use Rattle.machine_spec.specs.declared.Law.the-variants.{Baseline, Span}
 use Rattle.machine_spec.specs.Machine.{Machine, machine, varsOf, bandsOf, cap, rowOf}
 use Rattle.machine_spec.specs.Accepted.{Lawful, Accepted}
 use Rattle.machine_spec.specs.Rate.{bandMet, part, rowOver, neighborhood}
@@ -159,9 +159,10 @@ reach-ranges k wf s h w z l e = round-ranges wf k (steps-sized wf w s (omega ari
 pub lawful : (v : List ℤ) (l : Law) → lawRefusal v l ≡ 0 → Lawful v l
 unfolding lawRefusal
 lawful v Baseline e = tt
-lawful v (Command u) e =
-    let b = and-both (leZ (leastCommand v) u) (leZ u (greatestCommand v)) (unless-zero _ Cause.command e) in
-    record { low = le-true (leastCommand v) u (b .0); high = le-true u (greatestCommand v) (b .1) }
+lawful v (Span l h) e =
+    let a = and-both (leZ (leastCommand v) l && leZ l h) (leZ h (greatestCommand v)) (unless-zero _ Cause.command e) in
+    let b = and-both (leZ (leastCommand v) l) (leZ l h) (a .0) in
+    record { low = le-true (leastCommand v) l (b .0); order = le-true l h (b .1); high = le-true h (greatestCommand v) (a .1) }
 
 pub sized-by : {n b : ℕ} {B : List ℤ} → ((i : ℕ) → i < n → negℤ (pos b) ≤ℤ lo B i) → Ordered n B → ((i : ℕ) → i < n → hi B i ≤ℤ pos b) → Sized n b B
 sized-by {n} {b} {B} l o u = record { near = record { at = at }; ordered = o }

@@ -16,7 +16,7 @@ use Rattle.sheet_spec.proofs.Box.{and-both}
 use Rattle.sheet_spec.proofs.Laws.{unless-zero, unless-most}
 use Rattle.sheet_spec.proofs.FirstRefusal.{all-pass}
 use Rattle.machine_spec.specs.declared.Law.{Law}
-use Rattle.machine_spec.specs.declared.Law.the-variants.{Baseline, Command}
+use Rattle.machine_spec.specs.declared.Law.the-variants.{Baseline, Span}
 use Rattle.boxes_spec.specs.Reach.{sideIn, lawRefusal, sidesRefusal, ticksRefusal, reachRefusal}
 
 ticks-width : (ticks w : ℕ) → ticksRefusal ticks w ≡ 0 → (ticks ≤ maxTicks) × (0 < w) × (w ≤ maxWidth)
@@ -45,7 +45,7 @@ reach-passes v ticks w l B none =
 pub law-most : (v : List ℤ) (l : Law) → lawRefusal v l ≤ greatestNumber
 unfolding lawRefusal
 law-most v Baseline = omega arith
-law-most v (Command u) = unless-most (leZ (leastCommand v) u && leZ u (greatestCommand v)) Cause.command
+law-most v (Span l h) = unless-most (leZ (leastCommand v) l && leZ l h && leZ h (greatestCommand v)) Cause.command
 
 pub sides-most : (n : ℕ) (B : List ℤ) → sidesRefusal n B ≤ greatestNumber
 unfolding sidesRefusal

@@ -13,7 +13,7 @@ use Rattle.sheet_spec.specs.Sheet.{refusal, values}
 use Rattle.sheet_spec.specs.Box.{lo, hi, all, clear}
 use Rattle.machine_spec.specs.Box.{hull, trim}
 use Rattle.machine_spec.specs.declared.Law.{Law}
-use Rattle.machine_spec.specs.declared.Law.the-variants.{Baseline, Command}
+use Rattle.machine_spec.specs.declared.Law.the-variants.{Baseline, Span}
 use Rattle.machine_spec.specs.Machine.{Machine, machine, varsOf}
 use Rattle.boxes_spec.specs.Step.{Result, ok, failed, exhausted, unsafe, unsettled, andThen, Step, step, swept}
 
@@ -49,10 +49,10 @@ module _ (limited : Bool) (allowance : ℕ) (m : Machine) (clear : List ℤ → 
 
 -- ---- the public reach of a sheet v: no boxes to keep clear of, no allowance
 
--- a command outside the head's
+-- a span that is reversed, or not within the head's commands
 unfoldable pub lawRefusal : List ℤ → Law → ℕ
 lawRefusal v Baseline = 0
-lawRefusal v (Command u) = refuseUnless (leZ (leastCommand v) u && leZ u (greatestCommand v)) Cause.command
+lawRefusal v (Span l h) = refuseUnless (leZ (leastCommand v) l && leZ l h && leZ h (greatestCommand v)) Cause.command
 
 -- a variable's sides: in order and within ±1,000,000
 abbrev pub inRange : ℤ → ℤ → Bool

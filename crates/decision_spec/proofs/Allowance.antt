@@ -9,6 +9,7 @@ use native.Mathlib.Omega.{arith}
 use lib.Dec.{leb}
 use lib.IntN.{ℤ}
 use borrow.Author.Tests.{leb-true, leb-false}
+use Rattle.sheet_spec.specs.Sizes.{boxBytes}
 use Rattle.sheet_spec.specs.Slots.{vars, boxes, δ, α, ρ, recoveryBox}
 use Rattle.sheet_spec.specs.Limits.{maxAllowance, maxTicks, maxWidth}
 use Rattle.sheet_spec.specs.Refusals.{Cause, greatestNumber, unlessRefused}
@@ -28,7 +29,7 @@ use Rattle.boxes_spec.specs.Step.{Result, ok, failed, exhausted}
 use Rattle.boxes_spec.proofs.Refusals.{law-most, sides-most}
 use Rattle.boxes_spec.proofs.Stages.{Counted, Takes, value, failure, spent, counted-none, counted-less, counted-on, takes-map, takes-then, takes-if}
 use Rattle.boxes_spec.proofs.Settled.{reach-takes}
-use Rattle.decision_spec.specs.Question.{questionLength, measured, questionHead, wellFormed, formRefusal, allowanceRefusal, headRefusal, questionRefusal, allowanceOf}
+use Rattle.decision_spec.specs.Question.{measured, questionHead, wellFormed, formRefusal, allowanceRefusal, headRefusal, questionRefusal, allowanceOf}
 use Rattle.decision_spec.specs.declared.Phase.{Phase}
 use Rattle.decision_spec.specs.Decision.{ticksOf, finish, follow, attempt, keep, finest, spent, Reply, refused, answered, decisionPhases, decisionOf, recoveryPhases, recoveryOf, checkRecovery, decide, codeOf, widthOf, roundsOf, packed}
 use Rattle.decision_spec.proofs.Attempts.{outcome, replyFrom, reply-turn}
@@ -142,14 +143,14 @@ module _ {v : List ℤ} (wf : ValidNumbers v) where
 
 -- ---- refusals
 
-head-most : (v : List ℤ) (size : ℕ) (g : List ℕ) → headRefusal v size g ≤ greatestNumber
+head-most : (v : List ℤ) (rest : ℕ) (g : List ℕ) → headRefusal v rest g ≤ greatestNumber
 unfolding headRefusal formRefusal allowanceRefusal
-head-most v size g =
-    first-of-most _ (unless-most (wellFormed size g) Cause.question, (unless-most (leb (allowanceOf g) maxAllowance) Cause.allowance, (law-most v (questionHead g .law), tt)))
+head-most v rest g =
+    first-of-most _ (unless-most (wellFormed rest g) Cause.question, (unless-most (leb (allowanceOf g) maxAllowance) Cause.allowance, (law-most v (questionHead g .law), tt)))
 
 question-most : (v : List ℤ) (g : List ℕ) → questionRefusal v g ≤ greatestNumber
 unfolding questionRefusal
-question-most v g = first-of-most _ (head-most v (questionLength (vars v)) g, (sides-most (vars v) (measured (vars v) g), tt))
+question-most v g = first-of-most _ (head-most v (boxBytes (vars v)) g, (sides-most (vars v) (measured (vars v) g), tt))
 
 unless-answer : {l : Bool} {a : ℕ} (k : ℕ) {r : Reply} → k ≤ greatestNumber → (k ≡ 0 → ReplyBounds l a r) → ReplyBounds l a (unlessRefused k refused r)
 unfolding unlessRefused widthOf roundsOf

@@ -8,7 +8,7 @@ use Rattle.sheet_spec.specs.Slots.{vars, boxes}
 use Rattle.sheet_spec.specs.Box.{lowestPassing, lowestMet}
 use Rattle.sheet_spec.specs.Sheet.{values}
 use Rattle.sheet_spec.specs.SheetA.{fileA}
-use Rattle.machine_spec.specs.declared.Law.the-variants.{Command}
+use Rattle.machine_spec.specs.Machine.{oneCommand}
 use Rattle.boxes_spec.specs.Step.{Failure, unsettled, unsafe, unrecovered}
 use Rattle.decision_spec.specs.Decision.{FailedWidth, failures, decisionAttempts}
 use Rattle.decision_spec.specs.Starred.{interval}
@@ -24,7 +24,7 @@ where-met v unrecovered = []
 abbrev failed : ℕ → ℕ → List (List ℕ)
 failed l h =
     let v = values fileA in
-    map (λ (f : FailedWidth). f .width ∷ where-met v (f .why)) (failures (decisionAttempts true 100 v (interval (pos l) (pos h)) (Command (pos 25))))
+    map (λ (f : FailedWidth). f .width ∷ where-met v (f .why)) (failures (decisionAttempts true 100 v (interval (pos l) (pos h)) (oneCommand (pos 25))))
 
 -- the no-go box starts at 130: the first step meets it
 pub met : failed 128 130 ≡ (4 ∷ 4 ∷ 0 ∷ []) ∷ (2 ∷ 4 ∷ 0 ∷ []) ∷ (1 ∷ 4 ∷ 0 ∷ []) ∷ []

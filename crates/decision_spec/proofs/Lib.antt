@@ -1,3 +1,4 @@
+pub mod Marks
 pub mod Passes
 pub mod Calls
 pub mod ReadWriteCalls
@@ -9,6 +10,7 @@ pub mod Failures
 pub mod Cover
 pub mod Attempt
 pub mod Allowance
+pub mod SpanOfOne
 pub mod Spent
 pub mod Rounds
 pub mod NeverPasses

@@ -21,15 +21,15 @@ use Rattle.sheet_spec.specs.Box.{clear}
 use Rattle.sheet_spec.proofs.Laws.{unless-zero}
 use Rattle.machine_spec.specs.Box.{boxOf, within}
 use Rattle.machine_spec.specs.declared.Law.{Law}
-use Rattle.machine_spec.specs.declared.Law.the-variants.{Command}
 use Rattle.machine_spec.specs.Machine.{machine}
 use Rattle.sheet_spec.proofs.Box.{differ}
 use Rattle.boxes_spec.specs.Step.{Result, ok, failed, exhausted}
 use Rattle.boxes_spec.proofs.Count.{count}
 use Rattle.boxes_spec.proofs.Cut.{Cut, value, failure, spent, CutFrom, cut-value, cut-failure, cut-if, cut-then, reach-cut}
-use Rattle.decision_spec.specs.Question.{commandAt, sidesAt, formRefusal, allowanceRefusal, headRefusal, questionRefusal, allowanceOf, commandOf, pairs, measured}
+use Rattle.decision_spec.specs.Question.{kindOf, commandAt, greatestAt, sidesAt, formRefusal, allowanceRefusal, headRefusal, questionRefusal, allowanceOf, leastOf, greatestOf, pairs, measured, questionHead}
 use Rattle.decision_spec.specs.declared.Phase.{Phase}
 use Rattle.decision_spec.specs.Decision.{finish, follow, attempt, keep, finest, spent, Reply, refused, answered, decisionPhases, decisionWithin, decisionOf, decide, roundsOf}
+use Rattle.decision_spec.proofs.Marks.{greatest-from}
 use Rattle.decision_spec.proofs.Attempts.{outcome, replyFrom, reply-none, reply-turn}
 use Rattle.decision_spec.specs.Spent.{isSpent, CutAt, SpentOnValues, SameButAllowance, SpentOnBytes}
 
@@ -120,20 +120,30 @@ module _ {g g′ : List ℕ} (s : SameButAllowance g g′) where
   same-number : (at : ℕ) → commandAt ≤ at → decoded i32 (drop at g) ≡ decoded i32 (drop at g′)
   same-number at h = ap (decoded i32) (same-from at h)
 
-  same-command : commandOf g ≡ commandOf g′
-  unfolding commandOf
-  same-command = same-number commandAt (omega arith)
+  same-letter : (i : ℕ) → i < letters → getD g i 0 ≡ getD g′ i 0
+  same-letter i h = sym (getD-take letters g i 0 h) ∙ ap (λ (r : List ℕ). getD r i 0) (s .mark) ∙ getD-take letters g′ i 0 h
+
+  same-kind : kindOf g ≡ kindOf g′
+  unfolding kindOf
+  same-kind = rw (same-letter 0 (omega arith), same-letter 1 (omega arith)) refl
+
+  same-least : leastOf g ≡ leastOf g′
+  unfolding leastOf
+  same-least = same-number commandAt (omega arith)
+
+  same-greatest : greatestOf g ≡ greatestOf g′
+  unfolding greatestOf
+  same-greatest = rw same-kind (same-number (greatestAt (kindOf g′)) (greatest-from (kindOf g′)))
 
   same-measured : (n : ℕ) → measured n g ≡ measured n g′
   unfolding measured pairs
-  same-measured n = λ t. boxOf n (λ i. same-number (sidesAt + pairBytes * i) (omega arith) t) (λ i. same-number (sidesAt + pairBytes * i + upperAt) (omega arith) t)
-
-  same-mark : (i : ℕ) → i < letters → getD g i 0 ≡ getD g′ i 0
-  same-mark i h = sym (getD-take letters g i 0 h) ∙ ap (λ (r : List ℕ). getD r i 0) (s .mark) ∙ getD-take letters g′ i 0 h
+  same-measured n =
+      let from = greatest-from (kindOf g′) in
+      rw same-kind (λ t. boxOf n (λ i. same-number (sidesAt (kindOf g′) + pairBytes * i) (omega arith) t) (λ i. same-number (sidesAt (kindOf g′) + pairBytes * i + upperAt) (omega arith) t))
 
   same-refusal : (v : List ℤ) → allowanceRefusal g ≡ allowanceRefusal g′ → questionRefusal v g ≡ questionRefusal v g′
   unfolding questionRefusal headRefusal formRefusal
-  same-refusal v e = rw (s .size, same-mark 0 (omega arith), same-mark 1 (omega arith), e, same-command, same-measured (vars v)) refl
+  same-refusal v e = rw (s .size, same-kind, e, same-least, same-greatest, same-measured (vars v)) refl
 
 -- a smaller allowance is not refused either
 less-allowed : (g g′ : List ℕ) → allowanceOf g < allowanceOf g′ → allowanceRefusal g′ ≡ 0 → allowanceRefusal g ≡ allowanceRefusal g′
@@ -152,5 +162,5 @@ unfolding decide
 spent-on-bytes f g g′ s h e =
     let v = values f in
     unless-cut (refusal f)
-    (rw (same-refusal s v (less-allowed g g′ h e), same-command s, same-measured s (vars v))
-    (unless-cut (questionRefusal v g′) (spent-on-values v (measured (vars v) g′) (Command (commandOf g′)) (allowanceOf g) .1 (allowanceOf g′) h)))
+    (rw (same-refusal s v (less-allowed g g′ h e), same-least s, same-greatest s, same-measured s (vars v))
+    (unless-cut (questionRefusal v g′) (spent-on-values v (measured (vars v) g′) (questionHead g′ .law) (allowanceOf g) .1 (allowanceOf g′) h)))

@@ -5,6 +5,7 @@ pub mod Numbers
 pub mod ReachCall
 pub mod Question
 pub mod Decision
+pub mod SpanOfOne
 pub mod Spent
 pub mod Rounds
 pub mod NeverPasses

@@ -1,13 +1,12 @@
 -- The floor listing (document 01): the program's whole output, as bytes, from the bytes of the two files.
 use mathlib.Core.Bool.{true, false}
 use mathlib.Core.List.{List, [], _∷_, _++_}
-use Prim.Native.Nat.{ℕ, zero, suc, _+_, _/_, _%_, min}
+use Prim.Native.Nat.{ℕ, zero, suc, _+_, _/_, _%_}
 use lib.Dec.{ltb, eqb}
-use lib.IntN.{ℤ}
 use lib.ListN.{length, take, drop}
 use Rattle.sheet_spec.specs.Slots.{vars}
 use Rattle.sheet_spec.specs.Sheet.{values}
-use Rattle.decision_spec.specs.Question.{questionLength}
+use Rattle.decision_spec.specs.Question.{nextLength}
 use Rattle.decision_spec.specs.Decision.{Verdict, keep, finest, spent, Reply, refused, answered, decide, checkRecovery, isKeep}
 
 -- ---- fields
@@ -77,19 +76,14 @@ sheetLine f = (sheetWord ␣ replyText checkWord (checkRecovery f)) ++ (newline 
 unfoldable pub questionLine : List ℕ → ℕ → List ℕ → List ℕ
 questionLine f i g = (digits i ␣ replyText decisionWord (decide f g)) ++ (newline ∷ [])
 
--- how many bytes the next question takes on the sheet v, where g are the bytes still to come: as many as a question on the sheet
--- has, or all that are left if they are fewer
-unfoldable pub nextLength : List ℤ → List ℕ → ℕ
-nextLength v g = min (questionLength (vars v)) (length g)
-
--- the lines of the questions in g, from number i on; a short tail is a question too. The fuel is not used up if it is at least
--- the length of g
+-- the lines of the questions in g, from number i on; a short tail is a question too, and so is what starts with an unknown mark. The fuel
+-- is not used up if it is at least the length of g
 unfoldable pub questionLines : List ℕ → ℕ → ℕ → List ℕ → List ℕ
 questionLines f zero i g = []
 questionLines f (suc fuel) i g =
     elim (eqb (length g) 0) [
       | true ↦ []
-      | false ↦ questionLine f i (take (nextLength (values f) g) g) ++ questionLines f fuel (suc i) (drop (nextLength (values f) g) g)
+      | false ↦ questionLine f i (take (nextLength (vars (values f)) g) g) ++ questionLines f fuel (suc i) (drop (nextLength (vars (values f)) g) g)
     ]
 
 -- the questions follow only after pass

@@ -11,7 +11,8 @@ use Rattle.sheet_spec.specs.Sizes.{boxBytes}
 use Rattle.sheet_spec.specs.Refusals.{unlessRefused, firstOf}
 use Rattle.sheet_spec.specs.Sheet.{values}
 use Rattle.machine_spec.specs.declared.Law.{Law}
-use Rattle.machine_spec.specs.declared.Law.the-variants.{Baseline, Command}
+use Rattle.machine_spec.specs.declared.Law.the-variants.{Baseline}
+use Rattle.machine_spec.specs.Machine.{oneCommand}
 use Rattle.boxes_spec.specs.Reach.{Answer, noBox, reachFile}
 use Rattle.decision_spec.specs.Question.{pairs}
 use Rattle.decision_spec.specs.Call.{refusedCall, roomRefusal}
@@ -35,7 +36,7 @@ module _ (n : ℕ) (a : Answer) (out : List ℕ) where
 
 -- law 0 is the plain law, any other the command u
 unfoldable pub lawOf : ℕ → ℤ → Law
-lawOf law u = cond (eqb law 0) Baseline (Command u)
+lawOf law u = cond (eqb law 0) Baseline (oneCommand u)
 
 unfoldable pub reachAnswer : List ℕ → ℕ → ℕ → ℕ → ℤ → List ℕ → Answer
 reachAnswer f ticks w law u s = reachFile f ticks w (lawOf law u) (startBox (vars (values f)) s)

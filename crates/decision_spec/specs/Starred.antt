@@ -11,8 +11,8 @@ use Rattle.sheet_spec.specs.Sheet.{values}
 use Rattle.sheet_spec.specs.SheetA.{fileA}
 use Rattle.sheet_spec.specs.Box.{lo, hi, meets, clear}
 use Rattle.machine_spec.specs.declared.Law.{Law}
-use Rattle.machine_spec.specs.declared.Law.the-variants.{Baseline, Command}
-use Rattle.machine_spec.specs.Machine.{machine, bandMeets, clamp}
+use Rattle.machine_spec.specs.declared.Law.the-variants.{Baseline}
+use Rattle.machine_spec.specs.Machine.{machine, oneCommand, bandMeets, clamp}
 use Rattle.boxes_spec.specs.Step.{Result, ok, failed, exhausted}
 use Rattle.boxes_spec.specs.Reach.{Reached, reach}
 use Rattle.decision_spec.specs.Decision.{packed, decide, checkRecovery}
@@ -96,7 +96,7 @@ unfoldable pub others : List Check
 others =
     check (floorDiv N131 20 ∷ ceilDiv N131 20 ∷ clamp (pos 5) (floorDiv N131 20) ∷ clamp (pos 5) (ceilDiv N131 20) ∷ [])
     (negsuc 6 ∷ negsuc 5 ∷ negsuc 4 ∷ negsuc 4 ∷ [])
-    ∷ check (reachA (Command (pos 25)) (interval (pos 0) (pos 0)) 0) (pos 16 ∷ pos 20 ∷ number 2)
+    ∷ check (reachA (oneCommand (pos 25)) (interval (pos 0) (pos 0)) 0) (pos 16 ∷ pos 20 ∷ number 2)
     ∷ check (reachA Baseline (interval (pos 16) (pos 20)) 2) (pos 12 ∷ pos 20 ∷ number 4)
     ∷ check (asked (question 0 0 25 0)) (packedAs 2 4 0)
     ∷ check (flag (meets 1 (interval (pos 100) (pos 129)) (interval (pos 130) (pos 2000000)))) (number 0)

@@ -68,7 +68,10 @@ fn law_of(law: u32, command: i32) -> Law
     if law == 0 {
         Law::Baseline
     } else {
-        Law::Command(command)
+        Law::Span {
+            least: command,
+            greatest: command,
+        }
     }
 }
 

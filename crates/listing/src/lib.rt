@@ -6,8 +6,8 @@ ghost use Prim.Native.Nat.{_+_, _-_, _^_, _≤_, _<_};
 ghost use lib.ListN.{length, take, drop};
 ghost use Rattle.sheet_spec.specs.Slots as slots;
 ghost use Rattle.sheet_spec.specs.Sheet.{values};
-ghost use Rattle.decision_spec.specs.Question.{questionLength};
-ghost use Rattle.decision_spec.specs.Listing.{nextLength, questionLine};
+ghost use Rattle.decision_spec.specs.Question.{nextLength};
+ghost use Rattle.decision_spec.specs.Listing.{questionLine};
 ghost use Rattle.listing_text.specs.Limits.{Put, lineRoom};
 ghost use Rattle.listing.specs.Listed.{ListedAs};
 ghost use Rattle.listing.specs.ListingSteps.{sheetStep, questionStep};
@@ -15,6 +15,9 @@ use decision::check_recovery;
 use decision::decide;
 use decision_answers::has_passed;
 use decision_question::LONGEST;
+use decision_question::is_known;
+use decision_question::kind;
+use decision_question::next_length;
 use listing_lines::put_question_line;
 use listing_lines::put_sheet_line;
 use listing_text::LINE;
@@ -56,25 +59,13 @@ pub fn sheet_step(sheet: &[u8], out: &mut [u8; LINE]) -> Listed
     }
 }
 
-// The number of bytes of a question on the sheet.
-fn question_length(sheet: &[u8]) -> usize
-    ensures { λ r. ⌜ (r ≡ questionLength (slots.vars (values (now (sheet .entry))))) × (r ≤ questionLength slots.N) ⌝ }
+// How many of the bytes still to come the next question takes on the sheet.
+fn question_length(sheet: &[u8], bytes: &[u8]) -> usize
+    ensures { λ r. ⌜ (r ≡ nextLength (slots.vars (values (now (sheet .entry)))) (now (bytes .entry))) × (r ≤ length (now (bytes .entry))) ⌝ }
 {
     let mut v = [0i32; SLOTS];
     read_zeroed(sheet, &mut v);
-    decision_question::question_length(count(&v, VARS))
-}
-
-// How many of the bytes still to come the next question takes.
-fn next_length(sheet: &[u8], bytes: &[u8]) -> usize
-    ensures { λ r. ⌜ (r ≡ nextLength (values (now (sheet .entry))) (now (bytes .entry))) × (r ≤ length (now (bytes .entry))) ⌝ }
-{
-    let size = question_length(sheet);
-    if size < bytes.len() {
-        size
-    } else {
-        bytes.len()
-    }
+    next_length(count(&v, VARS), bytes)
 }
 
 // The line of the question with this number.
@@ -84,7 +75,8 @@ fn question_line(sheet: &[u8], ordinal: u64, question: &[u8], out: &mut [u8; LIN
     put_question_line(ordinal, decide(sheet, question), out)
 }
 
-// The step of the next question, on the bytes still to come: as many of them as the longest question has, or all of them.
+// The step of the next question, on the bytes still to come: as many of them as the longest question has, or all of them. No question
+// follows an unknown mark.
 pub fn question_step(sheet: &[u8], before: Progress, bytes: &[u8], out: &mut [u8; LINE]) -> Listed
     requires { ⌜ before .ordinal + 1 < 2 ^ 64 ⌝ }
     ensures { λ r. ⌜ ListedAs (questionStep (now (sheet .entry)) before (now (bytes .entry))) (now (out .entry)) (now (out .exit)) r ⌝ }
@@ -92,11 +84,11 @@ pub fn question_step(sheet: &[u8], before: Progress, bytes: &[u8], out: &mut [u8
 {
     let ordinal = before.ordinal;
     if before.more && 0 < bytes.len() {
-        let taken = next_length(sheet, bytes);
+        let taken = question_length(sheet, bytes);
         let end = question_line(sheet, ordinal, &bytes[0..taken], out);
         let next = Progress {
             ordinal: ordinal + 1,
-            more: true,
+            more: is_known(kind(bytes)),
         };
         return Listed {
             end: end,

@@ -14,7 +14,7 @@ use Rattle.integers.specs.Division.{floorDiv, ceilDiv}
 use Rattle.integers.proofs.Z.{ints, flat, le-true, min-is, max-is}
 use Rattle.integers.proofs.Division.{floor-hi, ceil-lo}
 use Rattle.sheet_spec.specs.Slots.{N, rowAt}
-use Rattle.machine_spec.specs.declared.Law.the-variants.{Baseline}
+use Rattle.machine_spec.specs.declared.Law.the-variants.{Baseline, Span}
 use Rattle.machine_spec.specs.Machine.{Machine, machine, rowOf, offeredAt, clamp, numerator, change, Allowed, Tick}
 use Rattle.machine_spec.proofs.Everything.{everything}
 
@@ -32,6 +32,11 @@ m = machine v Baseline
 commands : (x : List ℤ) → (offeredAt false m 0 x ≡ pos 0) × (offeredAt true m 0 x ≡ pos 1)
 unfolding everything
 commands x = (refl, refl)
+
+-- of a span both ends are offered
+of-span : (x : List ℤ) → (offeredAt false (machine v (Span (pos 2) (pos 3))) 0 x ≡ pos 2) × (offeredAt true (machine v (Span (pos 2) (pos 3))) 0 x ≡ pos 3)
+unfolding everything
+of-span x = (refl, refl)
 
 -- from 0 and 0 to 1 and 0: the first variable's change is allowed under the command 1, the second's under the command 0
 abbrev x : List ℤ

@@ -8,9 +8,9 @@ use lib.IntN.{ℤ, pos, negsuc}
 use lib.ListN.{replicate}
 use Rattle.sheet_spec.specs.Slots.{N, rowSize, rowAt}
 use Rattle.sheet_spec.specs.Box.{meets}
-use Rattle.machine_spec.specs.declared.Law.the-variants.{Baseline, Command}
-use Rattle.machine_spec.specs.Machine.{machine, bandMeets, change}
-use Rattle.machine_spec.specs.Rate.{part, rates}
+use Rattle.machine_spec.specs.declared.Law.the-variants.{Baseline, Span}
+use Rattle.machine_spec.specs.Machine.{machine, oneCommand, bandMeets, change}
+use Rattle.machine_spec.specs.Rate.{bound, part, rates}
 use Rattle.machine_spec.proofs.Everything.{everything}
 
 pub zeros : ℕ → List ℤ
@@ -65,9 +65,26 @@ under-baseline : rates (machine v Baseline) (box (negsuc 19) (pos 10)) 2 (box (n
 unfolding everything zeros box band v
 under-baseline = refl
 
-under-command : rates (machine v (Command (pos 5))) (box (negsuc 19) (pos 10)) 2 (box (negsuc 69) (pos 60)) ≡ box (negsuc 7) (pos 12)
+under-command : rates (machine v (oneCommand (pos 5))) (box (negsuc 19) (pos 10)) 2 (box (negsuc 69) (pos 60)) ≡ box (negsuc 7) (pos 12)
 unfolding everything zeros box band v
 under-command = refl
+
+-- a span of commands: the lower face goes by one end of it, the upper by the other
+under-span : rates (machine v (Span (negsuc 4) (pos 5))) (box (negsuc 19) (pos 10)) 2 (box (negsuc 69) (pos 60)) ≡ box (negsuc 13) (pos 12)
+unfolding everything zeros box band v
+under-span = refl
+
+-- the outer one of b·u over the commands from −5 to 7
+term : ℤ → Bool → ℤ
+term b up = bound up 0 (rowAt (zeros N ++ (b ∷ zeros 3)) 0) [] (negsuc 4) (pos 7)
+
+rising : (term (pos 4) false ≡ negsuc 19) × (term (pos 4) true ≡ pos 28)
+unfolding everything zeros term
+rising = (refl, refl)
+
+falling : (term (negsuc 3) false ≡ negsuc 27) × (term (negsuc 3) true ≡ pos 20)
+unfolding everything zeros term
+falling = (refl, refl)
 
 -- a sheet's value with edges −2,000,000, −10 and 10: of −20..30 the parts −20..−11, −10..9 and 10..30 lie in its bands
 v′ : List ℤ

@@ -3,14 +3,14 @@ use mathlib.Core.List.{List}
 use mathlib.Core.Bool.{Bool, true, false}
 use Prim.Native.Nat.{ℕ, _<_}
 use lib.IntN.{ℤ}
-use lib.Signed.{_≤ℤ_, ≤ℤ-refl}
+use lib.Signed.{_≤ℤ_}
 use Rattle.integers.specs.Bound.{Bound}
 use Rattle.integers.proofs.Z.{ints, bound-in}
 use Rattle.sheet_spec.specs.Limits.{maxCommand}
 use Rattle.sheet_spec.specs.Slots.{bands, leastCommand, greatestCommand}
 use Rattle.sheet_spec.specs.Valid.{Between, ValidNumbers}
 use Rattle.machine_spec.specs.declared.Law.{Law}
-use Rattle.machine_spec.specs.declared.Law.the-variants.{Baseline, Command}
+use Rattle.machine_spec.specs.declared.Law.the-variants.{Baseline, Span}
 use Rattle.machine_spec.specs.Box.{Ordered, In}
 use Rattle.machine_spec.specs.Machine.{Machine, machine, varsOf, bandsOf, offeredAt, Offered}
 use Rattle.machine_spec.specs.Accepted.{Lawful, Accepted}
@@ -39,7 +39,7 @@ module _ {v : List ℤ} (wf : ValidNumbers v) (k : ℕ) (h : k < bands v) where
   ordered-at : (l : Law) → Lawful v l → (x : List ℤ) → offeredAt false (machine v l) k x ≤ℤ offeredAt true (machine v l) k x
   unfolding offeredAt
   ordered-at Baseline t x = wf .safety k h
-  ordered-at (Command u) t x = ≤ℤ-refl u
+  ordered-at (Span a b) t x = omega (ints, t .order)
 
   head-near : {u : ℤ} → Between (leastCommand v) (greatestCommand v) u → Bound u maxCommand
   head-near b = bound-in (omega (ints, wf .commands-low, b .low)) (omega (ints, wf .commands-high, b .high))
@@ -48,7 +48,8 @@ module _ {v : List ℤ} (wf : ValidNumbers v) (k : ℕ) (h : k < bands v) where
   unfolding offeredOver
   near-over Baseline t false B = head-near (record { low = wf .safety-low k h; high = omega (ints, wf .safety k h, wf .safety-high k h) })
   near-over Baseline t true B = head-near (record { low = omega (ints, wf .safety-low k h, wf .safety k h); high = wf .safety-high k h })
-  near-over (Command u) t up B = head-near t
+  near-over (Span a b) t false B = head-near (record { low = t .low; high = omega (ints, t .order, t .high) })
+  near-over (Span a b) t true B = head-near (record { low = omega (ints, t .low, t .order); high = t .high })
 
 module _ {m : Machine} (wf : Accepted m) (k : ℕ) (h : k < bandsOf m) where
   -- some command is offered at every state

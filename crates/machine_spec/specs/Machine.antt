@@ -13,7 +13,7 @@ use Rattle.sheet_spec.specs.Slots.{_!_, Row, vars, bands, bandVar, row}
 use Rattle.sheet_spec.specs.Slots as sheet
 use Rattle.sheet_spec.specs.Valid.{Between}
 use Rattle.machine_spec.specs.declared.Law.{Law}
-use Rattle.machine_spec.specs.declared.Law.the-variants.{Baseline, Command}
+use Rattle.machine_spec.specs.declared.Law.the-variants.{Baseline, Span}
 use Rattle.machine_spec.specs.Box.{sum}
 
 -- a sheet's machine under a law
@@ -58,9 +58,19 @@ abbrev pub safetyEnd : Bool → List ℤ → ℕ → ℤ
 safetyEnd false v k = sheet.safetyLeast v k
 safetyEnd true v k = sheet.safetyGreatest v k
 
--- the least and the greatest command that the law offers in band k at the state x: under the plain law those of the safety range
+-- the least and the greatest of the commands from l to h
+abbrev pub spanEnd : Bool → ℤ → ℤ → ℤ
+spanEnd false l h = l
+spanEnd true l h = h
+
+-- one command is a span of one
+abbrev pub oneCommand : ℤ → Law
+oneCommand u = Span u u
+
+-- the least and the greatest command that the law offers in band k at the state x: under the plain law those of the safety range, in a
+-- span its own, whatever the band (document 02, paper 4)
 unfoldable pub offeredAt : Bool → Machine → ℕ → List ℤ → ℤ
-offeredAt up m k x = elim (m .law) [ Baseline ↦ safetyEnd up (m .sheet) k | Command u ↦ u ]
+offeredAt up m k x = elim (m .law) [ Baseline ↦ safetyEnd up (m .sheet) k | Span l h ↦ spanEnd up l h ]
 
 -- the law offers the command u there
 abbrev pub Offered : Machine → ℕ → List ℤ → ℤ → Type 0

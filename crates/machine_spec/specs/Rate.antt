@@ -9,9 +9,9 @@ use lib.ListN.{set}
 use Rattle.integers.specs.Order.{minZ, maxZ}
 use Rattle.sheet_spec.specs.Slots.{N, Row, edge}
 use Rattle.sheet_spec.specs.Box.{lo, hi}
-use Rattle.machine_spec.specs.declared.Law.the-variants.{Baseline, Command}
+use Rattle.machine_spec.specs.declared.Law.the-variants.{Baseline, Span}
 use Rattle.machine_spec.specs.Box.{sum, boxOf}
-use Rattle.machine_spec.specs.Machine.{Machine, varsOf, bandsOf, bandVarOf, cap, rowOf, bandMeets, safetyEnd, change}
+use Rattle.machine_spec.specs.Machine.{Machine, varsOf, bandsOf, bandVarOf, cap, rowOf, bandMeets, safetyEnd, spanEnd, change}
 
 -- ---- rates over a box
 
@@ -49,7 +49,7 @@ part m k B =
 
 -- bounds of the least and of the greatest command that the law offers in band k, over the states of a box
 unfoldable pub offeredOver : Bool → Machine → ℕ → List ℤ → ℤ
-offeredOver up m k B = elim (m .law) [ Baseline ↦ safetyEnd up (m .sheet) k | Command u ↦ u ]
+offeredOver up m k B = elim (m .law) [ Baseline ↦ safetyEnd up (m .sheet) k | Span l h ↦ spanEnd up l h ]
 
 -- the number N of band k's row for variable i, bounded over a box and over the commands that the law offers there
 abbrev pub rowOver : Bool → Machine → List ℤ → ℕ → ℕ → ℤ

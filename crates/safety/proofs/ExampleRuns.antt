@@ -1,4 +1,5 @@
--- There are runs: one on sheet A, and one on a sheet of two variables and two bands where α is no multiple of δ. Assumes nothing.
+-- There are runs: one on sheet A, one on a sheet of two variables and two bands where α is no multiple of δ, and one on sheet A in which a
+-- kept span's command changes at every tick. Assumes nothing.
 use mathlib.Core.Path.{_≡_, refl}
 use mathlib.Core.List.{List, [], _∷_, _++_}
 use mathlib.Core.Option.{none, some}
@@ -26,6 +27,10 @@ sidesBytes (z ∷ zs) = encode w32 z ++ sidesBytes zs
 -- a period with a question: allowance, command, and the measured box's lower and upper sides in turn
 unfoldable pub ask : ℕ → ℤ → List ℤ → Period
 ask allowance u sides = some (81 ∷ 83 ∷ beBytes 4 allowance ++ (encode w32 u ++ sidesBytes sides))
+
+-- the same with a span of commands, by its least and its greatest
+unfoldable pub askSpan : ℕ → ℤ → ℤ → List ℤ → Period
+askSpan allowance least greatest sides = some (81 ∷ 82 ∷ beBytes 4 allowance ++ (encode w32 least ++ (encode w32 greatest ++ sidesBytes sides)))
 
 unfoldable pub replies : List ℕ → List Period → List Reply
 replies f [] = []
@@ -91,10 +96,28 @@ momentsB =
 unfoldable pub statesB : ℕ → List ℤ
 statesB = states (pos 18 ∷ pos 3 ∷ []) momentsB
 
+-- ---- sheet A: a kept span, no question, a reversed span, another one kept
+
+unfoldable pub periodsC : List Period
+periodsC =
+    askSpan 100 (negsuc 24) (pos 25) (pos 0 ∷ pos 0 ∷ []) ∷ none ∷ askSpan 100 (pos 25) (negsuc 24) (pos 0 ∷ pos 0 ∷ [])
+    ∷ askSpan 100 (pos 0) (pos 25) (negsuc 9 ∷ pos 10 ∷ []) ∷ []
+
+-- a span's command is another one at every tick
+unfoldable pub momentsC : List Moment
+momentsC =
+    by 0 (negsuc 24) (negsuc 4 ∷ []) ∷ by 0 (pos 25) (pos 0 ∷ []) ∷ by 0 (negsuc 19) (negsuc 3 ∷ []) ∷ by 0 (pos 20) (pos 1 ∷ [])
+    ∷ by 0 (pos 0) (pos 1 ∷ []) ∷ by 0 (pos 0) (pos 0 ∷ []) ∷ by 0 (pos 0) (pos 0 ∷ []) ∷ by 0 (pos 0) (pos 0 ∷ [])
+    ∷ by 0 (pos 0) (pos 0 ∷ []) ∷ by 0 (pos 0) (pos 0 ∷ []) ∷ by 0 (pos 0) (pos 0 ∷ []) ∷ by 0 (pos 0) (pos 0 ∷ [])
+    ∷ by 0 (pos 25) (pos 5 ∷ []) ∷ by 0 (pos 0) (pos 4 ∷ []) ∷ by 0 (pos 25) (pos 9 ∷ []) ∷ by 0 (pos 5) (pos 10 ∷ []) ∷ []
+
+unfoldable pub statesC : ℕ → List ℤ
+statesC = states (pos 0 ∷ []) momentsC
+
 -- ---- all of it computes
 
 unfoldable pub opened : ℕ
-unfolding everything encode sidesBytes ask replies periodsA momentsA statesA bandB boxB fileB periodsB momentsB statesB states allows ticks follows holds measures runs
+unfolding everything encode sidesBytes ask askSpan replies periodsA momentsA statesA bandB boxB fileB periodsB momentsB statesB periodsC momentsC statesC states allows ticks follows holds measures runs
 opened = 0
 
 repliesA : replies fileA periodsA ≡ answered keep 4 4 ∷ answered spent 4 4 ∷ answered finest 1 5 ∷ refused (number Cause.command) ∷ answered keep 4 4 ∷ []
@@ -105,6 +128,10 @@ repliesB : checkRecovery fileB ∷ replies fileB periodsB ≡ answered keep 1 10
 unfolding opened
 repliesB = refl
 
+repliesC : replies fileA periodsC ≡ answered keep 4 4 ∷ refused (number Cause.command) ∷ answered keep 4 4 ∷ []
+unfolding opened
+repliesC = refl
+
 pub runA : Run fileA periodsA statesA
 unfolding opened
 runA = runs-run fileA periodsA (pos 0 ∷ []) momentsA refl
@@ -112,3 +139,7 @@ runA = runs-run fileA periodsA (pos 0 ∷ []) momentsA refl
 pub runB : Run fileB periodsB statesB
 unfolding opened
 runB = runs-run fileB periodsB (pos 18 ∷ pos 3 ∷ []) momentsB refl
+
+pub runC : Run fileA periodsC statesC
+unfolding opened
+runC = runs-run fileA periodsC (pos 0 ∷ []) momentsC refl

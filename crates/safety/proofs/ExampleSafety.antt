@@ -10,12 +10,12 @@ use Rattle.sheet_spec.specs.Sheet.{values}
 use Rattle.sheet_spec.specs.SheetA.{fileA}
 use Rattle.machine_spec.specs.Box.{In}
 use Rattle.machine_spec.specs.declared.Law.{Law}
-use Rattle.machine_spec.specs.declared.Law.the-variants.{Baseline, Command}
+use Rattle.machine_spec.specs.declared.Law.the-variants.{Baseline, Span}
 use Rattle.sheet_spec.proofs.Box.{differ, all-at}
 use Rattle.safety.specs.Run.{lawAt, Safe}
 use Rattle.safety.proofs.Run.{safe-runs}
 use Rattle.safety.proofs.RunTest.{holds-in}
-use Rattle.safety.proofs.ExampleRuns.{periodsA, statesA, fileB, periodsB, statesB, opened, runA, runB}
+use Rattle.safety.proofs.ExampleRuns.{periodsA, statesA, fileB, periodsB, statesB, periodsC, statesC, opened, runA, runB, runC}
 
 safeA : Safe fileA periodsA statesA
 unfolding opened
@@ -24,6 +24,10 @@ safeA = safe-runs fileA tt periodsA statesA (holds-in 1 (recoveryBox (values fil
 safeB : Safe fileB periodsB statesB
 unfolding opened
 safeB = safe-runs fileB tt periodsB statesB (holds-in 2 (recoveryBox (values fileB)) (statesB 0) refl) runB
+
+safeC : Safe fileA periodsC statesC
+unfolding opened
+safeC = safe-runs fileA tt periodsC statesC (holds-in 1 (recoveryBox (values fileA)) (statesC 0) refl) runC
 
 -- sheet A's no-go box holds 130, but neither the first state of the run nor the last, after tick 28
 forbiddenA : In 1 (unsafeBox (values fileA) 0) (pos 130 ∷ [])
@@ -45,11 +49,11 @@ clearB = (safeB .safe 0 (lit≤ tt) 0 (lit< tt), safeB .safe 12 (lit≤ tt) 0 (l
 
 abbrev plain : Law → Bool
 plain Baseline = true
-plain (Command u) = false
+plain (Span a b) = false
 
 plain-is : (l : Law) → plain l ≡ true → l ≡ Baseline
 plain-is Baseline e = refl
-plain-is (Command u) e = absurd (differ e refl)
+plain-is (Span a b) e = absurd (differ e refl)
 
 -- the α ticks after the kept period end at tick 8, inside the third period
 backB : In 2 (recoveryBox (values fileB)) (statesB 8)

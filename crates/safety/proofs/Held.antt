@@ -16,14 +16,14 @@ use Rattle.sheet_spec.specs.Slots.{_!_, vars, δ, α, ρ, recoveryBox}
 use Rattle.sheet_spec.specs.Valid.{ValidNumbers}
 use Rattle.machine_spec.specs.Box.{Sized, In}
 use Rattle.machine_spec.specs.declared.Law.{Law}
-use Rattle.machine_spec.specs.declared.Law.the-variants.{Baseline, Command}
+use Rattle.machine_spec.specs.declared.Law.the-variants.{Baseline}
 use Rattle.machine_spec.specs.Accepted.{Lawful}
 use Rattle.machine_spec.specs.Machine.{machine, Tick}
 use Rattle.machine_spec.specs.Rate.{neutral}
 use Rattle.machine_spec.proofs.Sound.{cap-bounds}
 use Rattle.boxes_spec.proofs.Sound.{Ticks}
 use Rattle.boxes_spec.proofs.Ranges.{lawful, start-sized, recovery-sized}
-use Rattle.decision_spec.specs.Question.{questionOf, questionRefusal, allowanceOf, commandOf, measured}
+use Rattle.decision_spec.specs.Question.{questionOf, questionHead, questionRefusal, allowanceOf, measured}
 use Rattle.decision_spec.specs.Decision.{recoveryOf, decisionTo, isKeep}
 use Rattle.decision_spec.proofs.Passes.{question-passes}
 use Rattle.decision_spec.proofs.Cover.{Covered}
@@ -75,16 +75,16 @@ hold {x} few s b c = record {
     between (pos n) a b h k = omega ints
     between (negsuc n) a b h k = omega ints
 
--- the command of a question that is not refused
-pub command-lawful : (v : List ℤ) (g : List ℕ) → questionRefusal v g ≡ 0 → Lawful v (Command (commandOf g))
-command-lawful v g e = lawful v (Command (commandOf g)) (question-passes v g e .head .law)
+-- the law of a question that is not refused
+pub question-lawful : (v : List ℤ) (g : List ℕ) → questionRefusal v g ≡ 0 → Lawful v (questionHead g .law)
+question-lawful v g e = lawful v (questionHead g .law) (question-passes v g e .head .law)
 
 pub keep-held : {v x : List ℤ} (g : List ℕ) → ValidNumbers v → questionRefusal v g ≡ 0
     → T (isKeep (decisionTo v (questionOf (vars v) g))) → In (vars v) (measured (vars v) g) x
-    → Held v (replicate (δ v) (Command (commandOf g)) ++ replicate (α v) Baseline) x
+    → Held v (replicate (δ v) (questionHead g .law) ++ replicate (α v) Baseline) x
 keep-held {v} g wf e t b =
-    let few : length (replicate (δ v) (Command (commandOf g)) ++ replicate (α v) Baseline) ≤ maxTicks = simp (length-append, length-replicate) (wf .sum-high) in
-    hold few (start-sized (vars v) (measured (vars v) g) (question-passes v g e .start)) b (decision-sound wf (Command (commandOf g)) (allowanceOf g) t b)
+    let few : length (replicate (δ v) (questionHead g .law) ++ replicate (α v) Baseline) ≤ maxTicks = simp (length-append, length-replicate) (wf .sum-high) in
+    hold few (start-sized (vars v) (measured (vars v) g) (question-passes v g e .start)) b (decision-sound wf (questionHead g .law) (allowanceOf g) t b)
 
 -- ---- the way back to the recovery box
 

@@ -7,3 +7,4 @@ pub mod Progress
 mod RunTest
 pub mod ExampleRuns
 mod ExampleSafety
+mod ExampleSpans

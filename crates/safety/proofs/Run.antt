@@ -17,7 +17,7 @@ use Rattle.sheet_spec.specs.Valid.{ValidNumbers}
 use Rattle.sheet_spec.proofs.Valid.{valid-numbers}
 use Rattle.machine_spec.specs.Box.{In}
 use Rattle.machine_spec.specs.declared.Law.{Law}
-use Rattle.machine_spec.specs.declared.Law.the-variants.{Baseline, Command}
+use Rattle.machine_spec.specs.declared.Law.the-variants.{Baseline, Span}
 use Rattle.machine_spec.specs.Accepted.{Lawful}
 use Rattle.machine_spec.specs.Machine.{machine, Tick}
 use Rattle.decision_spec.specs.Decision.{checkRecovery, decide, isKeep}
@@ -25,12 +25,12 @@ use Rattle.safety.specs.Run.{Period, kept, periodLaw, lawAt, Measured, R
 use Rattle.decision_spec.proofs.Cover.{Covered}
 use Rattle.safety.proofs.Acting.{law-at}
 use Rattle.decision_spec.proofs.Attempt.{check-keep, decide-keep}
-use Rattle.safety.proofs.Held.{Held, held-tick, held-returns, command-lawful, keep-held, Returning, recovered, returning, returning-tick}
+use Rattle.safety.proofs.Held.{Held, held-tick, held-returns, question-lawful, keep-held, Returning, recovered, returning, returning-tick}
 
 -- what is known of the state x in a period under the law l, of which `left` ticks are to come
 unfoldable pub Backed : List ℤ → Law → ℕ → List ℤ → Type 0
 Backed v Baseline left x = Returning v x
-Backed v (Command u) left x = Held v (replicate left (Command u) ++ replicate (α v) Baseline) x
+Backed v (Span a b) left x = Held v (replicate left (Span a b) ++ replicate (α v) Baseline) x
 
 -- the state is held by the laws of one or more ticks
 pub record Guarded (v x : List ℤ) : Type 0 where
@@ -44,7 +44,7 @@ returning-guarded r = record { law = Baseline; later = replicate (r .left) Basel
 pub backed-guarded : {v x : List ℤ} (l : Law) (left : ℕ) → Backed v l (suc left) x → Guarded v x
 unfolding Backed
 backed-guarded Baseline left r = returning-guarded r
-backed-guarded {v} (Command u) left s = record { law = Command u; later = replicate left (Command u) ++ replicate (α v) Baseline; held = s }
+backed-guarded {v} (Span a b) left s = record { law = Span a b; later = replicate left (Span a b) ++ replicate (α v) Baseline; held = s }
 
 choose : {A : Type 0} (P : A → Type 0) (t : Bool) (x y : A) → (T t → P x) → (T (not t) → P y) → P (elim t [ true ↦ x | false ↦ y ])
 choose P true x y f g = f tt
@@ -54,7 +54,7 @@ choose P false x y f g = g tt
 pub period-lawful : (f : List ℕ) (q : Period) → Lawful (values f) (periodLaw f q)
 unfolding periodLaw kept
 period-lawful f none = tt
-period-lawful f (some g) = choose (Lawful (values f)) (isKeep (decide f g)) _ _ (λ t. command-lawful (values f) g (decide-keep f g t .0)) (λ n. tt)
+period-lawful f (some g) = choose (Lawful (values f)) (isKeep (decide f g)) _ _ (λ t. question-lawful (values f) g (decide-keep f g t .0)) (λ n. tt)
 
 -- a sheet that passed
 module _ (f : List ℕ) (passed : T (isKeep (checkRecovery f))) where
@@ -73,12 +73,12 @@ module _ (f : List ℕ) (passed : T (isKeep (checkRecovery f))) where
   pub backed-tick : {x y : List ℤ} (l : Law) (left : ℕ) → Backed (values f) l (suc left) x → Tick (machine (values f) l) x y → Backed (values f) l left y
   unfolding Backed
   backed-tick Baseline left r t = returning-tick wf (check-keep f passed .1) r t
-  backed-tick (Command u) left s t = held-tick wf s t
+  backed-tick (Span a b) left s t = held-tick wf s t
 
   ends : {x : List ℤ} (l : Law) → Backed (values f) l 0 x → Returning (values f) x
   unfolding Backed
   ends Baseline r = r
-  ends (Command u) s = returning wf (check-keep f passed .1) (α (values f)) (omega arith) s
+  ends (Span a b) s = returning wf (check-keep f passed .1) (α (values f)) (omega arith) s
 
   -- after a kept period α ticks of the plain law are left
   kept-ends : {x : List ℤ} (q : Period) → T (kept f q) → Backed (values f) (periodLaw f q) 0 x → Held (values f) (replicate (α (values f)) Baseline) x

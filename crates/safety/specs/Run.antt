@@ -11,9 +11,9 @@ use Rattle.sheet_spec.specs.Slots.{vars, boxes, δ, α, recoveryBox, unsafeBox}
 use Rattle.sheet_spec.specs.Sheet.{refusal, values}
 use Rattle.machine_spec.specs.Box.{In}
 use Rattle.machine_spec.specs.declared.Law.{Law}
-use Rattle.machine_spec.specs.declared.Law.the-variants.{Baseline, Command}
+use Rattle.machine_spec.specs.declared.Law.the-variants.{Baseline}
 use Rattle.machine_spec.specs.Machine.{machine, Tick}
-use Rattle.decision_spec.specs.Question.{commandOf, measured}
+use Rattle.decision_spec.specs.Question.{measured, questionHead}
 use Rattle.decision_spec.specs.Decision.{isKeep, decide, checkRecovery}
 
 -- a period has a question's bytes, or none
@@ -25,10 +25,11 @@ unfoldable pub kept : List ℕ → Period → Bool
 kept f none = false
 kept f (some g) = isKeep (decide f g)
 
--- the law that acts at each tick of a period: the question's command if it is kept, else the plain law
+-- the law that acts at each tick of a period: if its question is kept, the question's span, of which any command may act at each tick
+-- (document 02, paper 4), else the plain law
 unfoldable pub periodLaw : List ℕ → Period → Law
 periodLaw f none = Baseline
-periodLaw f (some g) = elim (kept f (some g)) [ true ↦ Command (commandOf g) | false ↦ Baseline ]
+periodLaw f (some g) = elim (kept f (some g)) [ true ↦ questionHead g .law | false ↦ Baseline ]
 
 -- the law of each tick of the run: δ ticks a period
 unfoldable pub acting : List ℕ → List Period → List Law

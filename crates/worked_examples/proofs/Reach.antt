@@ -7,7 +7,8 @@ use lib.IntN.{ℤ, pos, negsuc}
 use lib.ListN.{take}
 use lib.Seq.{sets}
 use Rattle.sheet_spec.specs.SheetA.{fileA}
-use Rattle.machine_spec.specs.declared.Law.the-variants.{Baseline, Command}
+use Rattle.machine_spec.specs.declared.Law.the-variants.{Baseline}
+use Rattle.machine_spec.specs.Machine.{oneCommand}
 use Rattle.boxes_spec.specs.Reach.{Answer, refused, reachFile}
 use Rattle.boxes_spec.proofs.Everything.{everything}
 
@@ -55,7 +56,7 @@ sheet8 = 83 ∷ 72 ∷ 2 ∷ 3 ∷ 1 ∷ 1 ∷ 0 ∷ 1 ∷ 0 ∷ 1 ∷ 0 ∷ 1 �
 unfoldable sheet9 : List ℕ
 sheet9 = 83 ∷ 72 ∷ 2 ∷ 3 ∷ 1 ∷ 1 ∷ 0 ∷ 1 ∷ 0 ∷ 1 ∷ 0 ∷ 1 ∷ 0 ∷ 0 ∷ 0 ∷ 0 ∷ 0 ∷ 0 ∷ 0 ∷ 0 ∷ 0 ∷ 5 ∷ 0 ∷ 5 ∷ 66 ∷ 68 ∷ 255 ∷ 225 ∷ 123 ∷ 128 ∷ 0 ∷ 0 ∷ 0 ∷ 0 ∷ 0 ∷ 0 ∷ 0 ∷ 0 ∷ 0 ∷ 0 ∷ 0 ∷ 7 ∷ 0 ∷ 0 ∷ 255 ∷ 255 ∷ 255 ∷ 253 ∷ 0 ∷ 0 ∷ 0 ∷ 4 ∷ 0 ∷ 7 ∷ 0 ∷ 0 ∷ 0 ∷ 0 ∷ 0 ∷ 0 ∷ 0 ∷ 0 ∷ 0 ∷ 2 ∷ 0 ∷ 0 ∷ 0 ∷ 0 ∷ 0 ∷ 2 ∷ 66 ∷ 68 ∷ 255 ∷ 255 ∷ 255 ∷ 254 ∷ 0 ∷ 0 ∷ 0 ∷ 0 ∷ 0 ∷ 0 ∷ 0 ∷ 0 ∷ 0 ∷ 0 ∷ 0 ∷ 3 ∷ 0 ∷ 0 ∷ 0 ∷ 0 ∷ 0 ∷ 0 ∷ 0 ∷ 0 ∷ 0 ∷ 0 ∷ 0 ∷ 3 ∷ 0 ∷ 0 ∷ 0 ∷ 0 ∷ 0 ∷ 0 ∷ 0 ∷ 0 ∷ 0 ∷ 2 ∷ 0 ∷ 0 ∷ 0 ∷ 0 ∷ 0 ∷ 2 ∷ 66 ∷ 68 ∷ 0 ∷ 0 ∷ 0 ∷ 3 ∷ 0 ∷ 0 ∷ 0 ∷ 0 ∷ 0 ∷ 0 ∷ 0 ∷ 0 ∷ 0 ∷ 0 ∷ 0 ∷ 9 ∷ 0 ∷ 0 ∷ 255 ∷ 255 ∷ 255 ∷ 251 ∷ 0 ∷ 0 ∷ 0 ∷ 5 ∷ 0 ∷ 9 ∷ 0 ∷ 0 ∷ 0 ∷ 0 ∷ 0 ∷ 0 ∷ 0 ∷ 0 ∷ 0 ∷ 2 ∷ 0 ∷ 0 ∷ 0 ∷ 0 ∷ 0 ∷ 2 ∷ 78 ∷ 71 ∷ 0 ∷ 0 ∷ 1 ∷ 244 ∷ 0 ∷ 0 ∷ 2 ∷ 88 ∷ 0 ∷ 0 ∷ 1 ∷ 244 ∷ 0 ∷ 0 ∷ 2 ∷ 88 ∷ 82 ∷ 67 ∷ 255 ∷ 255 ∷ 255 ∷ 156 ∷ 0 ∷ 0 ∷ 0 ∷ 100 ∷ 255 ∷ 255 ∷ 255 ∷ 156 ∷ 0 ∷ 0 ∷ 0 ∷ 100 ∷ []
 
-reach-under-command : reachFile sheet0 9 4 (Command (negsuc 6)) (pos 36 ∷ negsuc 2 ∷ pos 0 ∷ pos 0 ∷ pos 41 ∷ pos 5 ∷ pos 0 ∷ pos 0 ∷ []) ≡ answered (negsuc 27 ∷ negsuc 45 ∷ pos 0 ∷ pos 0 ∷ pos 105 ∷ pos 27 ∷ pos 0 ∷ pos 0 ∷ []) (negsuc 27 ∷ negsuc 50 ∷ pos 0 ∷ pos 0 ∷ pos 105 ∷ pos 33 ∷ pos 0 ∷ pos 0 ∷ []) 9
+reach-under-command : reachFile sheet0 9 4 (oneCommand (negsuc 6)) (pos 36 ∷ negsuc 2 ∷ pos 0 ∷ pos 0 ∷ pos 41 ∷ pos 5 ∷ pos 0 ∷ pos 0 ∷ []) ≡ answered (negsuc 27 ∷ negsuc 45 ∷ pos 0 ∷ pos 0 ∷ pos 105 ∷ pos 27 ∷ pos 0 ∷ pos 0 ∷ []) (negsuc 27 ∷ negsuc 50 ∷ pos 0 ∷ pos 0 ∷ pos 105 ∷ pos 33 ∷ pos 0 ∷ pos 0 ∷ []) 9
 unfolding sheet0 everything
 reach-under-command = refl
 
@@ -63,11 +64,11 @@ reach-under-baseline : reachFile sheet1 6 3 Baseline (negsuc 19 ∷ negsuc 8 ∷
 unfolding sheet1 everything
 reach-under-baseline = refl
 
-reach-with-two-halvings : reachFile sheet2 9 8 (Command (pos 3)) (negsuc 19 ∷ pos 46 ∷ pos 0 ∷ pos 0 ∷ pos 20 ∷ pos 51 ∷ pos 0 ∷ pos 0 ∷ []) ≡ answered (negsuc 238 ∷ pos 19 ∷ pos 0 ∷ pos 0 ∷ pos 239 ∷ pos 24 ∷ pos 0 ∷ pos 0 ∷ []) (negsuc 238 ∷ pos 19 ∷ pos 0 ∷ pos 0 ∷ pos 239 ∷ pos 51 ∷ pos 0 ∷ pos 0 ∷ []) 51
+reach-with-two-halvings : reachFile sheet2 9 8 (oneCommand (pos 3)) (negsuc 19 ∷ pos 46 ∷ pos 0 ∷ pos 0 ∷ pos 20 ∷ pos 51 ∷ pos 0 ∷ pos 0 ∷ []) ≡ answered (negsuc 238 ∷ pos 19 ∷ pos 0 ∷ pos 0 ∷ pos 239 ∷ pos 24 ∷ pos 0 ∷ pos 0 ∷ []) (negsuc 238 ∷ pos 19 ∷ pos 0 ∷ pos 0 ∷ pos 239 ∷ pos 51 ∷ pos 0 ∷ pos 0 ∷ []) 51
 unfolding sheet2 everything
 reach-with-two-halvings = refl
 
-reach-of-no-ticks : reachFile sheet3 0 1000 (Command (pos 5)) (negsuc 0 ∷ negsuc 2 ∷ negsuc 4 ∷ pos 0 ∷ pos 2 ∷ pos 4 ∷ pos 6 ∷ pos 0 ∷ []) ≡ answered (negsuc 0 ∷ negsuc 2 ∷ negsuc 4 ∷ pos 0 ∷ pos 2 ∷ pos 4 ∷ pos 6 ∷ pos 0 ∷ []) (negsuc 0 ∷ negsuc 2 ∷ negsuc 4 ∷ pos 0 ∷ pos 2 ∷ pos 4 ∷ pos 6 ∷ pos 0 ∷ []) 0
+reach-of-no-ticks : reachFile sheet3 0 1000 (oneCommand (pos 5)) (negsuc 0 ∷ negsuc 2 ∷ negsuc 4 ∷ pos 0 ∷ pos 2 ∷ pos 4 ∷ pos 6 ∷ pos 0 ∷ []) ≡ answered (negsuc 0 ∷ negsuc 2 ∷ negsuc 4 ∷ pos 0 ∷ pos 2 ∷ pos 4 ∷ pos 6 ∷ pos 0 ∷ []) (negsuc 0 ∷ negsuc 2 ∷ negsuc 4 ∷ pos 0 ∷ pos 2 ∷ pos 4 ∷ pos 6 ∷ pos 0 ∷ []) 0
 unfolding sheet3 everything
 reach-of-no-ticks = refl
 
@@ -75,7 +76,7 @@ reach-over-three-parts : reachFile sheet4 1 1 Baseline (pos 50 ∷ pos 0 ∷ pos
 unfolding sheet4 everything
 reach-over-three-parts = refl
 
-reach-over-parts-in-longer-steps : reachFile sheet4 5 2 (Command (negsuc 2)) (pos 50 ∷ pos 4 ∷ pos 0 ∷ pos 0 ∷ pos 50 ∷ pos 40 ∷ pos 0 ∷ pos 0 ∷ []) ≡ answered (pos 4 ∷ negsuc 14 ∷ pos 0 ∷ pos 0 ∷ pos 95 ∷ pos 40 ∷ pos 0 ∷ pos 0 ∷ []) (pos 4 ∷ negsuc 15 ∷ pos 0 ∷ pos 0 ∷ pos 95 ∷ pos 40 ∷ pos 0 ∷ pos 0 ∷ []) 6
+reach-over-parts-in-longer-steps : reachFile sheet4 5 2 (oneCommand (negsuc 2)) (pos 50 ∷ pos 4 ∷ pos 0 ∷ pos 0 ∷ pos 50 ∷ pos 40 ∷ pos 0 ∷ pos 0 ∷ []) ≡ answered (pos 4 ∷ negsuc 14 ∷ pos 0 ∷ pos 0 ∷ pos 95 ∷ pos 40 ∷ pos 0 ∷ pos 0 ∷ []) (pos 4 ∷ negsuc 15 ∷ pos 0 ∷ pos 0 ∷ pos 95 ∷ pos 40 ∷ pos 0 ∷ pos 0 ∷ []) 6
 unfolding sheet4 everything
 reach-over-parts-in-longer-steps = refl
 
@@ -95,7 +96,7 @@ reach-with-edges-beyond-its-depths : reachFile sheet6 1 1 Baseline (pos 0 ∷ po
 unfolding sheet6 everything
 reach-with-edges-beyond-its-depths = refl
 
-refused-reach : reachFile sheet3 1001 1 (Command (pos 6)) (pos 0 ∷ pos 0 ∷ pos 0 ∷ pos 0 ∷ pos 0 ∷ pos 0 ∷ pos 0 ∷ pos 0 ∷ []) ≡ refused 16
+refused-reach : reachFile sheet3 1001 1 (oneCommand (pos 6)) (pos 0 ∷ pos 0 ∷ pos 0 ∷ pos 0 ∷ pos 0 ∷ pos 0 ∷ pos 0 ∷ pos 0 ∷ []) ≡ refused 16
 unfolding sheet3 everything
 refused-reach = refl
 
@@ -103,23 +104,23 @@ reach-at-its-caps : reachFile sheet7 1 1 Baseline (negsuc 34 ∷ negsuc 31 ∷ p
 unfolding sheet7 everything
 reach-at-its-caps = refl
 
-reach-just-within-its-caps : reachFile sheet7 1 1 (Command (pos 1)) (negsuc 33 ∷ negsuc 30 ∷ pos 38 ∷ pos 0 ∷ pos 34 ∷ pos 31 ∷ pos 38 ∷ pos 0 ∷ []) ≡ answered (negsuc 38 ∷ negsuc 35 ∷ pos 33 ∷ pos 1 ∷ pos 39 ∷ pos 36 ∷ pos 34 ∷ pos 1 ∷ []) (negsuc 38 ∷ negsuc 35 ∷ pos 33 ∷ pos 0 ∷ pos 39 ∷ pos 36 ∷ pos 38 ∷ pos 1 ∷ []) 1
+reach-just-within-its-caps : reachFile sheet7 1 1 (oneCommand (pos 1)) (negsuc 33 ∷ negsuc 30 ∷ pos 38 ∷ pos 0 ∷ pos 34 ∷ pos 31 ∷ pos 38 ∷ pos 0 ∷ []) ≡ answered (negsuc 38 ∷ negsuc 35 ∷ pos 33 ∷ pos 1 ∷ pos 39 ∷ pos 36 ∷ pos 34 ∷ pos 1 ∷ []) (negsuc 38 ∷ negsuc 35 ∷ pos 33 ∷ pos 0 ∷ pos 39 ∷ pos 36 ∷ pos 38 ∷ pos 1 ∷ []) 1
 unfolding sheet7 everything
 reach-just-within-its-caps = refl
 
-reach-beyond-its-caps : reachFile sheet7 1 1 (Command (pos 5)) (pos 34 ∷ pos 38 ∷ negsuc 30 ∷ pos 9 ∷ pos 35 ∷ pos 39 ∷ negsuc 30 ∷ pos 9 ∷ []) ≡ answered (pos 38 ∷ pos 43 ∷ negsuc 25 ∷ pos 14 ∷ pos 40 ∷ pos 44 ∷ negsuc 25 ∷ pos 14 ∷ []) (pos 34 ∷ pos 38 ∷ negsuc 30 ∷ pos 9 ∷ pos 40 ∷ pos 44 ∷ negsuc 25 ∷ pos 14 ∷ []) 1
+reach-beyond-its-caps : reachFile sheet7 1 1 (oneCommand (pos 5)) (pos 34 ∷ pos 38 ∷ negsuc 30 ∷ pos 9 ∷ pos 35 ∷ pos 39 ∷ negsuc 30 ∷ pos 9 ∷ []) ≡ answered (pos 38 ∷ pos 43 ∷ negsuc 25 ∷ pos 14 ∷ pos 40 ∷ pos 44 ∷ negsuc 25 ∷ pos 14 ∷ []) (pos 34 ∷ pos 38 ∷ negsuc 30 ∷ pos 9 ∷ pos 40 ∷ pos 44 ∷ negsuc 25 ∷ pos 14 ∷ []) 1
 unfolding sheet7 everything
 reach-beyond-its-caps = refl
 
-reach-at-its-other-caps : reachFile sheet7 1 1 (Command (negsuc 4)) (negsuc 35 ∷ negsuc 37 ∷ pos 38 ∷ pos 9 ∷ negsuc 34 ∷ negsuc 37 ∷ pos 39 ∷ pos 9 ∷ []) ≡ answered (negsuc 40 ∷ negsuc 42 ∷ pos 33 ∷ pos 4 ∷ negsuc 39 ∷ negsuc 42 ∷ pos 35 ∷ pos 4 ∷ []) (negsuc 40 ∷ negsuc 42 ∷ pos 33 ∷ pos 4 ∷ negsuc 34 ∷ negsuc 37 ∷ pos 39 ∷ pos 9 ∷ []) 1
+reach-at-its-other-caps : reachFile sheet7 1 1 (oneCommand (negsuc 4)) (negsuc 35 ∷ negsuc 37 ∷ pos 38 ∷ pos 9 ∷ negsuc 34 ∷ negsuc 37 ∷ pos 39 ∷ pos 9 ∷ []) ≡ answered (negsuc 40 ∷ negsuc 42 ∷ pos 33 ∷ pos 4 ∷ negsuc 39 ∷ negsuc 42 ∷ pos 35 ∷ pos 4 ∷ []) (negsuc 40 ∷ negsuc 42 ∷ pos 33 ∷ pos 4 ∷ negsuc 34 ∷ negsuc 37 ∷ pos 39 ∷ pos 9 ∷ []) 1
 unfolding sheet7 everything
 reach-at-its-other-caps = refl
 
-reach-around-zero : reachFile sheet7 1 1 (Command (pos 0)) (negsuc 0 ∷ pos 3 ∷ pos 4 ∷ pos 9 ∷ pos 1 ∷ pos 4 ∷ pos 4 ∷ pos 9 ∷ []) ≡ answered (negsuc 1 ∷ pos 3 ∷ pos 4 ∷ pos 9 ∷ pos 2 ∷ pos 5 ∷ pos 4 ∷ pos 9 ∷ []) (negsuc 1 ∷ pos 3 ∷ pos 4 ∷ pos 9 ∷ pos 2 ∷ pos 5 ∷ pos 4 ∷ pos 9 ∷ []) 1
+reach-around-zero : reachFile sheet7 1 1 (oneCommand (pos 0)) (negsuc 0 ∷ pos 3 ∷ pos 4 ∷ pos 9 ∷ pos 1 ∷ pos 4 ∷ pos 4 ∷ pos 9 ∷ []) ≡ answered (negsuc 1 ∷ pos 3 ∷ pos 4 ∷ pos 9 ∷ pos 2 ∷ pos 5 ∷ pos 4 ∷ pos 9 ∷ []) (negsuc 1 ∷ pos 3 ∷ pos 4 ∷ pos 9 ∷ pos 2 ∷ pos 5 ∷ pos 4 ∷ pos 9 ∷ []) 1
 unfolding sheet7 everything
 reach-around-zero = refl
 
-reach-just-off-zero : reachFile sheet7 1 1 (Command (negsuc 0)) (pos 1 ∷ negsuc 3 ∷ pos 5 ∷ pos 9 ∷ pos 1 ∷ negsuc 3 ∷ pos 5 ∷ pos 9 ∷ []) ≡ answered (pos 1 ∷ negsuc 4 ∷ pos 4 ∷ pos 8 ∷ pos 2 ∷ negsuc 3 ∷ pos 5 ∷ pos 8 ∷ []) (pos 1 ∷ negsuc 4 ∷ pos 4 ∷ pos 8 ∷ pos 2 ∷ negsuc 3 ∷ pos 5 ∷ pos 9 ∷ []) 1
+reach-just-off-zero : reachFile sheet7 1 1 (oneCommand (negsuc 0)) (pos 1 ∷ negsuc 3 ∷ pos 5 ∷ pos 9 ∷ pos 1 ∷ negsuc 3 ∷ pos 5 ∷ pos 9 ∷ []) ≡ answered (pos 1 ∷ negsuc 4 ∷ pos 4 ∷ pos 8 ∷ pos 2 ∷ negsuc 3 ∷ pos 5 ∷ pos 8 ∷ []) (pos 1 ∷ negsuc 4 ∷ pos 4 ∷ pos 8 ∷ pos 2 ∷ negsuc 3 ∷ pos 5 ∷ pos 9 ∷ []) 1
 unfolding sheet7 everything
 reach-just-off-zero = refl
 
@@ -167,19 +168,19 @@ width-1001 : reachFile fileA 2 1001 Baseline (pos 95 ∷ pos 0 ∷ pos 0 ∷ pos
 unfolding everything
 width-1001 = refl
 
-command-minus-25 : reachFile fileA 1 1 (Command (negsuc 24)) (pos 95 ∷ pos 0 ∷ pos 0 ∷ pos 0 ∷ pos 100 ∷ pos 0 ∷ pos 0 ∷ pos 0 ∷ []) ≡ answered (pos 90 ∷ pos 0 ∷ pos 0 ∷ pos 0 ∷ pos 95 ∷ pos 0 ∷ pos 0 ∷ pos 0 ∷ []) (pos 90 ∷ pos 0 ∷ pos 0 ∷ pos 0 ∷ pos 100 ∷ pos 0 ∷ pos 0 ∷ pos 0 ∷ []) 1
+command-minus-25 : reachFile fileA 1 1 (oneCommand (negsuc 24)) (pos 95 ∷ pos 0 ∷ pos 0 ∷ pos 0 ∷ pos 100 ∷ pos 0 ∷ pos 0 ∷ pos 0 ∷ []) ≡ answered (pos 90 ∷ pos 0 ∷ pos 0 ∷ pos 0 ∷ pos 95 ∷ pos 0 ∷ pos 0 ∷ pos 0 ∷ []) (pos 90 ∷ pos 0 ∷ pos 0 ∷ pos 0 ∷ pos 100 ∷ pos 0 ∷ pos 0 ∷ pos 0 ∷ []) 1
 unfolding everything
 command-minus-25 = refl
 
-command-minus-26 : reachFile fileA 1 1 (Command (negsuc 25)) (pos 95 ∷ pos 0 ∷ pos 0 ∷ pos 0 ∷ pos 100 ∷ pos 0 ∷ pos 0 ∷ pos 0 ∷ []) ≡ refused 14
+command-minus-26 : reachFile fileA 1 1 (oneCommand (negsuc 25)) (pos 95 ∷ pos 0 ∷ pos 0 ∷ pos 0 ∷ pos 100 ∷ pos 0 ∷ pos 0 ∷ pos 0 ∷ []) ≡ refused 14
 unfolding everything
 command-minus-26 = refl
 
-command-25 : reachFile fileA 1 1 (Command (pos 25)) (pos 95 ∷ pos 0 ∷ pos 0 ∷ pos 0 ∷ pos 100 ∷ pos 0 ∷ pos 0 ∷ pos 0 ∷ []) ≡ answered (pos 95 ∷ pos 0 ∷ pos 0 ∷ pos 0 ∷ pos 101 ∷ pos 0 ∷ pos 0 ∷ pos 0 ∷ []) (pos 95 ∷ pos 0 ∷ pos 0 ∷ pos 0 ∷ pos 101 ∷ pos 0 ∷ pos 0 ∷ pos 0 ∷ []) 1
+command-25 : reachFile fileA 1 1 (oneCommand (pos 25)) (pos 95 ∷ pos 0 ∷ pos 0 ∷ pos 0 ∷ pos 100 ∷ pos 0 ∷ pos 0 ∷ pos 0 ∷ []) ≡ answered (pos 95 ∷ pos 0 ∷ pos 0 ∷ pos 0 ∷ pos 101 ∷ pos 0 ∷ pos 0 ∷ pos 0 ∷ []) (pos 95 ∷ pos 0 ∷ pos 0 ∷ pos 0 ∷ pos 101 ∷ pos 0 ∷ pos 0 ∷ pos 0 ∷ []) 1
 unfolding everything
 command-25 = refl
 
-command-26 : reachFile fileA 1 1 (Command (pos 26)) (pos 95 ∷ pos 0 ∷ pos 0 ∷ pos 0 ∷ pos 100 ∷ pos 0 ∷ pos 0 ∷ pos 0 ∷ []) ≡ refused 14
+command-26 : reachFile fileA 1 1 (oneCommand (pos 26)) (pos 95 ∷ pos 0 ∷ pos 0 ∷ pos 0 ∷ pos 100 ∷ pos 0 ∷ pos 0 ∷ pos 0 ∷ []) ≡ refused 14
 unfolding everything
 command-26 = refl
 
@@ -219,15 +220,15 @@ overlap-before-ticks : reachFile (sets fileA 52 (0 ∷ 0 ∷ 0 ∷ 100 ∷ [])) 
 unfolding everything
 overlap-before-ticks = refl
 
-ticks-before-command : reachFile fileA 1001 1 (Command (pos 26)) (pos 0 ∷ pos 0 ∷ pos 0 ∷ pos 0 ∷ pos 0 ∷ pos 0 ∷ pos 0 ∷ pos 0 ∷ []) ≡ refused 16
+ticks-before-command : reachFile fileA 1001 1 (oneCommand (pos 26)) (pos 0 ∷ pos 0 ∷ pos 0 ∷ pos 0 ∷ pos 0 ∷ pos 0 ∷ pos 0 ∷ pos 0 ∷ []) ≡ refused 16
 unfolding everything
 ticks-before-command = refl
 
-width-before-command : reachFile fileA 1 0 (Command (pos 26)) (pos 0 ∷ pos 0 ∷ pos 0 ∷ pos 0 ∷ pos 0 ∷ pos 0 ∷ pos 0 ∷ pos 0 ∷ []) ≡ refused 16
+width-before-command : reachFile fileA 1 0 (oneCommand (pos 26)) (pos 0 ∷ pos 0 ∷ pos 0 ∷ pos 0 ∷ pos 0 ∷ pos 0 ∷ pos 0 ∷ pos 0 ∷ []) ≡ refused 16
 unfolding everything
 width-before-command = refl
 
-command-before-start : reachFile fileA 1 1 (Command (pos 26)) (pos 5 ∷ pos 0 ∷ pos 0 ∷ pos 0 ∷ pos 4 ∷ pos 0 ∷ pos 0 ∷ pos 0 ∷ []) ≡ refused 14
+command-before-start : reachFile fileA 1 1 (oneCommand (pos 26)) (pos 5 ∷ pos 0 ∷ pos 0 ∷ pos 0 ∷ pos 4 ∷ pos 0 ∷ pos 0 ∷ pos 0 ∷ []) ≡ refused 14
 unfolding everything
 command-before-start = refl
 

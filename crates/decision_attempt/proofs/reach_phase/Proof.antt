@@ -16,7 +16,7 @@ reach-requires c κs =
     let at-plant = at-count .before in
     let asked = at-plant .before .pre in
     record {
-      plan = record { plant = at-plant .plant .ensures .1; law = rw (at-plant .plant .ensures .0) (asked .law); boxes = omega (arith, at-count .count .ensures, asked .sheet .boxes-high); some = asked .some; most = asked .most };
+      plan = record { plant = at-plant .plant .ensures .1; boxes = omega (arith, at-count .count .ensures, asked .sheet .boxes-high); some = asked .some; most = asked .most };
       ticks = asked .ticks;
       counts = asked .counts;
       start = asked .start;

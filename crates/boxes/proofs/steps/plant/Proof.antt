@@ -22,10 +22,11 @@ counts wf i h = let f = wf .fits i in rw (toZ-ofZ f) (yes-nonNeg (wf .head i h),
 -- the plant's numbers are the sheet's
 returns : tie.Need-returns
 returns c =
-    let wf = c .before .before .before .pre in (
+    let wf = c .before .before .before .pre .0 in (
       refl,
       record {
         sheet = wf;
+        law = c .before .before .before .pre .1;
         n = ap natAbs (toZ-ofZ (wf .fits varsSlot));
         bands = ap natAbs (toZ-ofZ (wf .fits bandsSlot));
         var = ap natAbs (toZ-ofZ (wf .fits bandVarSlot));
@@ -37,9 +38,9 @@ plant-spec =
     tie.close
     (tie.spec
     (λ c. search needs)
-    (λ c. counts (c .before .pre) varsSlot (omega arith))
+    (λ c. counts (c .before .pre .0) varsSlot (omega arith))
     (λ c. search needs)
-    (λ c. counts (c .before .before .pre) bandsSlot (omega arith))
+    (λ c. counts (c .before .before .pre .0) bandsSlot (omega arith))
     (λ c. search needs)
-    (λ c. counts (c .before .before .before .pre) bandVarSlot (omega arith))
+    (λ c. counts (c .before .before .before .pre .0) bandVarSlot (omega arith))
     returns)

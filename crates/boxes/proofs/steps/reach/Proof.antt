@@ -87,7 +87,7 @@ module _ (at-join : tie.After-join Inv-loop μ-loop) where
       let asked = at-start at-step .pre in
       let plan = asked .plan in
       let inv = at-loop at-step .loop .inv in
-      tested-bounds (inv .reaching) (record { sheet = plan .plant .sheet; law = plan .law }) (plan .some) (plan .most) (inv .sized) (omega (arith, inv .fewer, asked .ticks)) (omega arith) (at-step .tested-step .result) _ (P at-step) (at-step .tested-step .ensures .same) t d (ended .r .given .1)
+      tested-bounds (inv .reaching) (record { sheet = plan .plant .sheet; law = plan .plant .law }) (plan .some) (plan .most) (inv .sized) (omega (arith, inv .fewer, asked .ticks)) (omega arith) (at-step .tested-step .result) _ (P at-step) (at-step .tested-step .ensures .same) t d (ended .r .given .1)
 
 loop-holds : tie.Need-loop-holds Inv-loop μ-loop
 loop-holds c =

@@ -43,7 +43,9 @@ module _ (at-start : tie.Start) where
   row-is k p = ap (λ (j : ℕ). rowAt v (j + firstRow + at-start .args .i * rowSize)) p
 
 command-term-requires : tie.Need-command-term-requires
-command-term-requires at-start κs = (place at-start, omega (arith, asked at-start .plant .sheet .bands-high, asked at-start .among, asked at-start .place))
+command-term-requires at-start κs =
+    let band = asked at-start in
+    record { sheet = band .plant .sheet; law = band .plant .law; room = place at-start; band = band .band; place = band .place; among = band .among }
 
 bound-requires : tie.Need-bound-requires
 bound-requires at-term κs =

@@ -3,7 +3,7 @@
 use mathlib.Core.Path.{_≡_, sym, ap, _∙_, subst}
 use mathlib.Core.Bool.{true, false}
 use mathlib.Core.List.{List}
-use Prim.Native.Nat.{ℕ, _<_}
+use Prim.Native.Nat.{ℕ, _+_, _<_}
 use native.Mathlib.Omega.{arith}
 use lib.IntN.{ℤ, _*ℤ_}
 use mir.Facts.{toZ-ofZ}
@@ -11,10 +11,10 @@ use mir.Syntax.{w64}
 use mir.Val.{SFits}
 use Rattle.integers.specs.Bound.{Bound}
 use Rattle.integers.proofs.Z.{told, up32, bound-of, bound-mul, fits64}
-use Rattle.sheet_spec.specs.Slots.{_!_, boxSize}
+use Rattle.sheet_spec.specs.Slots.{_!_, N, boxSize}
 use Rattle.boxes_arithmetic.specs.Limits.{word}
 use Rattle.boxes_rates.specs.Limits.{outerPlace}
-use Rattle.boxes_rates.proofs.Terms.{outer-place-one, outer-product}
+use Rattle.boxes_rates.proofs.Terms.{outer-end-one, outer-product}
 use Rattle.boxes_rates.proofs.row.term.Statement.{statement}
 use Rattle.boxes_rates.proofs.row.term.Tie as tie
 
@@ -35,10 +35,10 @@ module _ (at-place : tie.After-outer-place) where
   place-is = rw (toZ-ofZ (at-start .fits .coefficient)) at (at-place .outer-place .ensures)
 
   below : place < boxSize
-  below = rw place-is (outer-place-one (λ k. k < boxSize) (at-start .args .up) a (omega (arith, at-start .pre .room)) (omega (arith, at-start .pre .room)))
+  below = rw place-is (outer-end-one (λ (k : ℕ). k < boxSize) (at-start .args .up) a (omega (arith, at-start .pre .room)) (omega (arith, at-start .pre .room)))
 
   near : Bound (B ! place) word
-  near = subst (λ (k : ℕ). Bound (B ! k) word) (sym place-is) (outer-place-one (λ k. Bound (B ! k) word) (at-start .args .up) a (at-start .pre .near false) (at-start .pre .near true))
+  near = subst (λ (k : ℕ). Bound (B ! k) word) (sym place-is) (outer-end-one (λ (k : ℕ). Bound (B ! k) word) (at-start .args .up) a (at-start .pre .near false) (at-start .pre .near true))
 
   a-fits : SFits w64 a
   a-fits = up32 (at-start .fits .coefficient)
@@ -59,7 +59,7 @@ returns at-side =
     let at-place = at-side .before in
     let s = at-start at-place in
     simp (toZ-ofZ, s .fits .coefficient, a-fits at-place, told, at-side .result .given, product-fits at-place)
-    (ap (λ (k : ℕ). a at-place *ℤ B at-place ! k) (place-is at-place) ∙ outer-product (a at-place) (B at-place) (s .args .j) (s .pre .ordered) (s .args .up))
+    (ap (λ (k : ℕ). a at-place *ℤ B at-place ! k) (place-is at-place) ∙ outer-product (a at-place) (λ (k : ℕ). B at-place ! k) (s .args .j) (s .args .j + N) (s .pre .ordered) (s .args .up))
 
 pub term-spec : {M : Type 1} → statement M
 term-spec =
