@@ -1,6 +1,6 @@
 /* The guard's calls for C. The rules behind them are those of "document 01", the scope paper, and of
- * papers 3 (tighter rates near a band edge), 2 (no-go boxes in a set order) and 8 (no recovery box on a
- * no-go box) of "document 02".
+ * papers 3 (tighter rates near a band edge), 2 (no-go boxes in a set order), 8 (no recovery box on a
+ * no-go box) and 4 (a span of commands) of "document 02".
  *
  * A drive calls guard_recovery once for its sheet and guard_decide once for each period; guard_sheet
  * tests a sheet's format alone. The others serve set-up tools, other products and tests.
@@ -31,7 +31,7 @@ extern "C" {
 
 /* The code of guard_decide's answer; guard_recovery uses GUARD_PASS, GUARD_FAIL and GUARD_REFUSED. */
 enum {
-    GUARD_KEEP = 0,    /* the command is safe for the next period */
+    GUARD_KEEP = 0,    /* the command, or any of the span at each tick, is safe for the next period */
     GUARD_FINEST = 1,  /* no width shows that it is safe: hand over to the plain law */
     GUARD_SPENT = 2,   /* the allowance ended first: hand over to the plain law */
     GUARD_REFUSED = 3, /* the sheet or the question is at fault; guard_refusal has the number */
@@ -56,7 +56,7 @@ enum {
     GUARD_REFUSED_SIDE = 11,     /* sheet: a side of a no-go box or of the recovery box */
     GUARD_REFUSED_QUESTION = 12, /* question: length or mark */
     GUARD_REFUSED_ALLOWANCE = 13,
-    GUARD_REFUSED_COMMAND = 14, /* question or reach: command outside the head's range */
+    GUARD_REFUSED_COMMAND = 14, /* question or reach: command outside the head's range; span reversed */
     GUARD_REFUSED_START = 15,   /* question or reach: a side of the measured or start box */
     GUARD_REFUSED_REACH = 16,   /* reach: ticks or width */
     GUARD_REFUSED_ROOM = 17,    /* write or reach: too little room in the buffer */
@@ -118,9 +118,19 @@ uint64_t guard_recovery(const uint8_t *sheet, size_t sheet_length);
  * over all widths (never above the question's allowance), or refused with 1 to 11, 20 or 22 for the
  * sheet, then with 12 to 15 for the question.
  *
- * The question is 10 + 8n bytes: 'Q' 'S', allowance (u32, at most 1,000,000), command (i32, within the
- * head's commands), then for each variable the lower and the upper side of the measured box (i32,
- * lower <= upper, within +-1,000,000).
+ * A question is about one command or about a span of commands, and its mark says which (12: another mark,
+ * or not the length that its mark has):
+ *
+ *     'Q' 'S', allowance, command, sides                          10 + 8n bytes (guard_question)
+ *     'Q' 'R', allowance, least command, greatest command, sides  14 + 8n bytes (guard_span_question)
+ *
+ * allowance is a u32, at most 1,000,000 (13). A command is an i32 within the head's commands, and the least
+ * of a span is not above the greatest (14). The sides are, for each variable, the lower and the upper side
+ * of the measured box (i32, lower <= upper, within +-1,000,000: 15).
+ *
+ * The keep of a span lets the coach use any one command of the span at each tick of the period, the same for
+ * all variables, and another one at the next tick. A span whose ends are equal has the answer of the one
+ * command: the same code, width and rounds.
  *
  * The decision does not repeat the recovery check: ask only on a sheet that passed it. */
 uint64_t guard_decide(const uint8_t *sheet, size_t sheet_length,
@@ -145,10 +155,11 @@ uint64_t guard_sheet_write(const int32_t numbers[GUARD_NUMBERS], uint8_t *buffer
                            uint64_t place);
 
 /* A reach of a number of ticks (0 to 1,000) at a width (1 to 1,000) from a start box. Law 0 is the plain
- * law (command is then not looked at), any other law is the command. start is n pairs of lower and
- * upper side, as in a question. out gets the n pairs of the end box and then those of the swept box:
- * its first 16n bytes, and no others. Answers the rounds. Refused with 1 to 11, 20 or 22, then 16, 14,
- * 15 (also for another length of start), then 17 where out is shorter than 16n bytes. */
+ * law (command is then not looked at), any other law is the command. A reach has no span: its boxes say
+ * nothing of ticks whose commands differ. start is n pairs of lower and upper side, as in a question. out
+ * gets the n pairs of the end box and then those of the swept box: its first 16n bytes, and no others.
+ * Answers the rounds. Refused with 1 to 11, 20 or 22, then 16, 14, 15 (also for another length of start),
+ * then 17 where out is shorter than 16n bytes. */
 uint64_t guard_reach(const uint8_t *sheet, size_t sheet_length, uint32_t ticks, uint32_t width,
                      uint32_t law, int32_t command, const uint8_t *start, size_t start_length,
                      uint8_t *out, size_t out_length);
@@ -163,27 +174,50 @@ static inline int32_t guard_get(const uint8_t *slice, size_t i)
     return bits <= INT32_MAX ? (int32_t)bits : -(int32_t)(UINT32_MAX - bits) - 1;
 }
 
-/* Puts number i of a slice. */
-static inline void guard_put(uint8_t *slice, size_t i, int32_t value)
+/* Puts the bits of number i of a slice. */
+static inline void guard_put_bits(uint8_t *slice, size_t i, uint32_t bits)
 {
-    uint32_t bits = (uint32_t)value;
     for (size_t j = 0; j < 4; j++)
         slice[4 * i + j] = (uint8_t)(bits >> (24 - 8 * j));
 }
 
-/* Writes a question of 10 + 8n bytes and gives its length. Side 2i is variable i's lower side, side
- * 2i + 1 its upper side. Nothing is tested: guard_decide refuses what is out of range. */
+/* Puts number i of a slice. */
+static inline void guard_put(uint8_t *slice, size_t i, int32_t value)
+{
+    guard_put_bits(slice, i, (uint32_t)value);
+}
+
+/* Writes what both questions have: the mark, whose second letter is given, the allowance, and from place
+ * sides_at on the sides. Between them stands what the coach asks for; its place is given back. */
+static inline uint8_t *guard_put_question(uint8_t *question, char letter, uint32_t allowance,
+                                          const int32_t *sides, size_t n, size_t sides_at)
+{
+    question[0] = 'Q';
+    question[1] = (uint8_t)letter;
+    guard_put_bits(question + 2, 0, allowance);
+    for (size_t i = 0; i < 2 * n; i++)
+        guard_put(question + sides_at, i, sides[i]);
+    return question + 6;
+}
+
+/* Writes a question about one command, of 10 + 8n bytes, and gives its length. Side 2i is variable i's
+ * lower side, side 2i + 1 its upper side. Nothing is tested: guard_decide refuses what is out of range. */
 static inline size_t guard_question(uint8_t *question, uint32_t allowance, int32_t command,
                                     const int32_t *sides, size_t n)
 {
-    question[0] = 'Q';
-    question[1] = 'S';
-    for (size_t i = 0; i < 4; i++)
-        question[2 + i] = (uint8_t)(allowance >> (24 - 8 * i));
-    guard_put(question + 6, 0, command);
-    for (size_t i = 0; i < 2 * n; i++)
-        guard_put(question + GUARD_QUESTION_HEAD, i, sides[i]);
+    uint8_t *asked = guard_put_question(question, 'S', allowance, sides, n, GUARD_QUESTION_HEAD);
+    guard_put(asked, 0, command);
     return guard_question_length(n);
+}
+
+/* Writes a question about a span of commands, of 14 + 8n bytes, and gives its length; the rest as above. */
+static inline size_t guard_span_question(uint8_t *question, uint32_t allowance, int32_t least,
+                                         int32_t greatest, const int32_t *sides, size_t n)
+{
+    uint8_t *asked = guard_put_question(question, 'R', allowance, sides, n, GUARD_SPAN_QUESTION_HEAD);
+    guard_put(asked, 0, least);
+    guard_put(asked, 1, greatest);
+    return guard_span_question_length(n);
 }
 
 #ifdef __cplusplus

@@ -1,7 +1,7 @@
 /* The greatest counts of a sheet, the slots of its numbers, and lengths in bytes ("document 01", "Sheet
- * layout"; what is asked of the no-go boxes: "document 02", papers 2 and 8). guard.h and sheet.h include
- * this file, and bindings/ reads it for Rust; no other file outside the archive and the two guards of
- * reference/ has these numbers.
+ * layout"; what is asked of the no-go boxes: "document 02", papers 2 and 8; the question about a span of
+ * commands: its paper 4). guard.h and sheet.h include this file, and bindings/ reads it for Rust; no other
+ * file outside the archive and the two guards of reference/ has these numbers.
  *
  * For bindings/ each name stands in an enum with its value: numbers, earlier names, +, * and brackets. */
 #ifndef GUARD_FORMAT_H
@@ -75,8 +75,9 @@ static inline size_t guard_slot_unsafe(size_t j)
 enum {
     GUARD_PAIR = 8, /* a lower and an upper side */
 
-    GUARD_QUESTION_HEAD = 10, /* mark, allowance, command */
-    GUARD_LONGEST_QUESTION = GUARD_QUESTION_HEAD + GUARD_PAIR * GUARD_VARIABLES,
+    GUARD_QUESTION_HEAD = 10,      /* mark, allowance, command */
+    GUARD_SPAN_QUESTION_HEAD = 14, /* mark, allowance, least and greatest command */
+    GUARD_LONGEST_QUESTION = GUARD_SPAN_QUESTION_HEAD + GUARD_PAIR * GUARD_VARIABLES,
 
     GUARD_LONGEST_REACH = 2 * GUARD_PAIR * GUARD_VARIABLES, /* pairs of the end box and of the swept box */
 
@@ -89,10 +90,16 @@ enum {
                           + (GUARD_UNSAFE_BOXES + 1) * GUARD_BOX_BYTES
 };
 
-/* The length of a question of n variables. */
+/* The length of a question of n variables about one command. */
 static inline size_t guard_question_length(size_t n)
 {
     return GUARD_QUESTION_HEAD + GUARD_PAIR * n;
+}
+
+/* The length of a question of n variables about a span of commands. */
+static inline size_t guard_span_question_length(size_t n)
+{
+    return GUARD_SPAN_QUESTION_HEAD + GUARD_PAIR * n;
 }
 
 /* The length of what a reach of n variables writes: the pairs of the end box and of the swept box. */

@@ -19,9 +19,14 @@ pub fn slot_unsafe(j: usize) -> usize {
     SLOT_UNSAFE + BOX_SIZE * j
 }
 
-/// The length of a question of n variables.
+/// The length of a question of n variables about one command.
 pub fn question_length(n: usize) -> usize {
     QUESTION_HEAD + PAIR * n
+}
+
+/// The length of a question of n variables about a span of commands.
+pub fn span_question_length(n: usize) -> usize {
+    SPAN_QUESTION_HEAD + PAIR * n
 }
 
 /// The length of what a reach of n variables writes: the pairs of the end box and of the swept box.

@@ -88,7 +88,7 @@ pub fn recovery(sheet: &[u8]) -> Answer {
     Answer(unsafe { c::guard_recovery(sheet.as_ptr(), sheet.len()) })
 }
 
-/// The decision on a question.
+/// The decision on a question about one command or about a span of commands.
 pub fn decide(sheet: &[u8], question: &[u8]) -> Answer {
     // SAFETY: each pointer and the length behind it are one slice's.
     Answer(unsafe {
