@@ -1,7 +1,7 @@
 /* The calls of include/guard.h from C, linked with the archive alone: sheet A's answers, every refusal
  * with the lent buffers and arrays compared, empty, missing, overlong and overlapping slices, the slots and
- * lengths of include/guard_format.h, no-go boxes in and out of order, and recovery boxes on and beside no-go
- * boxes. The last line is `N passed, M failed`. */
+ * lengths of include/guard_format.h, no-go boxes in and out of order, recovery boxes on and beside no-go
+ * boxes, and questions about a span of commands. The last line is `N passed, M failed`. */
 #include "guard.h"
 
 #include <stdio.h>
@@ -429,7 +429,7 @@ static void largest(void)
     memcpy(sheet, lent, sizeof sheet);
     expect_read("largest", sheet, sizeof sheet, numbers);
 
-    size_t length = guard_question(question, 0, 0, sides, GUARD_VARIABLES);
+    size_t length = guard_span_question(question, 0, 0, 0, sides, GUARD_VARIABLES);
     expect("longest question", 0, length, GUARD_LONGEST_QUESTION);
     for (size_t i = length - 1; i <= length + 1; i++)
         expect("question's length", (int)i, guard_refusal(guard_decide(sheet, sizeof sheet, question, i)),
@@ -1048,6 +1048,291 @@ static void overlaps_of_boxes(void)
     numbers_of_a();
 }
 
+/* ---- a span of commands: the answers on sheet A */
+
+static uint64_t decide_span_a(int32_t low, int32_t high, int32_t least, int32_t greatest, uint32_t allowance)
+{
+    const int32_t sides[] = {low, high};
+    uint8_t question[GUARD_LONGEST_QUESTION];
+    size_t length = guard_span_question(question, allowance, least, greatest, sides, 1);
+    return guard_decide(sheet_a, SHEET, question, length);
+}
+
+/* Among them are answers that neither end has by itself, and a span that is not kept though each of its
+ * commands is. */
+static void span_lines(void)
+{
+    static const struct {
+        int32_t low, high, least, greatest;
+        uint32_t allowance, code, width, rounds;
+    } asked[] = {{0, 0, -25, 25, 100, GUARD_KEEP, 4, 4}, {0, 0, -25, 25, 0, GUARD_SPENT, 4, 0},
+                 {95, 100, -25, 25, 4, GUARD_KEEP, 4, 4}, {95, 100, -25, 25, 3, GUARD_SPENT, 4, 3},
+                 {95, 100, -25, 25, 1000000, GUARD_KEEP, 4, 4}, {-124, -114, -15, -10, 100, GUARD_KEEP, 2, 12},
+                 {-127, -124, -15, -10, 20, GUARD_KEEP, 1, 20}, {-127, -124, -15, -10, 19, GUARD_SPENT, 1, 19},
+                 {-132, -132, -15, -10, 20, GUARD_FINEST, 1, 20}, {-132, -132, -15, -10, 19, GUARD_SPENT, 1, 19},
+                 {109, 119, 10, 25, 100, GUARD_FINEST, 1, 22}, {131, 131, -25, 25, 100, GUARD_FINEST, 1, 5}};
+    for (size_t i = 0; i < sizeof asked / sizeof *asked; i++)
+        expect("span", (int)i,
+               decide_span_a(asked[i].low, asked[i].high, asked[i].least, asked[i].greatest, asked[i].allowance),
+               answer(asked[i].code, asked[i].width, asked[i].rounds));
+    for (int32_t command = -15; command <= -10; command++)
+        expect("by itself", command, guard_code(decide_a(-132, -132, command, 100)), GUARD_KEEP);
+}
+
+/* 14 but where both ends are in the head's range, -25 to 25, and in order. */
+static void span_ends(void)
+{
+    static const int32_t ends[] = {INT32_MIN, INT32_MIN + 25, -65536, -256, -27, -26, -25, -24, -1, 0, 1,
+                                   24, 25, 26, 27, 231, 255, 256, 65511, 65536, INT32_MAX - 25, INT32_MAX};
+    for (size_t i = 0; i < sizeof ends / sizeof *ends; i++)
+        for (size_t j = 0; j < sizeof ends / sizeof *ends; j++) {
+            bool right = -25 <= ends[i] && ends[i] <= ends[j] && ends[j] <= 25;
+            expect("span's ends", (int)(100 * i + j), guard_refusal(decide_span_a(0, 0, ends[i], ends[j], 100)),
+                   right ? 0 : GUARD_REFUSED_COMMAND);
+        }
+}
+
+/* ---- a span of one command has the answer of the command, in every field */
+
+static unsigned seen[GUARD_REFUSED + 1]; /* answers, by code */
+
+static void expect_equal(const uint8_t *sheet, size_t length, const int32_t *sides, size_t n, int32_t command)
+{
+    static const uint32_t allowances[] = {0, 3, 4, 12, 19, 1000000, 1000001};
+    uint8_t one[GUARD_LONGEST_QUESTION], span[GUARD_LONGEST_QUESTION];
+    for (size_t i = 0; i < sizeof allowances / sizeof *allowances; i++) {
+        size_t one_length = guard_question(one, allowances[i], command, sides, n);
+        size_t span_length = guard_span_question(span, allowances[i], command, command, sides, n);
+        uint64_t want = guard_decide(sheet, length, one, one_length);
+        expect("equal ends", command, guard_decide(sheet, length, span, span_length), want);
+        seen[guard_code(want)]++;
+    }
+}
+
+/* On sheet A, with boxes of one and of ten values, one of them out of range. */
+static void equal_on_a(void)
+{
+    for (int32_t command = -26; command <= 26; command++) {
+        for (int32_t low = -140; low <= 140; low += 14)
+            for (int32_t high = low; high <= low + 9; high += 9)
+                expect_equal(sheet_a, SHEET, (const int32_t[]){low, high}, 1, command);
+        expect_equal(sheet_a, SHEET, (const int32_t[]){0, 1000001}, 1, command);
+    }
+}
+
+/* With more variables, at the recovery box, beside a no-go box and on one. */
+static void equal_on_wider(void)
+{
+    static const int32_t starts[] = {-5500, -3050, -3000, 0};
+    int32_t sides[2 * GUARD_VARIABLES];
+    for (size_t n = 1; n <= GUARD_VARIABLES; n++)
+        for (size_t start = 0; start < sizeof starts / sizeof *starts; start++) {
+            put_sheet(n, 2);
+            for (size_t i = 0; i < 2 * n; i++)
+                sides[i] = starts[start] + 10 * (int32_t)(i % 2);
+            for (int32_t command = -26; command <= 26; command += 4)
+                expect_equal(placed, placed_length, sides, n, command);
+        }
+}
+
+static void equal_ends(void)
+{
+    equal_on_a();
+    equal_on_wider();
+    for (size_t code = GUARD_KEEP; code <= GUARD_REFUSED; code++)
+        expect("kinds of answers", (int)code, seen[code] > 100, 1);
+}
+
+/* ---- what the keep of a span covers: the states of sheet A, tick by tick */
+
+enum { FAR = 300, STATES = 2 * FAR + 1 }; /* state x stands at x + FAR */
+
+/* A numerator over sheet A's divisor, rounded down and kept within the cap. */
+static int32_t change_below(int32_t numerator)
+{
+    int32_t below = numerator >= 0 ? numerator / 20 : -((19 - numerator) / 20);
+    return below < -5 ? -5 : below > 5 ? 5 : below;
+}
+
+/* The states that a tick leads to, from any of these under any command of the span. */
+static void tick_a(bool states[STATES], int32_t least, int32_t greatest)
+{
+    bool next_states[STATES] = {false};
+    for (int32_t x = 5 - FAR; x <= FAR - 5; x++)
+        for (int32_t u = least; states[x + FAR] && u <= greatest; u++)
+            for (int32_t y = change_below(4 * u - x); y <= -change_below(x - 4 * u); y++)
+                next_states[x + y + FAR] = true;
+    memcpy(states, next_states, sizeof next_states);
+}
+
+/* Whether one of the states lies in this range. */
+static bool some_within(const bool states[STATES], int32_t low, int32_t high)
+{
+    bool some = false;
+    for (int32_t x = low; x <= high; x++)
+        some |= states[x + FAR];
+    return some;
+}
+
+/* Four ticks, each under any command of the span, then four plain ones: never in the no-go box, and at last in
+ * the recovery box. */
+static bool is_safe(int32_t low, int32_t high, int32_t least, int32_t greatest)
+{
+    bool states[STATES] = {false};
+    for (int32_t x = low; x <= high; x++)
+        states[x + FAR] = true;
+    bool safe = !some_within(states, 130, FAR);
+    for (int t = 0; t < 8; t++) {
+        tick_a(states, t < 4 ? least : 0, t < 4 ? greatest : 0);
+        safe &= !some_within(states, 130, FAR);
+    }
+    return safe && !some_within(states, -FAR, -101) && !some_within(states, 101, FAR);
+}
+
+static bool keeps(int32_t low, int32_t least, int32_t greatest)
+{
+    return guard_code(decide_span_a(low, low + 3, least, greatest, 100)) == GUARD_KEEP;
+}
+
+/* Every span that is kept is safe. Among those asked are unsafe ones whose least, or greatest, command is kept. */
+static void kept_spans(void)
+{
+    unsigned kept = 0, at_least = 0, at_greatest = 0;
+    for (int32_t low = -135; low <= 135; low += 5)
+        for (int32_t least = -25; least <= 25; least += 10)
+            for (int32_t greatest = least; greatest <= 25; greatest += 10) {
+                bool keep = keeps(low, least, greatest), safe = is_safe(low, low + 3, least, greatest);
+                expect("kept span", low, keep && !safe, 0);
+                kept += keep;
+                at_least += !safe && keeps(low, least, least);
+                at_greatest += !safe && keeps(low, greatest, greatest);
+            }
+    expect("kept spans", 0, kept > 100, 1);
+    expect("unsafe spans", 0, at_least > 0, 1);
+    expect("unsafe spans", 1, at_greatest > 0, 1);
+}
+
+/* ---- a question's bytes, length and mark */
+
+static void question_bytes(void)
+{
+    static const int32_t sides[] = {-2, INT32_MAX, INT32_MIN, 0x01020304};
+    static const uint8_t one[] = {'Q', 'S', 0xfe, 0xdc, 0xba, 0x98, 0xff, 0xfe, 0xfd, 0xfc,
+                                  255, 255, 255, 254, 127, 255, 255, 255, 128, 0, 0, 0, 1, 2, 3, 4};
+    static const uint8_t span[] = {'Q', 'R', 0xfe, 0xdc, 0xba, 0x98, 128, 0, 0, 1, 0x12, 0x34, 0x56, 0x78,
+                                   255, 255, 255, 254, 127, 255, 255, 255, 128, 0, 0, 0, 1, 2, 3, 4};
+    fill();
+    expect("question", 0, guard_question(lent + 7, 0xfedcba98u, -66052, sides, 2), sizeof one);
+    expect_lent("question", 0, 7, one, sizeof one);
+    fill();
+    expect("span", 0, guard_span_question(lent + 7, 0xfedcba98u, -INT32_MAX, 0x12345678, sides, 2), sizeof span);
+    expect_lent("span", 0, 7, span, sizeof span);
+}
+
+/* At no other length than its own is a question taken, whatever its mark's length is at other n. */
+static void question_lengths(size_t n)
+{
+    static const int32_t sides[2 * GUARD_VARIABLES] = {0};
+    uint8_t one[GUARD_LONGEST_QUESTION + 1] = {0}, span[GUARD_LONGEST_QUESTION + 1] = {0};
+    expect("question's length", (int)n, guard_question(one, 0, 0, sides, n), 10 + 8 * n);
+    expect("span's length", (int)n, guard_span_question(span, 0, 0, 0, sides, n), 14 + 8 * n);
+    for (size_t length = 0; length <= GUARD_LONGEST_QUESTION + 1; length++) {
+        expect("question's length", (int)length, guard_refusal(guard_decide(placed, placed_length, one, length)),
+               length == 10 + 8 * n ? 0 : GUARD_REFUSED_QUESTION);
+        expect("span's length", (int)length, guard_refusal(guard_decide(placed, placed_length, span, length)),
+               length == 14 + 8 * n ? 0 : GUARD_REFUSED_QUESTION);
+    }
+}
+
+/* Of all marks, a length has the one of its own; the other bytes are 0 and right at either length. */
+static void marks_at(size_t length, char letter)
+{
+    uint8_t question[GUARD_LONGEST_QUESTION] = {0};
+    uint64_t right = 0;
+    for (uint32_t mark = 0; mark <= 0xffff; mark++) {
+        put_bytes(question, 2, mark);
+        bool own = question[0] == 'Q' && question[1] == letter;
+        right += guard_decide(sheet_a, SHEET, question, length)
+                 == (own ? answer(GUARD_SPENT, 4, 0) : refusal(GUARD_REFUSED_QUESTION));
+    }
+    expect("marks", (int)length, right, 0x10000);
+}
+
+/* ---- which fault of several counts, with a span */
+
+/* The faults of a question about the span -20..20 from 0..0 in each variable, in the order of their numbers; a
+ * place below 0 counts from the end. Faults of different numbers have different places. */
+static const struct {
+    uint32_t number;
+    int place;
+    size_t size;
+    uint32_t value;
+} span_faults[] = {{12, 0, 1, 'q'}, {12, 1, 1, 'S'}, {12, 1, 1, 'L'}, {13, 2, 4, 1000001}, {13, 2, 4, UINT32_MAX},
+                   {14, 6, 4, 21}, {14, 6, 4, 26}, {14, 6, 4, (uint32_t)-26}, {14, 6, 4, INT32_MAX},
+                   {14, 10, 4, (uint32_t)-21}, {14, 10, 4, 26}, {14, 10, 4, (uint32_t)-26}, {14, 10, 4, INT32_MAX},
+                   {15, 14, 4, 1}, {15, 14, 4, (uint32_t)-1000001}, {15, -4, 4, (uint32_t)-1}, {15, -4, 4, 1000001}};
+
+enum { SPAN_FAULTS = sizeof span_faults / sizeof *span_faults };
+
+static void put_span_fault(uint8_t *question, size_t length, size_t i)
+{
+    int place = span_faults[i].place;
+    put_bytes(question + (place < 0 ? (int)length + place : place), span_faults[i].size, span_faults[i].value);
+}
+
+/* A question with one fault or two. The sheet's refusal comes first, where it has one; then the lower number. */
+static void two_span_faults(const uint8_t *sheet, size_t sheet_length, size_t n, uint32_t sheets)
+{
+    static const int32_t sides[2 * GUARD_VARIABLES] = {0};
+    uint8_t question[GUARD_LONGEST_QUESTION + 1] = {0};
+    for (size_t i = 0; i < SPAN_FAULTS; i++)
+        for (size_t j = 0; j < SPAN_FAULTS; j++) {
+            size_t length = guard_span_question(question, 100, -20, 20, sides, n);
+            put_span_fault(question, length, i);
+            put_span_fault(question, length, j);
+            uint32_t first = span_faults[i < j ? i : j].number;
+            for (int by = -1; by <= 1; by++)
+                expect("two faults", (int)(100 * i + j),
+                       guard_decide(sheet, sheet_length, question, (size_t)((int)length + by)),
+                       refusal(sheets != 0 ? sheets : by != 0 ? GUARD_REFUSED_QUESTION : first));
+        }
+}
+
+static void span_causes(void)
+{
+    uint8_t sheet[SHEET];
+    two_span_faults(sheet_a, SHEET, 1, 0);
+    for (size_t i = 0; i < sizeof faults / sizeof *faults; i++) {
+        memcpy(sheet, sheet_a, SHEET);
+        put_bytes(sheet + faults[i].place, faults[i].size, faults[i].value);
+        two_span_faults(sheet, SHEET, 1, (uint32_t)faults[i].number);
+    }
+    boxes_in_order();
+    two_span_faults(ordered, ORDERED, 2, 0);
+    box_beside(1, 0, 0, 0);
+    two_span_faults(ordered, ORDERED, 2, GUARD_REFUSED_ORDER);
+    put_shared_sheet();
+    two_span_faults(placed, placed_length, 2, GUARD_REFUSED_OVERLAP);
+}
+
+static void spans(void)
+{
+    span_lines();
+    span_ends();
+    equal_ends();
+    kept_spans();
+    question_bytes();
+    for (size_t n = 1; n <= GUARD_VARIABLES; n++) {
+        put_sheet(n, 1);
+        question_lengths(n);
+        two_span_faults(placed, placed_length, n, 0);
+    }
+    marks_at(guard_question_length(1), 'S');
+    marks_at(guard_span_question_length(1), 'R');
+    span_causes();
+    numbers_of_a();
+}
+
 int main(void)
 {
     answers();
@@ -1064,6 +1349,7 @@ int main(void)
         reaches();
         orders();
         overlaps_of_boxes();
+        spans();
     }
     printf("%d passed, %d failed\n", passed, failed);
     return failed != 0;
