@@ -5,8 +5,9 @@
  * It reads the sheet once and runs the recovery check. Then, LEAD ticks before each period, it
  * measures, moves the measured box on to the period's start, and asks the guard about the coach's
  * command; from the period's first tick on it acts on the answer. It moves boxes on by a reach, and
- * in a second run by the caps alone, to compare. At the end it lets the same coach command without
- * the guard, to show the difference; the simulated sledge has no buffers that would stop it.
+ * in a second run by the caps alone, to compare. In a third run it asks about a span of commands,
+ * of which the coach uses another one at each tick. At the end it lets the same coach command
+ * without the guard, to show the difference; the simulated sledge has no buffers that would stop it.
  * All arithmetic is in whole numbers, so that it prints the same everywhere. */
 
 #include "guard.h"
@@ -17,7 +18,8 @@
 enum {
     PERIODS = 1000,
     ALLOWANCE = 400,
-    LEAD = 2 /* ticks from the measurement to the period's start: time to measure and to ask */
+    LEAD = 2,  /* ticks from the measurement to the period's start: time to measure and to ask */
+    SPAN = 200 /* N, from the least command of a span to its greatest */
 };
 
 /* The variables of the sheet, in its order. */
@@ -123,11 +125,17 @@ static bool holds(const struct box *box, const struct sledge *sledge)
 
 /* ---- who commands ----------------------------------------------------------------------------- */
 
-/* What acts on the motor: the coach's command if it was kept, the plain law otherwise. */
+/* What acts on the motor: the coach if it was kept, with its command or at each tick with any one of
+ * its span, the plain law otherwise. */
 struct law {
     bool kept;
-    int32_t command; /* of the coach */
+    int32_t least, greatest; /* of the coach: equal where it has one command */
 };
+
+static bool is_span(struct law law)
+{
+    return law.least < law.greatest;
+}
 
 /* The plain law of leg_press.txt, with the motor's inaccuracy. */
 static int32_t plain_force(const struct sledge *measured)
@@ -140,12 +148,21 @@ static int32_t plain_force(const struct sledge *measured)
     return random_within(-1200, -1150);
 }
 
-/* The coach is not to be trusted: mostly it holds some weight, sometimes it does anything. */
-static int32_t coach_force(void)
+/* The coach is not to be trusted: mostly it holds some weight, sometimes it does anything. It asks
+ * for one command, or for a span that begins with it. */
+static struct law coach(bool by_span)
 {
-    if (random_within(0, 2) != 0)
-        return random_within(-600, -200);
-    return random_within(-1200, 450);
+    bool holds_weight = random_within(0, 2) != 0;
+    int32_t force = holds_weight ? random_within(-600, -200) : random_within(-1200, 450);
+    return (struct law){false, force, by_span ? force + SPAN : force};
+}
+
+/* The force at a tick. The plain law reads the sensors every tick. */
+static int32_t force_of(struct law now, const struct sledge *measured)
+{
+    if (!now.kept)
+        return plain_force(measured);
+    return is_span(now) ? random_within(now.least, now.greatest) : now.least;
 }
 
 /* The legs push anew every few ticks, with 0 to 800 N. */
@@ -224,8 +241,9 @@ static bool forbidden(const struct sheet *sheet, const struct sledge *sledge)
 
 /* ---- moving a box on to the period's start ---------------------------------------------------- */
 
-/* By a reach under the law that acts now: its end box holds the state after the ticks. At width
- * 1 it takes one round for each tick. False if it is refused: then there is no box to ask about. */
+/* By a reach under the law that acts now, one command or the plain law: its end box holds the state
+ * after the ticks. At width 1 it takes one round for each tick. False if it is refused: then there is
+ * no box to ask about. */
 static bool move_by_reach(const struct sheet *sheet, struct law now, uint32_t ticks,
                           struct box *box)
 {
@@ -234,7 +252,7 @@ static bool move_by_reach(const struct sheet *sheet, struct law now, uint32_t ti
     for (size_t i = 0; i < 2 * VARIABLES; i++)
         guard_put(start, i, box->sides[i]);
     uint64_t answer = guard_reach(sheet->bytes, sheet->length, ticks, 1, now.kept ? 1 : 0,
-                                  now.command, start, sizeof start, boxes, sizeof boxes);
+                                  now.least, start, sizeof start, boxes, sizeof boxes);
     if (guard_is_refused(answer))
         return false;
     for (size_t i = 0; i < 2 * VARIABLES; i++)
@@ -258,12 +276,14 @@ static bool move_by_caps(const struct sheet *sheet, uint32_t ticks, struct box *
     return true;
 }
 
-/* How a run moves its boxes on, or that it does not ask. */
-enum mode { BY_REACH, BY_CAPS, UNGUARDED };
+/* How a run moves its boxes on, that it asks about spans, or that it does not ask. */
+enum mode { BY_REACH, BY_CAPS, BY_SPAN, UNGUARDED };
 
+/* A reach has one command or the plain law: while a kept span acts, the box is moved by the caps. */
 static bool move_on(const struct sheet *sheet, enum mode mode, struct law now, struct box *box)
 {
-    return mode == BY_REACH ? move_by_reach(sheet, now, LEAD, box) : move_by_caps(sheet, LEAD, box);
+    bool by_caps = mode == BY_CAPS || (now.kept && is_span(now));
+    return by_caps ? move_by_caps(sheet, LEAD, box) : move_by_reach(sheet, now, LEAD, box);
 }
 
 /* ---- the loop --------------------------------------------------------------------------------- */
@@ -279,12 +299,17 @@ struct summary {
     unsigned forbidden_ticks;
 };
 
-/* One question, and whether the coach's command may act for the next period. */
-static bool ask(const struct sheet *sheet, const struct box *box, int32_t command,
+/* One question, and whether what the coach asks for may act for the next period. */
+static bool ask(const struct sheet *sheet, const struct box *box, struct law next,
                 struct summary *summary)
 {
     uint8_t question[GUARD_LONGEST_QUESTION];
-    size_t length = guard_question(question, ALLOWANCE, command, box->sides, VARIABLES);
+    size_t length;
+    if (is_span(next))
+        length = guard_span_question(question, ALLOWANCE, next.least, next.greatest, box->sides,
+                                     VARIABLES);
+    else
+        length = guard_question(question, ALLOWANCE, next.least, box->sides, VARIABLES);
     uint64_t answer = guard_decide(sheet->bytes, sheet->length, question, length);
     summary->answers[guard_code(answer)]++;
     if (guard_rounds(answer) > summary->most_rounds)
@@ -292,14 +317,14 @@ static bool ask(const struct sheet *sheet, const struct box *box, int32_t comman
     return guard_code(answer) == GUARD_KEEP;
 }
 
-/* A number of ticks under the command, or under the plain law, which reads the sensors every tick. */
+/* A number of ticks under a law. */
 static void act(const struct sheet *sheet, struct sledge *sledge, struct law now, int32_t ticks,
                 struct summary *summary)
 {
     int32_t legs = legs_push();
     for (int32_t t = 0; t < ticks; t++) {
         struct sledge measured = measure(sledge);
-        tick(sledge, now.kept ? now.command : plain_force(&measured), legs);
+        tick(sledge, force_of(now, &measured), legs);
         if (sledge->position < summary->least_position)
             summary->least_position = sledge->position;
         if (sledge->position > summary->greatest_position)
@@ -330,14 +355,14 @@ static struct law guarded_period(const struct sheet *sheet, struct sledge *sledg
 {
     act(sheet, sledge, now, number(sheet, GUARD_SLOT_DELTA) - LEAD, summary);
 
-    struct law next = {false, coach_force()};
+    struct law next = coach(mode == BY_SPAN);
     struct sledge sensors = measure(sledge);
     bool sensors_fail = random_within(0, 49) == 0;
     struct box measured = measured_box(&sensors);
     struct box moved = measured;
     bool asked = !sensors_fail && move_on(sheet, mode, now, &moved);
     if (asked)
-        next.kept = ask(sheet, &moved, next.command, summary);
+        next.kept = ask(sheet, &moved, next, summary);
     else
         summary->unasked++; /* no question: the plain law */
 
@@ -353,13 +378,14 @@ static struct summary run(const struct sheet *sheet, enum mode mode)
     struct sledge sledge = {300 * 1000000, 0}; /* in the recovery box, at rest */
     struct summary summary = {.least_position = sledge.position,
                               .greatest_position = sledge.position};
-    struct law now = {false, 0}; /* no question was asked for the first period: the plain law */
-    random_state = 2;            /* from here each kind of answer occurs */
+    struct law now = {.kept = false}; /* no question was asked for the first period: the plain law */
+    random_state = 2;                 /* from here each kind of answer occurs */
     for (int i = 0; i < PERIODS; i++) {
         if (mode != UNGUARDED) {
             now = guarded_period(sheet, &sledge, now, mode, &summary);
         } else {
-            now = (struct law){true, coach_force()};
+            now = coach(false);
+            now.kept = true;
             act(sheet, &sledge, now, number(sheet, GUARD_SLOT_DELTA), &summary);
         }
     }
@@ -407,10 +433,13 @@ int main(int count, char **words)
         return EXIT_FAILURE;
     struct summary by_reach = run(&sheet, BY_REACH);
     struct summary by_caps = run(&sheet, BY_CAPS);
+    struct summary by_span = run(&sheet, BY_SPAN);
     struct summary unguarded = run(&sheet, UNGUARDED);
     print("-- with the guard, boxes moved on by a reach", &by_reach);
     print("-- with the guard, boxes moved on by the caps", &by_caps);
+    print("-- with the guard, asked about spans", &by_span);
     printf("-- without the guard\n");
     print_travel(&unguarded);
-    return as_promised(&by_reach) && as_promised(&by_caps) ? EXIT_SUCCESS : EXIT_FAILURE;
+    bool promised = as_promised(&by_reach) && as_promised(&by_caps) && as_promised(&by_span);
+    return promised ? EXIT_SUCCESS : EXIT_FAILURE;
 }

@@ -25,10 +25,29 @@ static int32_t numbers[GUARD_NUMBERS];
 static uint8_t buffer[GUARD_LONGEST_SHEET];
 static uint8_t boxes[GUARD_LONGEST_REACH];
 static const uint8_t *question; /* the one that call_decide asks */
+static size_t question_length;
 
 static size_t variables(void)
 {
     return (size_t)numbers[GUARD_SLOT_N];
+}
+
+/* The length of a question with this mark, 0 for a mark that no question has. */
+static size_t length_by_mark(const uint8_t *mark)
+{
+    if (mark[0] == 'Q' && mark[1] == 'S')
+        return guard_question_length(variables());
+    if (mark[0] == 'Q' && mark[1] == 'R')
+        return guard_span_question_length(variables());
+    return 0;
+}
+
+/* Takes the question that begins at a place of asks; false where no whole one does. */
+static bool take_question(size_t at)
+{
+    question = asks + at;
+    question_length = at + 2 <= asks_length ? length_by_mark(question) : 0;
+    return question_length > 0 && at + question_length <= asks_length;
 }
 
 static uint64_t call_nothing(void)
@@ -48,7 +67,7 @@ static uint64_t call_recovery(void)
 
 static uint64_t call_decide(void)
 {
-    return guard_decide(sheet, sheet_length, question, guard_question_length(variables()));
+    return guard_decide(sheet, sheet_length, question, question_length);
 }
 
 static uint64_t call_read(void)
@@ -65,8 +84,9 @@ static uint64_t call_write(void)
 static uint64_t call_reach(void)
 {
     uint32_t ticks = (uint32_t)numbers[GUARD_SLOT_RHO];
-    return guard_reach(sheet, sheet_length, ticks, 1, 0, 0, question + GUARD_QUESTION_HEAD,
-                       GUARD_PAIR * variables(), boxes, sizeof boxes);
+    size_t length = GUARD_PAIR * variables();
+    return guard_reach(sheet, sheet_length, ticks, 1, 0, 0, question + question_length - length,
+                       length, boxes, sizeof boxes);
 }
 
 typedef uint64_t (*call)(void);
@@ -127,11 +147,9 @@ static void row(const char *name, call one)
 /* The decision over all questions: the most stack, the longest time, and the time of a round. */
 static void decide_row(void)
 {
-    size_t length = guard_question_length(variables());
     size_t most_stack = 0;
     double longest = 0, total = 0, rounds = 0;
-    for (size_t at = 0; at + length <= asks_length; at += length) {
-        question = asks + at;
+    for (size_t at = 0; take_question(at); at += question_length) {
         size_t stack = stack_of(call_decide);
         double taken = time_of(call_decide);
         most_stack = stack > most_stack ? stack : most_stack;
@@ -163,7 +181,7 @@ int main(int count, char **words)
         fprintf(stderr, "guard.h is not that of this archive\n");
         return EXIT_FAILURE;
     }
-    if (guard_is_refused(call_read()) || asks_length < guard_question_length(variables())) {
+    if (guard_is_refused(call_read()) || !take_question(0)) {
         fprintf(stderr, "usage: measure sheet.bin asks.bin\n");
         return EXIT_FAILURE;
     }
@@ -173,7 +191,7 @@ int main(int count, char **words)
     decide_row();
     row("guard_sheet_read", call_read);
     row("guard_sheet_write", call_write);
-    question = asks;
+    take_question(0);
     row("guard_reach", call_reach);
     return EXIT_SUCCESS;
 }
