@@ -6,8 +6,8 @@
  * measures, moves the measured box on to the period's start, and asks the guard about the coach's
  * command; from the period's first tick on it acts on the answer. It moves boxes on by a reach, and
  * in a second run by the caps alone, to compare. In a third run it asks about a span of commands,
- * of which the coach uses another one at each tick. At the end it lets the same coach command
- * without the guard, to show the difference; the simulated sledge has no buffers that would stop it.
+ * and the coach sends another one at each tick. At the end it lets the same coach command without the
+ * guard, to show the difference; the simulated sledge has no buffers that would stop it.
  * All arithmetic is in whole numbers, so that it prints the same everywhere. */
 
 #include "guard.h"
@@ -157,12 +157,19 @@ static struct law coach(bool by_span)
     return (struct law){false, force, by_span ? force + SPAN : force};
 }
 
+/* A tick under a kept span: the coach sends what it likes, and the drive holds it to the span. */
+static int32_t force_within(struct law now)
+{
+    int32_t sent = random_within(now.least - SPAN, now.greatest + SPAN);
+    return sent < now.least ? now.least : sent > now.greatest ? now.greatest : sent;
+}
+
 /* The force at a tick. The plain law reads the sensors every tick. */
 static int32_t force_of(struct law now, const struct sledge *measured)
 {
     if (!now.kept)
         return plain_force(measured);
-    return is_span(now) ? random_within(now.least, now.greatest) : now.least;
+    return is_span(now) ? force_within(now) : now.least;
 }
 
 /* The legs push anew every few ticks, with 0 to 800 N. */
