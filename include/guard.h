@@ -124,13 +124,13 @@ uint64_t guard_recovery(const uint8_t *sheet, size_t sheet_length);
  *     'Q' 'S', allowance, command, sides                          10 + 8n bytes (guard_question)
  *     'Q' 'R', allowance, least command, greatest command, sides  14 + 8n bytes (guard_span_question)
  *
- * allowance is a u32, at most 1,000,000 (13). A command is an i32 within the head's commands, and the least
- * of a span is not above the greatest (14). The sides are, for each variable, the lower and the upper side
- * of the measured box (i32, lower <= upper, within +-1,000,000: 15).
+ * The allowance is a u32, at most 1,000,000 (13). A command is an i32 within the head's commands, and the
+ * least of a span is not above its greatest (14). The sides are, for each variable, the lower and the upper
+ * side of the measured box (i32, lower <= upper, within +-1,000,000: 15).
  *
- * The keep of a span lets the coach use any one command of the span at each tick of the period, the same for
- * all variables, and another one at the next tick. A span whose ends are equal has the answer of the one
- * command: the same code, width and rounds.
+ * The keep of a span lets the coach use any one command of the span at each tick of the period, the same
+ * for all variables, and another one at the next tick if it likes. A span whose ends are equal has the
+ * answer of its one command: the same code, width and rounds.
  *
  * The decision does not repeat the recovery check: ask only on a sheet that passed it. */
 uint64_t guard_decide(const uint8_t *sheet, size_t sheet_length,
@@ -155,11 +155,11 @@ uint64_t guard_sheet_write(const int32_t numbers[GUARD_NUMBERS], uint8_t *buffer
                            uint64_t place);
 
 /* A reach of a number of ticks (0 to 1,000) at a width (1 to 1,000) from a start box. Law 0 is the plain
- * law (command is then not looked at), any other law is the command. A reach has no span: its boxes say
- * nothing of ticks whose commands differ. start is n pairs of lower and upper side, as in a question. out
- * gets the n pairs of the end box and then those of the swept box: its first 16n bytes, and no others.
- * Answers the rounds. Refused with 1 to 11, 20 or 22, then 16, 14, 15 (also for another length of start),
- * then 17 where out is shorter than 16n bytes. */
+ * law (command is then not looked at), any other law is the command, the same at each tick; a span of
+ * commands has no law here. start is n pairs of lower and upper side, as in a question. out gets the n
+ * pairs of the end box and then those of the swept box: its first 16n bytes, and no others. Answers the
+ * rounds. Refused with 1 to 11, 20 or 22, then 16, 14, 15 (also for another length of start), then 17
+ * where out is shorter than 16n bytes. */
 uint64_t guard_reach(const uint8_t *sheet, size_t sheet_length, uint32_t ticks, uint32_t width,
                      uint32_t law, int32_t command, const uint8_t *start, size_t start_length,
                      uint8_t *out, size_t out_length);
@@ -187,8 +187,8 @@ static inline void guard_put(uint8_t *slice, size_t i, int32_t value)
     guard_put_bits(slice, i, (uint32_t)value);
 }
 
-/* Writes what both questions have: the mark, whose second letter is given, the allowance, and from place
- * sides_at on the sides. Between them stands what the coach asks for; its place is given back. */
+/* Writes what both questions have: the mark with this second letter, the allowance, and from sides_at on
+ * the sides. Gives the place between them, where the commands stand. */
 static inline uint8_t *guard_put_question(uint8_t *question, char letter, uint32_t allowance,
                                           const int32_t *sides, size_t n, size_t sides_at)
 {
@@ -205,18 +205,18 @@ static inline uint8_t *guard_put_question(uint8_t *question, char letter, uint32
 static inline size_t guard_question(uint8_t *question, uint32_t allowance, int32_t command,
                                     const int32_t *sides, size_t n)
 {
-    uint8_t *asked = guard_put_question(question, 'S', allowance, sides, n, GUARD_QUESTION_HEAD);
-    guard_put(asked, 0, command);
+    uint8_t *commands = guard_put_question(question, 'S', allowance, sides, n, GUARD_QUESTION_HEAD);
+    guard_put(commands, 0, command);
     return guard_question_length(n);
 }
 
-/* Writes a question about a span of commands, of 14 + 8n bytes, and gives its length; the rest as above. */
+/* Writes a question about a span of commands, of 14 + 8n bytes, and gives its length; else as above. */
 static inline size_t guard_span_question(uint8_t *question, uint32_t allowance, int32_t least,
                                          int32_t greatest, const int32_t *sides, size_t n)
 {
-    uint8_t *asked = guard_put_question(question, 'R', allowance, sides, n, GUARD_SPAN_QUESTION_HEAD);
-    guard_put(asked, 0, least);
-    guard_put(asked, 1, greatest);
+    uint8_t *commands = guard_put_question(question, 'R', allowance, sides, n, GUARD_SPAN_QUESTION_HEAD);
+    guard_put(commands, 0, least);
+    guard_put(commands, 1, greatest);
     return guard_span_question_length(n);
 }
 
