@@ -4,7 +4,7 @@
 use crate::boxes::StateBox;
 use crate::changes::Change;
 use crate::reach::{advance, Budget, Law, NoWatch, Step, Stop, Watch};
-use crate::sheet::{self, Fields, Refusal, Sheet, START_LIMIT};
+use crate::sheet::{self, CommandRange, Fields, Refusal, Sheet, START_LIMIT};
 use std::ops::ControlFlow;
 
 const ALLOWANCE_LIMIT: u32 = 1_000_000;
@@ -13,7 +13,8 @@ const ALLOWANCE_LIMIT: u32 = 1_000_000;
 #[derive(Clone, Copy, Debug, PartialEq, Eq)]
 pub struct Question {
     pub allowance: u32,
-    pub command: i32,
+    /// The commands that the period may use; of one command where the mark is `QS`.
+    pub span: CommandRange,
     pub measured: StateBox,
 }
 
@@ -41,6 +42,22 @@ pub struct Faults {
     pub end_boxes_only: bool,
     /// The baseline reach starts from the measured box.
     pub baseline_from_measured: bool,
+    /// What of a span its rates are bounded over.
+    pub bounded: Bounded,
+}
+
+/// What of a span the rates of its ticks are bounded over.
+#[derive(Clone, Copy, Debug, Default, PartialEq, Eq)]
+pub enum Bounded {
+    /// All of it: the outer one of b·least and b·greatest, as is right.
+    #[default]
+    Outer,
+    /// The inner one of the two.
+    Inner,
+    /// The least command alone.
+    Least,
+    /// The greatest command alone.
+    Greatest,
 }
 
 /// The steps of one attempt, for pictures and counts.
@@ -81,24 +98,31 @@ impl RecoveryCheck {
     }
 }
 
-/// The length of a question's bytes.
-pub fn question_length(variables: usize) -> usize {
-    10 + 8 * variables
+/// The length of a question by the mark that these bytes begin with; nothing where it is unknown.
+pub fn question_length(bytes: &[u8], variables: usize) -> Option<usize> {
+    match bytes.get(..2)? {
+        b"QS" => Some(10 + 8 * variables),
+        b"QR" => Some(14 + 8 * variables),
+        _ => None,
+    }
 }
 
 /// Reads a question from all of these bytes.
 pub fn read_question(sheet: &Sheet, bytes: &[u8]) -> Result<Question, Refusal> {
     let n = sheet.n();
-    let mut fields = Fields(bytes);
-    if bytes.len() != question_length(n) || !fields.mark(b"QS") {
+    if question_length(bytes, n) != Some(bytes.len()) {
         return Err(Refusal::Question);
     }
+    let mut fields = Fields(bytes);
+    let one_command = fields.mark(b"QS");
     let allowance = fields.u32();
     if allowance > ALLOWANCE_LIMIT {
         return Err(Refusal::Allowance);
     }
-    let command = fields.i32();
-    if !sheet.commands.holds(command) {
+    let least = fields.i32();
+    let greatest = if one_command { least } else { fields.i32() };
+    let span = CommandRange { least, greatest };
+    if !sheet.commands.holds_range(&span) {
         return Err(Refusal::Command);
     }
     let measured = fields.sides(n);
@@ -107,7 +131,7 @@ pub fn read_question(sheet: &Sheet, bytes: &[u8]) -> Result<Question, Refusal> {
     }
     Ok(Question {
         allowance,
-        command,
+        span,
         measured,
     })
 }
@@ -211,9 +235,20 @@ fn refine<W: Watch>(
     }
 }
 
-fn decision_legs(sheet: &Sheet, command: i32) -> [Leg; 2] {
+fn decision_legs(sheet: &Sheet, span: CommandRange, bounded: Bounded) -> [Leg; 2] {
+    let CommandRange { least, greatest } = span;
+    let law = match bounded {
+        Bounded::Outer => Law::span(span),
+        // A term takes the end that is the outer one of a span in order.
+        Bounded::Inner => Law::Span {
+            least: greatest,
+            greatest: least,
+        },
+        Bounded::Least => Law::command(least),
+        Bounded::Greatest => Law::command(greatest),
+    };
     [
-        (Law::Command(command), sheet.delta as u32),
+        (law, sheet.delta as u32),
         (Law::Baseline, sheet.alpha as u32),
     ]
 }
@@ -226,7 +261,7 @@ pub fn decide_watched<W: Watch>(
     watch: &mut W,
 ) -> Decision {
     let mut budget = Budget::limited(u64::from(question.allowance));
-    let legs = decision_legs(sheet, question.command);
+    let legs = decision_legs(sheet, question.span, faults.bounded);
     let (outcome, width) = refine(sheet, &legs, &question.measured, &mut budget, faults, watch);
     let rounds = budget.rounds;
     match outcome {
@@ -289,7 +324,7 @@ impl Watch for Collector {
 
 /// The steps of the attempt at one width; the allowance does not end it.
 pub fn trace(sheet: &Sheet, question: &Question, width: u32, faults: Faults) -> Trace {
-    let legs = decision_legs(sheet, question.command);
+    let legs = decision_legs(sheet, question.span, faults.bounded);
     trace_legs(sheet, &legs, &question.measured, width, faults)
 }
 

@@ -5,7 +5,7 @@ use crate::boxes::{State, StateBox};
 use crate::changes::Change;
 use crate::machine::{greatest_so_far, least_so_far};
 use crate::neighborhoods::Face;
-use crate::sheet::{Band, Refusal, Row, Sheet, START_LIMIT, TICKS_LIMIT};
+use crate::sheet::{Band, CommandRange, Refusal, Row, Sheet, START_LIMIT, TICKS_LIMIT};
 use crate::whole;
 use std::ops::ControlFlow;
 
@@ -17,8 +17,20 @@ const ROUNDS_PER_LENGTH: u32 = 8;
 pub enum Law {
     /// The plain law: any command of the band's safety range.
     Baseline,
-    /// This command in every band.
-    Command(i32),
+    /// Any command from the least to the greatest, in every band; at each tick it may be another one.
+    Span { least: i32, greatest: i32 },
+}
+
+impl Law {
+    /// This command in every band and at every tick.
+    pub fn command(command: i32) -> Law {
+        Law::span(CommandRange::one(command))
+    }
+
+    pub fn span(span: CommandRange) -> Law {
+        let CommandRange { least, greatest } = span;
+        Law::Span { least, greatest }
+    }
 }
 
 /// A settled step.
@@ -154,7 +166,7 @@ pub(crate) fn commands(law: Law, band: &Band) -> (i64, i64) {
             i64::from(band.safety.least),
             i64::from(band.safety.greatest),
         ),
-        Law::Command(command) => (i64::from(command), i64::from(command)),
+        Law::Span { least, greatest } => (i64::from(least), i64::from(greatest)),
     }
 }
 
@@ -371,8 +383,11 @@ pub fn reach(
     if ticks > limit || width == 0 || width > limit {
         return Err(Refusal::Reach);
     }
-    if let Law::Command(command) = law {
-        if !sheet.commands.holds(command) {
+    if let Law::Span { least, greatest } = law {
+        if !sheet
+            .commands
+            .holds_range(&CommandRange { least, greatest })
+        {
             return Err(Refusal::Command);
         }
     }

@@ -70,8 +70,21 @@ pub struct CommandRange {
 }
 
 impl CommandRange {
+    /// One command.
+    pub fn one(command: i32) -> CommandRange {
+        CommandRange {
+            least: command,
+            greatest: command,
+        }
+    }
+
     pub fn holds(&self, command: i32) -> bool {
         self.least <= command && command <= self.greatest
+    }
+
+    /// The other one is in order and within this one.
+    pub fn holds_range(&self, other: &CommandRange) -> bool {
+        other.least <= other.greatest && self.holds(other.least) && self.holds(other.greatest)
     }
 }
 

@@ -11,7 +11,7 @@ use second_guard::machine::{
     allowed_change, band_of, bands_met, ceil_div, floor_div, greatest_change, least_change,
 };
 use second_guard::reach::{reach, Law, NoWatch, Reach};
-use second_guard::sheet::{self, Refusal, Row, Sheet, NUMBERS};
+use second_guard::sheet::{self, CommandRange, Refusal, Row, Sheet, NUMBERS};
 
 /// Sheet A, written by hand from its values.
 #[rustfmt::skip]
@@ -230,7 +230,7 @@ fn boxes_of_the_first_question() {
     assert_eq!(trace.rounds, 4);
     assert_eq!(trace.steps.len(), 2);
     let [first, second] = [trace.steps[0], trace.steps[1]];
-    assert_eq!(first.law, Law::Command(25));
+    assert_eq!(first.law, Law::command(25));
     assert_eq!((first.ticks, first.end), (4, interval(16, 20)));
     assert_eq!(first.swept, interval(0, 20));
     assert_eq!(second.law, Law::Baseline);
@@ -239,7 +239,7 @@ fn boxes_of_the_first_question() {
     assert_eq!(second.swept, interval(12, 20));
     assert_eq!(first.rounds + second.rounds, 4);
 
-    let under_command = reach(&sheet, 4, 4, Law::Command(25), &interval(0, 0)).unwrap();
+    let under_command = reach(&sheet, 4, 4, Law::command(25), &interval(0, 0)).unwrap();
     assert_eq!(under_command.end, interval(16, 20));
     let baseline = reach(&sheet, 4, 4, Law::Baseline, &under_command.end).unwrap();
     assert_eq!(baseline.end, interval(12, 20));
@@ -273,7 +273,7 @@ fn swept_to_129_and_130() {
     sheet.unsafe_boxes[0] = interval(130, 130);
     let bytes = written(&sheet);
     let under_push = |from: i32| decide(&bytes, &question(100, 25, &[(from, from)]));
-    let swept = |from: i64| reach(&sheet, 4, 4, Law::Command(25), &interval(from, from)).unwrap();
+    let swept = |from: i64| reach(&sheet, 4, 4, Law::command(25), &interval(from, from)).unwrap();
     assert_eq!(swept(109).swept, interval(109, 129));
     assert!(matches!(under_push(109), Decision::Keep { width: 4, .. }));
     assert_eq!(swept(110).swept, interval(110, 130));
@@ -395,7 +395,7 @@ fn faults_change_answers() {
     };
     let question = Question {
         allowance: 1_000,
-        command: 25,
+        span: CommandRange::one(25),
         measured: interval(0, 0),
     };
     let with = |faults| decide_watched(&sheet, &question, faults, &mut NoWatch);
@@ -451,7 +451,7 @@ fn reach_refusals_in_order() {
         interval(0, 1_000_001),
     ];
     for (ticks, width) in [(1_001, 1), (1, 0), (1, 1_001), (0, 0), (u32::MAX, u32::MAX)] {
-        for law in [Law::Baseline, Law::Command(25), Law::Command(26)] {
+        for law in [Law::Baseline, Law::command(25), Law::command(26)] {
             for start in [good, bad[0]] {
                 assert_eq!(
                     reach(&sheet, ticks, width, law, &start),
@@ -465,12 +465,12 @@ fn reach_refusals_in_order() {
             for command in [-26, 26] {
                 for start in [good, bad[0]] {
                     assert_eq!(
-                        reach(&sheet, ticks, width, Law::Command(command), &start),
+                        reach(&sheet, ticks, width, Law::command(command), &start),
                         Err(Refusal::Command)
                     );
                 }
             }
-            for law in [Law::Baseline, Law::Command(-25), Law::Command(25)] {
+            for law in [Law::Baseline, Law::command(-25), Law::command(25)] {
                 for start in &bad {
                     assert_eq!(reach(&sheet, ticks, width, law, start), Err(Refusal::Start));
                 }
@@ -482,7 +482,7 @@ fn reach_refusals_in_order() {
 
 #[test]
 fn width_one_takes_one_round_per_tick() {
-    let reached = reach(&sheet_a(), 9, 1, Law::Command(25), &interval(0, 0)).unwrap();
+    let reached = reach(&sheet_a(), 9, 1, Law::command(25), &interval(0, 0)).unwrap();
     assert_eq!(reached.rounds, 9);
 }
 
@@ -902,13 +902,11 @@ fn listings_of_broken_files() {
         listing(&SHEET_A, &asks),
         "sheet pass 4 1\n1 keep 4 4\n2 refused 12\n"
     );
+    // Paper 4 of document 02: after an unknown mark nothing is cut any more.
     let mut wrong = question.clone();
     wrong[0] = b'X';
     let asks = [&wrong[..], &question[..]].concat();
-    assert_eq!(
-        listing(&SHEET_A, &asks),
-        "sheet pass 4 1\n1 refused 12\n2 keep 4 4\n"
-    );
+    assert_eq!(listing(&SHEET_A, &asks), "sheet pass 4 1\n1 refused 12\n");
     let mut failing = sheet_a();
     failing.recovery = interval(1, 2);
     let text = listing(&written(&failing), &question);

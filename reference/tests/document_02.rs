@@ -1,21 +1,23 @@
 //! Cases of document 02 worked by hand.
 //! Paper 2: no-go records ascend strictly, and their order changes no answer.
 //! Paper 3: each band's row is bounded over the part of the neighborhood that lies in that band.
+//! Paper 4: a question `QR` is about a span of commands, and the program cuts its file by mark.
 //! Paper 6: a change is compared with its cap first and divided only strictly between.
 //! Paper 8: a recovery box that shares a state with a no-go box is refused, and would fail its check.
 
-use second_guard::boxes::StateBox;
+use second_guard::boxes::{State, StateBox};
 use second_guard::changes::{Change, Place};
 use second_guard::decision::{
-    check_recovery, check_recovery_watched, decide, decide_watched, trace_recovery, Decision,
-    Faults, Question, RecoveryCheck,
+    check_recovery, check_recovery_watched, decide, decide_watched, question_length, read_question,
+    trace, trace_recovery, Bounded, Decision, Faults, Question, RecoveryCheck,
 };
-use second_guard::listing::listing;
+use second_guard::listing::{listing, questions};
 use second_guard::machine::{
-    ceil_div, floor_div, greatest_change, greatest_so_far, least_change, least_so_far,
+    allowed_change, band_of, ceil_div, floor_div, greatest_change, greatest_so_far, least_change,
+    least_so_far,
 };
 use second_guard::neighborhoods::Face;
-use second_guard::reach::{advance, reach, Budget, Law, Reach, Step, Watch};
+use second_guard::reach::{advance, reach, Budget, Law, NoWatch, Reach, Step, Watch};
 use second_guard::sheet::{self, Band, CommandRange, Refusal, Row, Sheet, FIRST_EDGE};
 use second_guard::whole::WholeNeighborhoods;
 use std::ops::ControlFlow;
@@ -511,7 +513,7 @@ fn compare_orders(numbers: &mut Numbers, sheet: &Sheet, orders: &[Vec<usize>], s
     for allowance in [1_000_000, numbers.between(0, 30) as u32] {
         let question = Question {
             allowance,
-            command: numbers.between(-9, 9),
+            span: CommandRange::one(numbers.between(-9, 9)),
             measured: sides(numbers.pair((-45, 40), 6), numbers.pair((-35, 30), 6)),
         };
         let decision = seen.decision(sheet, &question);
@@ -1035,7 +1037,7 @@ fn overlap_comes_before_all_of_a_call() {
     for (ticks, width, command) in [(1, 1, 0), (1_001, 1, 0), (1, 0, 0), (1, 1, 1)] {
         let start = box_of(&[(1, 0)]);
         let reached = sheet::read(&bytes)
-            .and_then(|read| reach(&read, ticks, width, Law::Command(command), &start));
+            .and_then(|read| reach(&read, ticks, width, Law::command(command), &start));
         assert_eq!(reached, Err(number));
     }
     assert_eq!(check_recovery(&bytes), RecoveryCheck::Refused(number));
@@ -1153,4 +1155,387 @@ fn a_clear_recovery_box_may_fail_at_a_later_step() {
         later += u32::from(steps.settled.len() > widths(sheet.rho).len());
     }
     assert!(later > 300, "{later}");
+}
+
+// ---- Paper 4
+
+fn span(least: i32, greatest: i32) -> CommandRange {
+    CommandRange { least, greatest }
+}
+
+/// A question's bytes: its mark, allowance, commands and sides.
+fn asked(mark: &[u8], allowance: u32, commands: &[i32], sides: &[(i32, i32)]) -> Vec<u8> {
+    let mut bytes = mark.to_vec();
+    bytes.extend(allowance.to_be_bytes());
+    bytes.extend(commands.iter().flat_map(|command| command.to_be_bytes()));
+    let sides = sides.iter().flat_map(|&(lower, upper)| [lower, upper]);
+    bytes.extend(sides.flat_map(i32::to_be_bytes));
+    bytes
+}
+
+/// x alone, between 0 and the next edge pushed by b·u / 4 and from there on by c·u / 4; caps 5.
+fn pushed(b: i32, edge: i32, c: i32) -> Sheet {
+    let push = |b| Row {
+        b,
+        ..row([0, 0], 0, 4)
+    };
+    let mut sheet = machine(&[(FIRST_EDGE, push(b), STILL), (edge, push(c), STILL)]);
+    (sheet.variables, sheet.band_variable) = (1, 0);
+    sheet.commands = span(-8, 8);
+    sheet.recovery = box_of(&[(-10, 100)]);
+    sheet.unsafe_boxes[0] = box_of(&[(1_000, 1_000)]);
+    sheet
+}
+
+/// Where x goes from this box in a tick under a span.
+fn spanned(sheet: &Sheet, commands: CommandRange, start: (i64, i64)) -> (i64, i64) {
+    let reached = reach(sheet, 1, 1, Law::span(commands), &box_of(&[start])).expect("no refusal");
+    (reached.end.lower[0], reached.end.upper[0])
+}
+
+#[test]
+fn a_term_is_bounded_by_its_outer_end() {
+    // 8/4 is 2 and -4/4 is -1.
+    let forward = pushed(1, 50, 1);
+    assert_eq!(spanned(&forward, span(-4, 8), (10, 20)), (9, 22));
+    let backward = pushed(-1, 50, -1);
+    assert_eq!(spanned(&backward, span(-4, 8), (10, 20)), (8, 21));
+    assert_eq!(spanned(&backward, span(4, 8), (10, 20)), (8, 19));
+    // Without a coefficient no command moves x.
+    assert_eq!(spanned(&pushed(0, 50, 0), span(-8, 8), (10, 20)), (10, 20));
+    // Another sign from 15 on: either end of the span may be the outer one of a face.
+    let turning = pushed(1, 15, -1);
+    assert_eq!(spanned(&turning, span(-4, 8), (10, 20)), (8, 22));
+    assert_eq!(spanned(&turning, span(-4, 8), (10, 14)), (9, 16));
+    assert_eq!(spanned(&turning, span(-4, 8), (15, 20)), (13, 21));
+    // One command is a span of one.
+    let one = reach(&turning, 1, 1, Law::command(8), &box_of(&[(10, 20)]));
+    assert_eq!(one.expect("no refusal").end, box_of(&[(8, 22)]));
+    assert_eq!(spanned(&turning, span(8, 8), (10, 20)), (8, 22));
+}
+
+/// x follows the command, and from 1 on z goes by -5 times the command. From x = z = 0 the command 1
+/// leads z down, -1 leaves it; 1 and then -1 leads it to 5, into the no-go box.
+fn steered() -> Sheet {
+    let by = |b| Row {
+        b,
+        ..row([0, 0], 0, 1)
+    };
+    let mut sheet = machine(&[(FIRST_EDGE, by(1), STILL), (1, by(1), by(-5))]);
+    (sheet.band_variable, sheet.delta) = (0, 2);
+    sheet.caps = [1, 5, 0, 0];
+    sheet.commands = span(-1, 1);
+    sheet.recovery = sides((-3, 3), (-20, 4));
+    sheet.unsafe_boxes[0] = sides((-3, 3), (5, 9));
+    sheet
+}
+
+#[test]
+fn a_span_is_more_than_each_of_its_commands() {
+    let sheet = steered();
+    let decided = |span| {
+        let (allowance, measured) = (100, StateBox::default());
+        let question = Question {
+            allowance,
+            span,
+            measured,
+        };
+        decide_watched(&sheet, &question, Faults::default(), &mut NoWatch)
+    };
+    for command in -1..=1 {
+        let one = decided(CommandRange::one(command));
+        assert!(matches!(one, Decision::Keep { .. }), "{command} {one:?}");
+    }
+    assert!(matches!(decided(span(-1, 0)), Decision::Keep { .. }));
+    assert!(matches!(decided(span(-1, 1)), Decision::Finest { .. }));
+    let mut state = [0; 4];
+    tick(&mut Numbers(1), &sheet, &mut state, 1);
+    tick(&mut Numbers(1), &sheet, &mut state, -1);
+    assert!(sheet.unsafe_boxes[0].holds(&state));
+}
+
+#[test]
+fn lengths_by_mark() {
+    for n in 1..=4 {
+        assert_eq!(question_length(b"QS", n), Some(10 + 8 * n));
+        assert_eq!(question_length(b"QR and more", n), Some(14 + 8 * n));
+        for unknown in [&b""[..], b"Q", b"QT", b"RR", b"sq", b"SQ", b"qs", b"RQ"] {
+            assert_eq!(question_length(unknown, n), None);
+        }
+    }
+}
+
+/// By which number a question is refused on a sheet with commands from -8 to 8; 0 is none.
+fn refused_question(question: &[u8]) -> u8 {
+    let sheet = pushed(1, 50, 1);
+    let decision = decide(&bytes_of(&sheet), question);
+    let read = read_question(&sheet, question).err();
+    match (decision, read) {
+        (Decision::Refused(refusal), Some(read)) if refusal == read => refusal.number(),
+        (Decision::Refused(_), _) | (_, Some(_)) => panic!("{decision:?} {read:?}"),
+        _ => 0,
+    }
+}
+
+#[test]
+fn spans_within_the_heads_commands() {
+    let span = |least, greatest| asked(b"QR", 9, &[least, greatest], &[(0, 0)]);
+    for (least, greatest) in [(-8, 8), (-8, -8), (8, 8), (0, 0), (-1, 7)] {
+        assert_eq!(refused_question(&span(least, greatest)), 0);
+    }
+    let outside = [(-9, 8), (-8, 9), (-9, -9), (9, 9), (i32::MIN, i32::MAX)];
+    let reversed = [(1, 0), (8, -8), (9, -9), (i32::MAX, i32::MIN)];
+    for (least, greatest) in outside.into_iter().chain(reversed) {
+        assert_eq!(refused_question(&span(least, greatest)), 14);
+    }
+}
+
+#[test]
+fn a_mark_has_its_own_length() {
+    let sides = &[(0, 0)];
+    let (one, two) = (&[3][..], &[3, 3][..]);
+    assert_eq!(refused_question(&asked(b"QS", 9, one, sides)), 0);
+    assert_eq!(refused_question(&asked(b"QR", 9, two, sides)), 0);
+    assert_eq!(refused_question(&asked(b"QS", 9, two, sides)), 12);
+    assert_eq!(refused_question(&asked(b"QR", 9, one, sides)), 12);
+    for mark in [b"QT", b"RR", b"sq", b"RQ"] {
+        assert_eq!(refused_question(&asked(mark, 9, one, sides)), 12);
+        assert_eq!(refused_question(&asked(mark, 9, two, sides)), 12);
+    }
+    let whole = asked(b"QR", 9, two, sides);
+    for length in 0..whole.len() {
+        assert_eq!(refused_question(&whole[..length]), 12);
+    }
+    let longer = [&whole[..], &[0]].concat();
+    assert_eq!(refused_question(&longer), 12);
+}
+
+#[test]
+fn faults_of_a_span_in_order() {
+    // Mark, allowance, reversed span, an end outside, side.
+    let faults: [(u8, usize, Vec<u8>); 5] = [
+        (12, 0, b"RQ".to_vec()),
+        (13, 2, 1_000_001_u32.to_be_bytes().to_vec()),
+        (14, 6, 4_i32.to_be_bytes().to_vec()),
+        (14, 10, 9_i32.to_be_bytes().to_vec()),
+        (15, 14, 1_i32.to_be_bytes().to_vec()),
+    ];
+    let good = asked(b"QR", 1_000_000, &[-3, 3], &[(0, 0)]);
+    assert_eq!(refused_question(&good), 0);
+    let put = |question: &[u8], (_, at, bytes): &(u8, usize, Vec<u8>)| {
+        let mut question = question.to_vec();
+        question[*at..*at + bytes.len()].copy_from_slice(bytes);
+        question
+    };
+    for (i, fault) in faults.iter().enumerate() {
+        let question = put(&good, fault);
+        assert_eq!(refused_question(&question), fault.0);
+        assert_eq!(refused_question(&question[..21]), 12);
+        for later in &faults[i + 1..] {
+            assert_eq!(refused_question(&put(&question, later)), fault.0);
+        }
+        let refused = listing(&bytes_of(&pushed(1, 50, 1)), &question);
+        assert!(refused.ends_with(&format!("1 refused {}\n", fault.0)));
+    }
+}
+
+/// Any question about a machine of `among_boxes`, with any span of its commands.
+fn any_span(numbers: &mut Numbers) -> Question {
+    let least = numbers.between(-9, 9);
+    Question {
+        allowance: 1_000_000,
+        span: span(least, numbers.between(least, 9)),
+        measured: sides(numbers.pair((-45, 40), 6), numbers.pair((-35, 30), 6)),
+    }
+}
+
+#[test]
+fn a_span_of_one_answers_as_its_command() {
+    let (mut numbers, mut kept, mut refused) = (Numbers(4), 0, 0);
+    for _ in 0..3_000 {
+        let mut sheet = among_boxes(&mut numbers, 2);
+        sheet.recovery = sides((-20, 20), (-20, 20));
+        let bytes = bytes_of(&sheet);
+        let command = numbers.between(-11, 11);
+        let allowance = [1_000_000, 8, 0, 1_000_001][numbers.between(0, 3) as usize];
+        let side = |numbers: &mut Numbers| {
+            let (lower, upper) = numbers.pair((-45, 40), 6);
+            (lower as i32, upper as i32)
+        };
+        let measured = [side(&mut numbers), side(&mut numbers)];
+        let one = decide(&bytes, &asked(b"QS", allowance, &[command], &measured));
+        let two = decide(
+            &bytes,
+            &asked(b"QR", allowance, &[command, command], &measured),
+        );
+        assert_eq!(one, two);
+        kept += u32::from(matches!(one, Decision::Keep { .. }));
+        refused += u32::from(matches!(one, Decision::Refused(Refusal::Command)));
+    }
+    assert!(kept > 100 && refused > 100, "{kept} {refused}");
+}
+
+/// The first step of a reach.
+fn first_step(sheet: &Sheet, law: Law, start: &StateBox, width: u32) -> Step {
+    let (mut steps, mut budget) = (Steps::default(), Budget::unlimited());
+    let end = advance(sheet, law, start, width, width, &mut budget, &mut steps);
+    assert!(end.is_ok());
+    steps.settled[0]
+}
+
+#[test]
+fn a_spans_step_holds_that_of_each_command() {
+    let (mut numbers, mut compared, mut wider) = (Numbers(5), 0, 0);
+    for _ in 0..1_500 {
+        let sheet = among_boxes(&mut numbers, 1);
+        let Question { span, measured, .. } = any_span(&mut numbers);
+        let width = [1, 2, 5, 9][numbers.between(0, 3) as usize];
+        let all = first_step(&sheet, Law::span(span), &measured, width);
+        for command in span.least..=span.greatest {
+            let one = first_step(&sheet, Law::command(command), &measured, width);
+            if one.ticks == all.ticks {
+                assert!(one.end.inside(&all.end) && one.swept.inside(&all.swept));
+                compared += 1;
+                wider += u32::from(one.end != all.end);
+            }
+        }
+    }
+    assert!(compared > 5_000 && wider > 2_000, "{compared} {wider}");
+}
+
+/// One tick with any allowed changes under one command for all variables.
+fn tick(numbers: &mut Numbers, sheet: &Sheet, state: &mut State, command: i32) {
+    let before = *state;
+    for i in 0..sheet.n() {
+        let (least, greatest) = allowed_change(sheet, &before, command, i).expect("a band");
+        let either = [least, greatest][numbers.between(0, 1) as usize];
+        state[i] += either;
+    }
+}
+
+/// A run of a period under any commands of the span and then of alpha plain ticks. Answers whether it
+/// kept clear of the no-go boxes and came back.
+fn comes_back(numbers: &mut Numbers, sheet: &Sheet, question: &Question) -> bool {
+    let (at, v) = (&question.measured, sheet.band_variable as usize);
+    let mut state: State = [0; 4];
+    for i in 0..sheet.n() {
+        state[i] = [at.lower[i], at.upper[i]][numbers.between(0, 1) as usize];
+    }
+    for time in 0..sheet.delta + sheet.alpha {
+        let band = band_of(sheet, state[v]).expect("a band");
+        let commands = if time < sheet.delta {
+            question.span
+        } else {
+            sheet.bands[band].safety
+        };
+        let command = numbers.between(commands.least, commands.greatest);
+        tick(numbers, sheet, &mut state, command);
+        if sheet.unsafe_boxes().iter().any(|u| u.holds(&state)) {
+            return false;
+        }
+    }
+    sheet.recovery.holds(&state)
+}
+
+/// How many runs were made behind keeps of a guard that bounds a span so, and how many went wrong.
+fn runs(bounded: Bounded) -> (u32, u32) {
+    let faults = Faults {
+        bounded,
+        ..Faults::default()
+    };
+    let (mut numbers, mut made, mut wrong) = (Numbers(6), 0, 0);
+    for _ in 0..3_000 {
+        let mut sheet = among_boxes(&mut numbers, 2);
+        sheet.recovery = sides((-20, 20), (-20, 20));
+        let question = any_span(&mut numbers);
+        let decision = decide_watched(&sheet, &question, faults, &mut NoWatch);
+        if question.span.least == question.span.greatest
+            || !matches!(decision, Decision::Keep { .. })
+        {
+            continue;
+        }
+        for _ in 0..20 {
+            made += 1;
+            wrong += u32::from(!comes_back(&mut numbers, &sheet, &question));
+        }
+    }
+    (made, wrong)
+}
+
+#[test]
+fn a_kept_span_may_be_used_in_any_way() {
+    let (made, wrong) = runs(Bounded::Outer);
+    assert!(made > 2_000 && wrong == 0, "{made} {wrong}");
+    for bounded in [Bounded::Inner, Bounded::Least, Bounded::Greatest] {
+        let (made, wrong) = runs(bounded);
+        assert!(wrong > 20, "{bounded:?} {made} {wrong}");
+    }
+}
+
+#[test]
+fn the_first_phase_alone_is_under_the_span() {
+    let mut sheet = pushed(1, 50, 1);
+    (sheet.delta, sheet.alpha) = (3, 2);
+    let question = Question {
+        allowance: 100,
+        span: span(-4, 8),
+        measured: box_of(&[(10, 20)]),
+    };
+    let steps = trace(&sheet, &question, 1, Faults::default()).steps;
+    let laws: Vec<Law> = steps.iter().map(|step| step.law).collect();
+    let under = Law::Span {
+        least: -4,
+        greatest: 8,
+    };
+    let plain = Law::Baseline;
+    assert_eq!(laws, [under, under, under, plain, plain]);
+    assert_eq!(steps[2].end, box_of(&[(7, 26)]));
+    assert_eq!(steps[4].end, box_of(&[(7, 26)]));
+}
+
+/// The lengths of the questions that a file of one variable is cut into.
+fn cut(asks: &[u8]) -> Vec<usize> {
+    questions(asks, 1).map(<[u8]>::len).collect()
+}
+
+#[test]
+fn a_file_is_cut_by_mark() {
+    let one = asked(b"QS", 100, &[3], &[(0, 0)]);
+    let two = asked(b"QR", 100, &[-3, 3], &[(0, 0)]);
+    let other = asked(b"QT", 100, &[3], &[(0, 0)]);
+    assert_eq!(cut(&[]), []);
+    assert_eq!(
+        cut(&[&one[..], &two, &two, &one].concat()),
+        [18, 22, 22, 18]
+    );
+    // An unknown mark takes the rest, whatever its length.
+    assert_eq!(cut(&[&other[..], &one, &two].concat()), [58]);
+    assert_eq!(cut(&[&one[..], &other, &two].concat()), [18, 40]);
+    assert_eq!(cut(&[&two[..], &one, b"xx"].concat()), [22, 18, 2]);
+    // So does a single byte.
+    for byte in [b"Q", b"x"] {
+        assert_eq!(cut(&[&two[..], byte].concat()), [22, 1]);
+        assert_eq!(cut(byte), [1]);
+    }
+    // A mark cut short is a short tail.
+    for length in 1..22 {
+        let asks = [&one[..], &two[..length]].concat();
+        assert_eq!(cut(&asks), [18, length]);
+        let text = listing(&bytes_of(&pushed(1, 50, 1)), &asks);
+        assert!(text.ends_with("2 refused 12\n"), "{text}");
+    }
+}
+
+#[test]
+fn a_listing_of_both_marks() {
+    let sheet = bytes_of(&pushed(1, 50, 1));
+    let two = |least, greatest| asked(b"QR", 100, &[least, greatest], &[(0, 0)]);
+    let one = asked(b"QS", 100, &[3], &[(0, 0)]);
+    let asks = [two(-4, 8), one.clone(), two(8, -4), two(3, 3), two(0, 9)].concat();
+    let answers = "1 keep 1 2\n2 keep 1 2\n3 refused 14\n4 keep 1 2\n5 refused 14\n";
+    assert_eq!(listing(&sheet, &asks), format!("sheet pass 1 1\n{answers}"));
+    let unknown = [&asks[..], b"XX", &one].concat();
+    let more = "6 refused 12\n";
+    let text = format!("sheet pass 1 1\n{answers}{more}");
+    assert_eq!(listing(&sheet, &unknown), text);
 }

@@ -223,11 +223,7 @@ impl Watch for Counts {
 
 /// What is asked of the guard.
 enum Call {
-    Decide {
-        allowance: u32,
-        command: i32,
-        measured: StateBox,
-    },
+    Decide(Mark, Question),
     Check,
     Reach {
         ticks: u32,
@@ -235,6 +231,13 @@ enum Call {
         law: Law,
         start: StateBox,
     },
+}
+
+/// A question's mark: of one command or of a span.
+#[derive(Clone, Copy)]
+enum Mark {
+    One,
+    Span,
 }
 
 struct Example {
@@ -467,20 +470,24 @@ fn by(a: i32, c: i32) -> Row {
     row([a], 0, c, 0, 1)
 }
 
+/// A question about one command.
+fn ask(allowance: u32, command: i32, measured: StateBox) -> Call {
+    let span = CommandRange::one(command);
+    Call::Decide(
+        Mark::One,
+        Question {
+            allowance,
+            span,
+            measured,
+        },
+    )
+}
+
 fn examples() -> Vec<Example> {
     use Covers::*;
     let origin = sides([(0, 0), (0, 0)]);
     let wide = sides([(-100, 100), (-70, 75)]);
-    let push = |allowance| Call::Decide {
-        allowance,
-        command: 20,
-        measured: origin,
-    };
-    let ask = |allowance, command, measured| Call::Decide {
-        allowance,
-        command,
-        measured,
-    };
+    let push = |allowance| ask(allowance, 20, origin);
     let a_tick = |start| Call::Reach {
         ticks: 1,
         width: 1,
@@ -648,7 +655,7 @@ fn examples() -> Vec<Example> {
             call: Call::Reach {
                 ticks: 9,
                 width: 4,
-                law: Law::Command(-7),
+                law: Law::command(-7),
                 start: sides([(36, 41), (-3, 5)]),
             },
             covers: vec![UnderCommand, ShorterLastStep, BandsMet(2), Spread],
@@ -670,7 +677,7 @@ fn examples() -> Vec<Example> {
             call: Call::Reach {
                 ticks: 9,
                 width: 8,
-                law: Law::Command(3),
+                law: Law::command(3),
                 start: sides([(-20, 20), (46, 51)]),
             },
             covers: vec![UnderCommand, Halvings(2), BandsMet(2), ShorterLastStep],
@@ -681,7 +688,7 @@ fn examples() -> Vec<Example> {
             call: Call::Reach {
                 ticks: 0,
                 width: 1_000,
-                law: Law::Command(5),
+                law: Law::command(5),
                 start: sides([(-1, 2), (-3, 4), (-5, 6)]),
             },
             covers: vec![UnderCommand, NoTicks, Variables(3)],
@@ -698,7 +705,7 @@ fn examples() -> Vec<Example> {
             call: Call::Reach {
                 ticks: 5,
                 width: 2,
-                law: Law::Command(-3),
+                law: Law::command(-3),
                 start: sides([(50, 50), (4, 40)]),
             },
             covers: vec![UnderCommand, BandsMet(3), CutTwice, OtherBoxesBefore],
@@ -783,7 +790,7 @@ fn examples() -> Vec<Example> {
             Call::Reach {
                 ticks: 1_001,
                 width: 1,
-                law: Law::Command(6),
+                law: Law::command(6),
                 start: origin,
             },
             16,
@@ -870,7 +877,7 @@ const SEVENTHS: &[Seventh] = &[
 fn changes_at_places() -> Vec<Example> {
     let example = |&(name, command, start, below, above): &Seventh| {
         let (law, under) = match command {
-            Some(command) => (Law::Command(command), Covers::UnderCommand),
+            Some(command) => (Law::command(command), Covers::UnderCommand),
             None => (Law::Baseline, Covers::UnderBaseline),
         };
         Example {
@@ -998,11 +1005,7 @@ fn decisions_at_places() -> Vec<Example> {
     let asked = |name, recovery, answer| Example {
         name,
         sheet: one_row(row([1], 0, 0, 0, 7), recovery),
-        call: Call::Decide {
-            allowance: 10,
-            command: 0,
-            measured: sides([(30, 31)]),
-        },
+        call: ask(10, 0, sides([(30, 31)])),
         covers: vec![answer, Covers::Numerators(Face::Lower, &[At::BelowLimit])],
     };
     vec![
@@ -1124,11 +1127,15 @@ fn refused(refusal: sheet::Refusal) -> Answer {
     }
 }
 
-fn question_bytes(allowance: u32, command: i32, measured: &StateBox, n: usize) -> Vec<u8> {
-    let mut bytes = b"QS".to_vec();
-    bytes.extend(allowance.to_be_bytes());
-    bytes.extend(command.to_be_bytes());
-    bytes.extend(pairs(measured, n));
+fn question_bytes(mark: Mark, question: &Question, n: usize) -> Vec<u8> {
+    let (letters, ends) = match mark {
+        Mark::One => (b"QS", vec![question.span.least]),
+        Mark::Span => (b"QR", vec![question.span.least, question.span.greatest]),
+    };
+    let mut bytes = letters.to_vec();
+    bytes.extend(question.allowance.to_be_bytes());
+    bytes.extend(ends.into_iter().flat_map(i32::to_be_bytes));
+    bytes.extend(pairs(&question.measured, n));
     bytes
 }
 
@@ -1156,16 +1163,7 @@ fn code_before(example: &Example, answer: &Answer) -> u8 {
     let sheet = &example.sheet;
     let watch = &mut WholeNeighborhoods;
     match example.call {
-        Call::Decide {
-            allowance,
-            command,
-            measured,
-        } => {
-            let question = Question {
-                allowance,
-                command,
-                measured,
-            };
+        Call::Decide(_, question) => {
             decided(decide_watched(sheet, &question, Faults::default(), watch)).0
         }
         Call::Check => checked(check_recovery_watched(sheet, watch)).0,
@@ -1190,12 +1188,8 @@ fn answer(bytes: &[u8], call: &Call, n: usize) -> Answer {
         Err(refusal) => return refused(refusal),
     };
     match call {
-        Call::Decide {
-            allowance,
-            command,
-            measured,
-        } => {
-            let question_bytes = question_bytes(*allowance, *command, measured, n);
+        Call::Decide(mark, question) => {
+            let question_bytes = question_bytes(*mark, question, n);
             let question = match read_question(&sheet, &question_bytes) {
                 Ok(question) => question,
                 Err(refusal) => return refused(refusal),
@@ -1267,13 +1261,13 @@ fn shows(covers: Covers, example: &Example, answer: &Answer) -> bool {
             .iter()
             .any(|band| band.rows[..n].iter().any(test))
     };
-    let decides = matches!(example.call, Call::Decide { .. });
+    let decides = matches!(example.call, Call::Decide(..));
     let checks = matches!(example.call, Call::Check);
     let decided = |code| decides && answer.code == code;
     let checked = |code| checks && answer.code == code;
     let before = || code_before(example, answer);
     let allowance = match example.call {
-        Call::Decide { allowance, .. } => u64::from(allowance),
+        Call::Decide(_, question) => u64::from(question.allowance),
         _ => u64::MAX,
     };
     match covers {
@@ -1319,7 +1313,7 @@ fn shows(covers: Covers, example: &Example, answer: &Answer) -> bool {
         Covers::UnderCommand => matches!(
             example.call,
             Call::Reach {
-                law: Law::Command(_),
+                law: Law::Span { .. },
                 ..
             }
         ),
@@ -1341,15 +1335,11 @@ fn line(example: &Example, bytes: &[u8], answer: &Answer) -> String {
     let n = example.sheet.n();
     let mut line = format!("{} ", example.name);
     let _ = match &example.call {
-        Call::Decide {
-            allowance,
-            command,
-            measured,
-        } => write!(
+        Call::Decide(mark, question) => write!(
             line,
             "decide sheet={} question={}",
             hex(bytes),
-            hex(&question_bytes(*allowance, *command, measured, n))
+            hex(&question_bytes(*mark, question, n))
         ),
         Call::Check => write!(line, "check sheet={}", hex(bytes)),
         Call::Reach {
@@ -1360,7 +1350,7 @@ fn line(example: &Example, bytes: &[u8], answer: &Answer) -> String {
         } => {
             let (law, command) = match law {
                 Law::Baseline => (0, 0),
-                Law::Command(command) => (1, *command),
+                Law::Span { least, .. } => (1, *least),
             };
             write!(
                 line,

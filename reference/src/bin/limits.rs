@@ -546,7 +546,7 @@ fn reaches() -> Vec<Reach> {
     let plain =
         |name, ticks, width, refusal| reach(name, ticks, width, Law::Baseline, (95, 100), refusal);
     let under =
-        |name, command, refusal| reach(name, 1, 1, Law::Command(command), (95, 100), refusal);
+        |name, command, refusal| reach(name, 1, 1, Law::command(command), (95, 100), refusal);
     let from = |name, start, refusal| reach(name, 1, 1, Law::Baseline, start, refusal);
     // from the edge at 0 on, x changes by x + 2
     let over_edge = |name, start| Reach {
@@ -588,12 +588,12 @@ fn reaches() -> Vec<Reach> {
             "ticks_before_command",
             1_001,
             1,
-            Law::Command(26),
+            Law::command(26),
             (0, 0),
             16,
         ),
-        reach("width_before_command", 1, 0, Law::Command(26), (0, 0), 16),
-        reach("command_before_start", 1, 1, Law::Command(26), (5, 4), 14),
+        reach("width_before_command", 1, 0, Law::command(26), (0, 0), 16),
+        reach("command_before_start", 1, 1, Law::command(26), (5, 4), 14),
         over_edge("start_below_the_edge", (-5, -1)),
         over_edge("start_up_to_the_edge", (-5, 0)),
         over_edge("start_beyond_the_edge", (-5, 1)),
@@ -662,7 +662,7 @@ fn print_reaches() {
         };
         let (law, command) = match law {
             Law::Baseline => (0, 0),
-            Law::Command(command) => (1, command),
+            Law::Span { least, .. } => (1, least),
         };
         let start = hex(&numbers(&[start.0, start.1]));
         println!("{name} reach sheet={} ticks={ticks} width={width} law={law} command={command} start={start} {answer}", sheet.text);
@@ -767,7 +767,12 @@ fn listings() -> Vec<(&'static str, File, File, &'static str)> {
             q().first(17),
             "1 refused 12",
         ),
-        ("listing_after_another_mark", a(), other_mark, "2 keep 4 4"),
+        (
+            "listing_from_another_mark_on",
+            a(),
+            other_mark,
+            "1 refused 12",
+        ),
         ("listing_of_a_failed_check", drifting, q(), "sheet fail 1 "),
     ]
 }
