@@ -6,7 +6,8 @@ use guard_bindings::format::{reach_length, LONGEST_REACH, LONGEST_SHEET, NUMBERS
 use guard_bindings::ReachCall;
 use second_guard::boxes::StateBox;
 use second_guard::reach::Law;
-use second_guard::sheet::Sheet;
+use second_guard::sheet::{CommandRange, Sheet};
+use std::borrow::Cow;
 
 /// The values of a sheet's bytes, or the number of the refusal.
 pub fn read(sheet: &[u8]) -> Result<Sheet, u8> {
@@ -32,10 +33,7 @@ pub fn reach(
     law: Law,
     start: &StateBox,
 ) -> Result<(StateBox, StateBox), u8> {
-    let (law, command) = match law {
-        Law::Baseline => (0, 0),
-        Law::Command(command) => (1, command),
-    };
+    let (sheet, law, command) = called(sheet, law)?;
     let call = ReachCall {
         ticks,
         width,
@@ -44,11 +42,28 @@ pub fn reach(
     };
     let start = pairs(start, n).ok_or(15)?;
     let mut out = [0; LONGEST_REACH];
-    match guard_bindings::reach(sheet, call, &start, &mut out).refusal() {
+    match guard_bindings::reach(&sheet, call, &start, &mut out).refusal() {
         Some(number) => Err(number),
         None => {
             let (end, swept) = out[..reach_length(n)].split_at(PAIR * n);
             Ok((box_in(end), box_in(swept)))
+        }
+    }
+}
+
+/// The sheet, the law and the command with which `guard_reach` has the boxes of a law: it takes one command or
+/// the plain law, but no span. The plain law uses any command of a band's safety range. So the boxes of a
+/// span are those of the plain law on the sheet that has the span as every band's safety range.
+fn called(sheet: &[u8], law: Law) -> Result<(Cow<'_, [u8]>, u32, i32), u8> {
+    match law {
+        Law::Baseline => Ok((sheet.into(), 0, 0)),
+        Law::Span { least, greatest } if least == greatest => Ok((sheet.into(), 1, least)),
+        Law::Span { least, greatest } => {
+            let mut of_span = read(sheet)?;
+            for band in &mut of_span.bands {
+                band.safety = CommandRange { least, greatest };
+            }
+            Ok((write(&of_span)?.into(), 0, 0))
         }
     }
 }

@@ -1,24 +1,17 @@
 //! Questions as text, one to a line.
 
-use crate::archive::{self, pairs};
+use crate::archive;
 use crate::names::Names;
+use crate::questions::{cut, whole_length, AskedQuestion, Commands};
 use crate::refusal::question_fault;
 use crate::sheet_text::{closed_sides, rewritten};
 use crate::tokens::{Cursor, Fault};
-use guard_bindings::format::{question_length, PAIR, QUESTION_HEAD};
-use second_guard::boxes::StateBox;
-use second_guard::sheet::Sheet;
-
-const MARK: [u8; 2] = *b"QS";
+use second_guard::sheet::{CommandRange, Sheet};
 
 /// What a line asks.
 #[derive(Clone, Debug, PartialEq, Eq)]
 pub enum Asked {
-    Question {
-        allowance: u32,
-        command: i32,
-        measured: StateBox,
-    },
+    Question(AskedQuestion),
     /// Bytes that are no question: another mark, or a short tail.
     Bytes(Vec<u8>),
 }
@@ -60,7 +53,7 @@ pub fn parse(text: &str, sheet: &Sheet, names: &Names) -> Result<AsksText, Fault
         } else {
             let ask = ask(&mut cursor, names)?;
             cursor.end()?;
-            test_length(asks.last(), sheet, cursor.line)?;
+            test_place(asks.last(), &ask, sheet.n(), cursor.line)?;
             test_refusal(&ask, &sheet_bytes, sheet, names, cursor.line)?;
             asks.push(ask);
             Some(asks.len() - 1)
@@ -99,14 +92,24 @@ fn ask(cursor: &mut Cursor, names: &Names) -> Result<Ask, Fault> {
 fn question(cursor: &mut Cursor, names: &Names) -> Result<Asked, Fault> {
     let measured = names.sides(cursor, Cursor::range)?;
     cursor.word("command")?;
-    let command = cursor.number()?;
+    let commands = commands(cursor)?;
     cursor.word("allowance")?;
     let allowance = cursor.unsigned()?;
-    Ok(Asked::Question {
+    Ok(Asked::Question(AskedQuestion {
         allowance,
-        command,
+        commands,
         measured,
-    })
+    }))
+}
+
+/// `25` is one command, and `25..25` a span.
+fn commands(cursor: &mut Cursor) -> Result<Commands, Fault> {
+    let least = cursor.number()?;
+    if !cursor.take_sign("..") {
+        return Ok(Commands::One(least));
+    }
+    let greatest = cursor.number()?;
+    Ok(Commands::Span(CommandRange { least, greatest }))
 }
 
 /// Bytes in hex within quotes.
@@ -124,13 +127,19 @@ fn hex(cursor: &mut Cursor) -> Result<Vec<u8>, Fault> {
     }
 }
 
-/// Only the last question may be short, since the file is cut by length.
-fn test_length(before: Option<&Ask>, sheet: &Sheet, line: usize) -> Result<(), Fault> {
-    let length = question_length(sheet.n());
-    match before {
-        Some(ask) if ask.bytes(sheet).len() != length => Err(Fault::text(
+/// Bytes that are no question stand last, since no cut ends them; and they do not begin with a whole question.
+fn test_place(before: Option<&Ask>, ask: &Ask, n: usize, line: usize) -> Result<(), Fault> {
+    if before.is_some_and(|ask| matches!(ask.asked, Asked::Bytes(_))) {
+        let what = "the bytes before are no question: nothing may follow them";
+        return Err(Fault::text(line, what));
+    }
+    let Asked::Bytes(bytes) = &ask.asked else {
+        return Ok(());
+    };
+    match whole_length(bytes, n) {
+        Some(length) if length <= bytes.len() => Err(Fault::text(
             line,
-            format!("the bytes before are not {length}: nothing may follow them"),
+            format!("the first {length} bytes are a question: it is written with 'ask'"),
         )),
         _ => Ok(()),
     }
@@ -171,17 +180,7 @@ impl Ask {
     pub fn bytes(&self, sheet: &Sheet) -> Vec<u8> {
         match &self.asked {
             Asked::Bytes(bytes) => bytes.clone(),
-            Asked::Question {
-                allowance,
-                command,
-                measured,
-            } => {
-                let mut bytes = MARK.to_vec();
-                bytes.extend(allowance.to_be_bytes());
-                bytes.extend(command.to_be_bytes());
-                bytes.extend(pairs(measured, sheet.n()).expect("sides of 32 bits"));
-                bytes
-            }
+            Asked::Question(question) => question.bytes(sheet.n()),
         }
     }
 
@@ -189,11 +188,7 @@ impl Ask {
     fn fault(&self, sheet: &Sheet, names: &Names) -> Option<(u8, String)> {
         match &self.asked {
             Asked::Bytes(_) => Some((12, "these bytes are no question".into())),
-            Asked::Question {
-                allowance,
-                command,
-                measured,
-            } => question_fault(sheet, names, i64::from(*allowance), *command, measured)
+            Asked::Question(question) => question_fault(sheet, names, question)
                 .map(|test| (test.refusal, test.words(|()| None))),
         }
     }
@@ -207,13 +202,13 @@ impl Ask {
             .map(|number| format!("  refused {number}"))
             .collect();
         match &self.asked {
-            Asked::Question {
+            Asked::Question(AskedQuestion {
                 allowance,
-                command,
+                commands,
                 measured,
-            } => {
+            }) => {
                 let sides = closed_sides(measured, names);
-                format!("ask{title}{sides}  command {command}  allowance {allowance}{refused}")
+                format!("ask{title}{sides}  command {commands}  allowance {allowance}{refused}")
             }
             Asked::Bytes(bytes) => {
                 let hex: String = bytes.iter().map(|byte| format!("{byte:02x}")).collect();
@@ -225,16 +220,9 @@ impl Ask {
 
 /// One question's bytes, as the program cuts them from its file.
 fn from_bytes(bytes: &[u8], sheet_bytes: &[u8], sheet: &Sheet) -> Ask {
-    let asked = match bytes.split_at_checked(QUESTION_HEAD) {
-        Some((head, sides)) if head[..2] == MARK && sides.len() == PAIR * sheet.n() => {
-            let four = |at: usize| head[at..at + 4].try_into().expect("four bytes");
-            Asked::Question {
-                allowance: u32::from_be_bytes(four(2)),
-                command: i32::from_be_bytes(four(6)),
-                measured: archive::box_in(sides),
-            }
-        }
-        _ => Asked::Bytes(bytes.to_vec()),
+    let asked = match AskedQuestion::from_bytes(bytes, sheet.n()) {
+        Some(question) => Asked::Question(question),
+        None => Asked::Bytes(bytes.to_vec()),
     };
     Ask {
         title: None,
@@ -245,8 +233,7 @@ fn from_bytes(bytes: &[u8], sheet_bytes: &[u8], sheet: &Sheet) -> Ask {
 
 /// The questions of a file's bytes, each line in the tool's own form.
 pub fn from_file(bytes: &[u8], sheet_bytes: &[u8], sheet: &Sheet, names: &Names) -> AsksText {
-    let asks: Vec<Ask> = bytes
-        .chunks(question_length(sheet.n()))
+    let asks: Vec<Ask> = cut(bytes, sheet.n())
         .map(|bytes| from_bytes(bytes, sheet_bytes, sheet))
         .collect();
     let lines = asks

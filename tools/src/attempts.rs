@@ -3,10 +3,11 @@
 
 use crate::archive::{self, Answer};
 use crate::listing::sentence;
+use crate::questions::{AskedQuestion, Commands};
 use crate::tokens::Fault;
 use second_guard::decision::{trace, trace_recovery, Faults, Question, Trace};
 use second_guard::reach::{reach, Step};
-use second_guard::sheet::Sheet;
+use second_guard::sheet::{CommandRange, Sheet};
 
 /// What is attempted.
 #[derive(Clone, Copy, Debug)]
@@ -68,7 +69,7 @@ pub fn attempts(sheet_bytes: &[u8], sheet: &Sheet, subject: Subject) -> Result<A
         width /= 2;
     }
     let found = Attempts {
-        answer: answer(sheet_bytes, sheet, subject),
+        answer: answer(sheet_bytes, sheet, subject)?,
         all,
     };
     compare_answer(&found)?;
@@ -134,21 +135,37 @@ fn ending(sheet: &Sheet, trace: &Trace) -> Ending {
     Ending::Outside(outside.expect("a failed attempt has a cause"))
 }
 
-fn answer(sheet_bytes: &[u8], sheet: &Sheet, subject: Subject) -> Answer {
-    match subject {
-        Subject::Recovery => archive::recovery(sheet_bytes),
-        Subject::Question(question) => {
-            archive::decide(sheet_bytes, &question_bytes(question, sheet.n()))
-        }
+/// The archive's answer.
+fn answer(sheet_bytes: &[u8], sheet: &Sheet, subject: Subject) -> Result<Answer, Fault> {
+    let Subject::Question(question) = subject else {
+        return Ok(archive::recovery(sheet_bytes));
+    };
+    let decide = |commands| {
+        let asked = AskedQuestion {
+            allowance: question.allowance,
+            commands,
+            measured: question.measured,
+        };
+        archive::decide(sheet_bytes, &asked.bytes(sheet.n()))
+    };
+    let by_span = decide(Commands::Span(question.span));
+    let CommandRange { least, greatest } = question.span;
+    if least == greatest {
+        compare_marks(by_span, decide(Commands::One(least)))?;
     }
+    Ok(by_span)
 }
 
-fn question_bytes(question: &Question, n: usize) -> Vec<u8> {
-    let mut bytes = b"QS".to_vec();
-    bytes.extend(question.allowance.to_be_bytes());
-    bytes.extend(question.command.to_be_bytes());
-    bytes.extend(archive::pairs(&question.measured, n).expect("sides of 32 bits"));
-    bytes
+/// A span of one command is answered as that command is.
+fn compare_marks(by_span: Answer, by_command: Answer) -> Result<(), Fault> {
+    if by_span == by_command {
+        return Ok(());
+    }
+    Err(Fault::general(format!(
+        "the archive's answers to a span of one command and to that command differ: {}; {}",
+        sentence(by_span),
+        sentence(by_command)
+    )))
 }
 
 /// The archive's answer is what the second guard's attempts come to.
@@ -192,7 +209,8 @@ fn compare_step(sheet_bytes: &[u8], sheet: &Sheet, step: &Step) -> Result<(), Fa
 mod tests {
     use super::*;
     use second_guard::boxes::StateBox;
-    use second_guard::sheet::{Band, CommandRange, Row};
+    use second_guard::reach::Law;
+    use second_guard::sheet::{Band, Row};
 
     /// Sheet A of document 01 and its first question.
     fn sheet_a() -> (Sheet, Question) {
@@ -228,14 +246,16 @@ mod tests {
         (sheet.recovery.lower[0], sheet.recovery.upper[0]) = (-100, 100);
         let question = Question {
             allowance: 100,
-            command: 25,
+            span: CommandRange::one(25),
             measured: StateBox::default(),
         };
         (sheet, question)
     }
 
-    fn found() -> (Vec<u8>, Sheet, Attempts) {
-        let (sheet, question) = sheet_a();
+    /// The sheet, and the attempts at its question with these commands.
+    fn found(least: i32, greatest: i32) -> (Vec<u8>, Sheet, Attempts) {
+        let (sheet, mut question) = sheet_a();
+        question.span = CommandRange { least, greatest };
         let bytes = archive::write(&sheet).expect("an accepted sheet");
         let found = attempts(&bytes, &sheet, Subject::Question(&question)).expect("no difference");
         (bytes, sheet, found)
@@ -243,27 +263,49 @@ mod tests {
 
     #[test]
     fn another_answer_is_an_error() {
-        let (_, _, mut found) = found();
+        let (_, _, mut found) = found(25, 25);
         assert_eq!(found.answer, Answer((4 << 32) + 4));
         found.answer = Answer((4 << 32) + 5);
         assert!(compare_answer(&found).is_err());
     }
 
     #[test]
+    fn another_answer_to_the_other_mark_is_an_error() {
+        let answer = Answer((4 << 32) + 4);
+        assert!(compare_marks(answer, answer).is_ok());
+        assert!(compare_marks(answer, Answer(answer.0 + 1)).is_err());
+    }
+
+    #[test]
     fn another_box_is_an_error() {
-        let (bytes, sheet, found) = found();
-        let mut step = found.last().steps[0];
-        assert!(compare_step(&bytes, &sheet, &step).is_ok());
-        step.end.upper[0] += 1;
-        assert!(compare_step(&bytes, &sheet, &step).is_err());
+        for (least, greatest) in [(25, 25), (-20, 25)] {
+            let (bytes, sheet, found) = found(least, greatest);
+            let mut step = found.last().steps[0];
+            assert!(compare_step(&bytes, &sheet, &step).is_ok());
+            step.end.upper[0] += 1;
+            assert!(compare_step(&bytes, &sheet, &step).is_err());
+        }
+    }
+
+    /// The boxes of a span are not those of its ends, nor those of a narrower span.
+    #[test]
+    fn another_span_is_an_error() {
+        let (bytes, sheet, found) = found(-20, 25);
+        for (least, greatest) in [(-20, -20), (25, 25), (-5, 25), (-20, 5)] {
+            let mut step = found.last().steps[0];
+            step.law = Law::Span { least, greatest };
+            assert!(compare_step(&bytes, &sheet, &step).is_err());
+        }
     }
 
     #[test]
     fn a_start_that_no_reach_takes_is_refused_by_both() {
-        let (bytes, sheet, found) = found();
-        let mut step = found.last().steps[0];
-        step.start.upper[0] = 1_000_001;
-        assert!(compare_step(&bytes, &sheet, &step).is_ok());
+        for (least, greatest) in [(25, 25), (-20, 25)] {
+            let (bytes, sheet, found) = found(least, greatest);
+            let mut step = found.last().steps[0];
+            step.start.upper[0] = 1_000_001;
+            assert!(compare_step(&bytes, &sheet, &step).is_ok());
+        }
     }
 
     #[test]

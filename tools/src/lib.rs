@@ -13,6 +13,7 @@ pub mod overlap;
 pub mod overlap_picture;
 pub mod panels;
 pub mod picture;
+pub mod questions;
 pub mod record_order;
 pub mod records;
 pub mod refusal;

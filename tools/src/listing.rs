@@ -2,7 +2,7 @@
 
 use crate::archive::{self, Answer};
 use crate::causes::cause;
-use guard_bindings::format::question_length;
+use crate::questions::cut;
 
 /// An answer to a question as the listing has it.
 fn words(answer: Answer) -> String {
@@ -33,8 +33,8 @@ pub fn listing(sheet: &[u8], asks: &[u8]) -> String {
         return text;
     }
     // The sheet passed, so its third byte is n.
-    let length = question_length(usize::from(sheet[2]));
-    for (index, question) in asks.chunks(length).enumerate() {
+    let questions = cut(asks, usize::from(sheet[2]));
+    for (index, question) in questions.enumerate() {
         let answer = words(archive::decide(sheet, question));
         text.push_str(&format!("{} {answer}\n", index + 1));
     }

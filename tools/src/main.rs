@@ -365,16 +365,8 @@ fn drawn_attempt<'a>(found: &'a Attempts, width: Option<&String>) -> Result<&'a 
 }
 
 fn question(ask: &Ask) -> Option<Question> {
-    match ask.asked {
+    match &ask.asked {
         Asked::Bytes(_) => None,
-        Asked::Question {
-            allowance,
-            command,
-            measured,
-        } => Some(Question {
-            allowance,
-            command,
-            measured,
-        }),
+        Asked::Question(question) => Some(question.values()),
     }
 }

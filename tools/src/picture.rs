@@ -7,7 +7,7 @@ use crate::panels::{
     SMALL, UNSAFE, WIDTH,
 };
 use crate::sheet_text::range;
-use crate::show::{ending, ticks_before, unit_sides};
+use crate::show::{command_range, ending, ticks_before, unit_sides};
 use crate::svg::{
     decimal, edged, filled, multiples, nice_step, outlined, Anchor, Area, Scale, Svg,
 };
@@ -319,12 +319,13 @@ impl Drawing<'_> {
         let style = |colour: &str| format!(r##"font-weight="bold" fill="{colour}""##);
         let y = TOP - GAP + 6.0;
         let first = self.attempt.steps.first().map(|step| step.law);
-        let Some(Law::Command(command)) = first else {
+        let Some(Law::Span { least, greatest }) = first else {
             svg.text((LEFT, y), Anchor::Start, &style(BASELINE), "plain law");
             return;
         };
-        let command = with_unit(&command.to_string(), &self.names.command);
-        let words = format!("{} {command}", self.names.command.name);
+        let commands = command_range(least, greatest);
+        let commands = with_unit(&commands, &self.names.command);
+        let words = format!("{} {commands}", self.names.command.name);
         svg.text((LEFT, y), Anchor::Start, &style(COMMAND), &words);
         let x = self.time.place(f64::from(self.switch));
         let x = x.max(LEFT + 24.0 + 8.0 * words.len() as f64);

@@ -5,6 +5,7 @@
 use crate::box_order;
 use crate::names::{Item, Names};
 use crate::overlap::{self, OVERLAP};
+use crate::questions::{AskedQuestion, Commands};
 use guard_bindings::format::{BANDS, UNSAFE_BOXES, VARIABLES};
 use second_guard::boxes::StateBox;
 use second_guard::sheet::{
@@ -246,19 +247,30 @@ pub fn sheet_fault(sheet: &Sheet, names: &Names) -> Option<Test<Item>> {
     first_failing(tests)
 }
 
+/// The tests of the commands that a question names, the greatest one from the least one on.
+fn commands(head: CommandRange, commands: Commands) -> Vec<Test<()>> {
+    let test = |what, value, from| Test::new(14, (), what, value, (from, head.greatest));
+    match commands {
+        Commands::One(command) => vec![test("the command", command, head.least)],
+        Commands::Span(CommandRange { least, greatest }) => vec![
+            test("the span's least command", least, head.least),
+            test("the span's greatest command", greatest, least),
+        ],
+    }
+}
+
 /// The first number of a question that is at fault.
-pub fn question_fault(
-    sheet: &Sheet,
-    names: &Names,
-    allowance: i64,
-    command: i32,
-    measured: &StateBox,
-) -> Option<Test<()>> {
-    let head = sheet.commands;
-    let mut tests = vec![
-        Test::new(13, (), "the allowance", allowance, (0, ALLOWANCE_LIMIT)),
-        Test::new(14, (), "the command", command, (head.least, head.greatest)),
-    ];
+pub fn question_fault(sheet: &Sheet, names: &Names, question: &AskedQuestion) -> Option<Test<()>> {
+    let allowance = (0, ALLOWANCE_LIMIT);
+    let mut tests = vec![Test::new(
+        13,
+        (),
+        "the allowance",
+        question.allowance,
+        allowance,
+    )];
+    tests.extend(commands(sheet.commands, question.commands));
+    let measured = &question.measured;
     tests.extend(sides(15, (), measured, sheet.n(), START_LIMIT, names));
     first_failing(tests)
 }

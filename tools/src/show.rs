@@ -84,10 +84,20 @@ pub fn ticks_before(attempt: &Attempt, step: usize) -> u32 {
     attempt.steps[..step].iter().map(|step| step.ticks).sum()
 }
 
+/// `-20..25`, or `25` where both ends are.
+pub fn command_range(least: i32, greatest: i32) -> String {
+    match least == greatest {
+        true => least.to_string(),
+        false => range(least, greatest),
+    }
+}
+
 fn law(step: &Step, names: &Names) -> String {
     match step.law {
         Law::Baseline => "plain law".into(),
-        Law::Command(command) => format!("{} {command}", names.command.name),
+        Law::Span { least, greatest } => {
+            format!("{} {}", names.command.name, command_range(least, greatest))
+        }
     }
 }
 

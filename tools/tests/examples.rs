@@ -6,6 +6,7 @@ mod common;
 use common::{example, example_text, load, sheet, shell};
 use second_guard::decision::{Decision, RecoveryCheck};
 use second_guard::{decision, listing};
+use sheet_tool::questions::cut;
 use sheet_tool::sheet_parser;
 use std::collections::BTreeSet;
 
@@ -133,7 +134,7 @@ fn machines_show_every_kind_of_answer() {
         ));
         let mut widths = BTreeSet::new();
         let (mut finest, mut spent, mut refused) = (0, 0, 0);
-        for question in asks.chunks(decision::question_length(sheet.n())) {
+        for question in cut(&asks, sheet.n()) {
             match decision::decide(&bytes, question) {
                 Decision::Keep { width, .. } => drop(widths.insert(width)),
                 Decision::Finest { .. } => finest += 1,

@@ -1,8 +1,8 @@
 //! The numbers of include/guard_format.h against the archive, and those of the second guard against them.
 
 use guard_bindings::format::{
-    slot_band, slot_row, slot_unsafe, BANDS, LONGEST_QUESTION, LONGEST_SHEET, NUMBERS, PAIR,
-    QUESTION_HEAD, SLOT_CAPS, SLOT_RECOVERY, UNSAFE_BOXES, VARIABLES,
+    question_length, slot_band, slot_row, slot_unsafe, span_question_length, BANDS,
+    LONGEST_QUESTION, LONGEST_SHEET, NUMBERS, SLOT_CAPS, SLOT_RECOVERY, UNSAFE_BOXES, VARIABLES,
 };
 use second_guard::sheet::{self, Sheet, FIRST_EDGE};
 use second_guard::{boxes, decision};
@@ -76,14 +76,23 @@ fn a_greater_count_is_refused() {
     }
 }
 
+/// A question with each mark at the greatest n: of its length it is one, of any other it is refused.
 #[test]
-fn the_longest_question_is_one() {
+fn the_longest_questions_are_ones() {
     let bytes = archive::write(&largest()).expect("the greatest counts are in range");
-    let mut question = [0; LONGEST_QUESTION];
-    question[..2].copy_from_slice(b"QS");
-    assert_eq!(archive::decide(&bytes, &question).refusal(), None);
-    let shorter = &question[..LONGEST_QUESTION - 1];
-    assert_eq!(archive::decide(&bytes, shorter).refusal(), Some(12));
+    let lengths = [
+        (b"QS", question_length(VARIABLES)),
+        (b"QR", span_question_length(VARIABLES)),
+    ];
+    for (mark, own) in lengths {
+        for length in 2..=LONGEST_QUESTION + 4 {
+            let mut question = vec![0; length];
+            question[..2].copy_from_slice(mark);
+            let refusal = archive::decide(&bytes, &question).refusal();
+            assert_eq!(refusal, (length != own).then_some(12));
+        }
+    }
+    assert_eq!(LONGEST_QUESTION, span_question_length(VARIABLES));
 }
 
 #[test]
@@ -95,6 +104,8 @@ fn the_second_guard_has_the_same() {
     assert_eq!(sheet::NUMBERS, NUMBERS);
     assert_eq!(sheet::length(VARIABLES, BANDS, UNSAFE_BOXES), LONGEST_SHEET);
     for n in 1..=VARIABLES {
-        assert_eq!(decision::question_length(n), QUESTION_HEAD + PAIR * n);
+        let length = |mark| decision::question_length(mark, n);
+        assert_eq!(length(b"QS"), Some(question_length(n)));
+        assert_eq!(length(b"QR"), Some(span_question_length(n)));
     }
 }

@@ -6,9 +6,10 @@ mod common;
 use common::{load, Numbers};
 use second_guard::boxes::StateBox;
 use second_guard::decision::{trace_recovery, Question};
-use second_guard::sheet::Sheet;
+use second_guard::sheet::{CommandRange, Sheet};
 use sheet_tool::archive;
 use sheet_tool::attempts::{attempts, Ending, Subject};
+use std::collections::BTreeSet;
 
 const NAMES: [&str; 4] = ["sheet_a", "leg_press", "motor", "pendulum"];
 
@@ -22,33 +23,50 @@ fn random_question(sheet: &Sheet, numbers: &mut Numbers) -> Question {
         let half = numbers.whole(0, 1 + more / 10);
         (measured.lower[i], measured.upper[i]) = (centre - half, centre + half);
     }
-    let (least, greatest) = (sheet.commands.least, sheet.commands.greatest);
     Question {
         allowance: numbers.whole(0, 1_500) as u32,
-        command: numbers.whole(i64::from(least), i64::from(greatest)) as i32,
+        span: random_span(sheet, numbers),
         measured,
     }
 }
 
+/// One command, a narrow span or any span, each as often as the others.
+fn random_span(sheet: &Sheet, numbers: &mut Numbers) -> CommandRange {
+    let first = i64::from(sheet.commands.least);
+    let last = i64::from(sheet.commands.greatest);
+    let least = numbers.whole(first, last);
+    let most = match numbers.whole(0, 2) {
+        0 => least,
+        1 => last.min(least + (last - first) / 20),
+        _ => last,
+    };
+    CommandRange {
+        least: least as i32,
+        greatest: numbers.whole(least, most) as i32,
+    }
+}
+
+/// Both one command and spans are kept, and end in each other way.
 #[test]
 fn random_questions_to_the_examples() {
     let mut numbers = Numbers(5);
-    let mut endings = Vec::new();
+    let mut endings = BTreeSet::new();
     for name in NAMES {
         let (sheet, bytes, _) = load(name);
         for _ in 0..1_000 {
             let question = random_question(&sheet, &mut numbers);
             let found = attempts(&bytes, &sheet, Subject::Question(&question));
-            endings.push(found.expect("no difference").last().ending);
+            let ending = match found.expect("no difference").last().ending {
+                Ending::Success => "success",
+                Ending::Unsafe(_) => "unsafe",
+                Ending::Outside(_) => "outside",
+                Ending::Spent => "spent",
+            };
+            let one = question.span.least == question.span.greatest;
+            endings.insert((one, ending));
         }
     }
-    assert!(endings.contains(&Ending::Success) && endings.contains(&Ending::Spent));
-    assert!(endings
-        .iter()
-        .any(|ending| matches!(ending, Ending::Unsafe(_))));
-    assert!(endings
-        .iter()
-        .any(|ending| matches!(ending, Ending::Outside(_))));
+    assert_eq!(endings.len(), 8, "{endings:?}");
 }
 
 /// Without the test of the boxes, the recovery check would fail at this width and at each half of it.

@@ -6,9 +6,9 @@ mod common;
 
 use common::{example_text, load, Numbers};
 use second_guard::boxes::{State, StateBox};
-use second_guard::decision::{question_length, read_question};
 use second_guard::machine::{allowed_change, band_of};
 use second_guard::sheet::Sheet;
+use sheet_tool::questions::{cut, AskedQuestion};
 
 /// Parts of a tick in which a disturbance stays the same.
 const PARTS: usize = 20;
@@ -131,16 +131,12 @@ fn leg_press_law_is_in_the_safety_ranges() {
     }
 }
 
-/// The measured boxes of a file of questions.
+/// The measured boxes of a file of questions, the refused ones too.
 fn measured(name: &str) -> Vec<StateBox> {
     let (sheet, _, asks) = load(name);
-    asks.chunks(question_length(sheet.n()))
-        .map(|bytes| {
-            // A refused question still has its box; the reader gives it with another command.
-            let mut bytes = bytes.to_vec();
-            bytes[6..10].fill(0);
-            read_question(&sheet, &bytes).expect("a question").measured
-        })
+    cut(&asks, sheet.n())
+        .map(|bytes| AskedQuestion::from_bytes(bytes, sheet.n()))
+        .map(|question| question.expect("a question").measured)
         .collect()
 }
 

@@ -392,7 +392,7 @@ fn questions() {
         ("bytes \"515\" refused 12", "line 1: bytes are pairs of hex digits in quotes"),
         (
             "bytes \"5153\" refused 12\nask x 0..0 command 25 allowance 100",
-            "line 2: the bytes before are not 18: nothing may follow them",
+            "line 2: the bytes before are no question: nothing may follow them",
         ),
         ("ask command 25 allowance 100", "line 1: a range for 'x' is missing"),
         ("question", "line 1: a question's line begins with 'ask', or with 'bytes'"),
