@@ -284,13 +284,25 @@ fn heading(index: usize, ask: &Ask) -> String {
     }
 }
 
+/// `, force -20..25 N`; nothing where the bytes are no question.
+fn commands(ask: &Ask, names: &Names) -> String {
+    match &ask.asked {
+        Asked::Bytes(_) => String::new(),
+        Asked::Question(question) => {
+            let commands = question.commands.to_string();
+            format!(", {}", names.command.with_amount(&commands))
+        }
+    }
+}
+
 fn show_asks(sheet: &str, asks: &str, number: Option<&String>) -> Result<String, String> {
     let (Loaded { text, bytes }, asks) = load_both(sheet, asks)?;
     let mut shown = String::new();
     for index in chosen(&asks, number)? {
         let ask = &asks.asks[index];
         let answer = sentence(archive::decide(&bytes, &ask.bytes(&text.sheet)));
-        shown.push_str(&format!("question {}: {answer}\n", heading(index, ask)));
+        let heading = format!("{}{}", heading(index, ask), commands(ask, &text.names));
+        shown.push_str(&format!("question {heading}: {answer}\n"));
         if let (Some(question), None) = (question(ask), ask.refused) {
             let found = attempts(&bytes, &text.sheet, Subject::Question(&question))
                 .map_err(in_file(sheet))?;

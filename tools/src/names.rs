@@ -53,6 +53,20 @@ impl Named {
             None => self.name.clone(),
         }
     }
+
+    /// Numbers with the unit: `-20..25 N`, or `-20..25 × 0.1 N` where a step is not 1.
+    pub fn amount(&self, numbers: &str) -> String {
+        match &self.unit {
+            Some(unit) if unit.factor() == 1.0 => format!("{numbers} {}", unit.name),
+            Some(unit) => format!("{numbers} × {unit}"),
+            None => numbers.into(),
+        }
+    }
+
+    /// `force -20..25 N`.
+    pub fn with_amount(&self, numbers: &str) -> String {
+        format!("{} {}", self.name, self.amount(numbers))
+    }
 }
 
 impl Names {

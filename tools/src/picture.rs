@@ -1,7 +1,7 @@
 //! The boxes of an attempt over time: one panel for each variable, one above the other.
 
 use crate::attempts::{Attempt, Attempts, Ending};
-use crate::names::{Named, Names};
+use crate::names::Names;
 use crate::panels::{
     heading, legend, Labels, Panel, BOLD, FAILED, FRAME, GAP, LEFT, LINE, PANEL, RECOVERY, RIGHT,
     SMALL, UNSAFE, WIDTH,
@@ -204,7 +204,7 @@ impl Drawing<'_> {
                 svg.line((frame.x.0, lower), (frame.x.1, lower), dots);
             }
             let commands = range(band.safety.least, band.safety.greatest);
-            let words = format!("plain law: {}", with_unit(&commands, &self.names.command));
+            let words = format!("plain law: {}", self.names.command.amount(&commands));
             labels.add((lower + upper) / 2.0, EDGE, words);
         }
     }
@@ -324,8 +324,7 @@ impl Drawing<'_> {
             return;
         };
         let commands = command_range(least, greatest);
-        let commands = with_unit(&commands, &self.names.command);
-        let words = format!("{} {commands}", self.names.command.name);
+        let words = self.names.command.with_amount(&commands);
         svg.text((LEFT, y), Anchor::Start, &style(COMMAND), &words);
         let x = self.time.place(f64::from(self.switch));
         let x = x.max(LEFT + 24.0 + 8.0 * words.len() as f64);
@@ -373,13 +372,4 @@ impl Drawing<'_> {
 /// A no-go box takes every value of this variable.
 fn is_free(unsafe_box: &StateBox, i: usize) -> bool {
     unsafe_box.lower[i] == -SIDE_LIMIT && unsafe_box.upper[i] == SIDE_LIMIT
-}
-
-/// A command's numbers with its unit, where a step of it is 1.
-fn with_unit(numbers: &str, named: &Named) -> String {
-    match &named.unit {
-        Some(unit) if unit.factor() == 1.0 => format!("{numbers} {}", unit.name),
-        Some(unit) => format!("{numbers} × {unit}"),
-        None => numbers.into(),
-    }
 }

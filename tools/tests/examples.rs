@@ -6,7 +6,8 @@ mod common;
 use common::{example, example_text, load, sheet, shell};
 use second_guard::decision::{Decision, RecoveryCheck};
 use second_guard::{decision, listing};
-use sheet_tool::questions::cut;
+use sheet_tool::archive;
+use sheet_tool::questions::{cut, AskedQuestion, Commands};
 use sheet_tool::sheet_parser;
 use std::collections::BTreeSet;
 
@@ -66,6 +67,51 @@ fn the_overlap_is_the_leg_press_with_another_recovery_box() {
     overlap.sheet.recovery = leg_press.sheet.recovery;
     overlap.names.title = leg_press.names.title.clone();
     assert!(overlap.sheet == leg_press.sheet && overlap.names == leg_press.names);
+}
+
+/// Each example with spans, and the question about one that its other picture shows.
+const SPANS: [(&str, &str, &str); 2] = [
+    ("leg_press", "13", "force -800..-600 N"),
+    ("motor", "18", "setpoint 800..900 rpm"),
+];
+
+#[test]
+fn pictures_of_spans() {
+    for (name, question, span) in SPANS {
+        let made = sheet(&["picture", &text(name), &asks(name), question]);
+        assert!(made.contains(&format!(">{span}</text>")));
+        compare(&format!("{name}.span.svg"), &made);
+    }
+}
+
+#[test]
+fn show_says_the_span() {
+    for (name, question, span) in SPANS {
+        let shown = sheet(&["show", &text(name), &asks(name), question]);
+        let (first, rest) = shown.split_once('\n').expect("a line");
+        assert!(first.contains(&format!(", {span}: over finest")), "{first}");
+        let (law, _) = span.rsplit_once(' ').expect("a unit");
+        assert!(rest.contains(&format!(" {law} ")), "{rest}");
+    }
+    let shown = sheet(&["show", &text("leg_press"), &asks("leg_press"), "14"]);
+    assert!(shown.starts_with("question 14 \"let go, as a span\", force 0..0 N: keep"));
+    let shown = sheet(&["show", &text("leg_press"), &asks("leg_press"), "15"]);
+    assert!(shown.contains("force -800..-1200 N: refused 14 (command)\n"));
+}
+
+/// What `motor.asks.txt` says: each set-point is kept, and the span of them is not.
+#[test]
+fn a_span_may_be_refused_where_each_command_is_kept() {
+    let (sheet, bytes, asks) = load("motor");
+    let asked = cut(&asks, sheet.n()).nth(17).expect("question 18");
+    let mut asked = AskedQuestion::from_bytes(asked, sheet.n()).expect("a question");
+    let span = asked.commands.span();
+    assert_eq!((span.least, span.greatest), (800, 900));
+    assert_eq!(archive::decide(&bytes, &asked.bytes(2)).code(), 1);
+    for command in span.least..=span.greatest {
+        asked.commands = Commands::One(command);
+        assert_eq!(archive::decide(&bytes, &asked.bytes(2)).code(), 0);
+    }
 }
 
 fn text(name: &str) -> String {

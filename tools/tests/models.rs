@@ -8,6 +8,7 @@ use common::{example_text, load, Numbers};
 use second_guard::boxes::{State, StateBox};
 use second_guard::machine::{allowed_change, band_of};
 use second_guard::sheet::Sheet;
+use sheet_tool::archive;
 use sheet_tool::questions::{cut, AskedQuestion};
 
 /// Parts of a tick in which a disturbance stays the same.
@@ -131,6 +132,45 @@ fn leg_press_law_is_in_the_safety_ranges() {
     }
 }
 
+/// A machine in the measured box, with any force of the span at each tick of the period, and then the plain law.
+fn leg_press_period(sheet: &Sheet, question: &AskedQuestion, numbers: &mut Numbers) {
+    let AskedQuestion { measured, .. } = question;
+    let mut metres =
+        |i: usize| numbers.real(measured.lower[i] as f64, measured.upper[i] as f64) / 10_000.0;
+    let (position, coasting) = (metres(0), metres(1));
+    let mut state = [position, (coasting - position) / TAU];
+    for tick in 0..sheet.delta + sheet.alpha {
+        let whole = leg_press_state(state);
+        assert!(!forbidden(sheet, &whole), "{whole:?} under {question:?}");
+        let band = band_of(sheet, whole[1]).expect("a band");
+        let commands = match tick < sheet.delta {
+            true => question.commands.span(),
+            false => sheet.bands()[band].safety,
+        };
+        let (least, greatest) = (f64::from(commands.least), f64::from(commands.greatest));
+        let force = extreme(numbers, least, greatest).round();
+        state = leg_press_tick(state, force, numbers);
+    }
+    assert!(sheet.recovery.holds(&leg_press_state(state)));
+}
+
+#[test]
+fn leg_press_keeps_hold_with_any_force_at_each_tick() {
+    let (sheet, bytes, asks) = load("leg_press");
+    let mut numbers = Numbers(12);
+    let kept: Vec<AskedQuestion> = cut(&asks, sheet.n())
+        .filter(|question| archive::decide(&bytes, question).code() == 0)
+        .filter_map(|question| AskedQuestion::from_bytes(question, sheet.n()))
+        .collect();
+    let several = |q: &&AskedQuestion| q.commands.span().least < q.commands.span().greatest;
+    assert_eq!((kept.len(), kept.iter().filter(several).count()), (9, 2));
+    for question in kept {
+        for _ in 0..20 {
+            leg_press_period(&sheet, &question, &mut numbers);
+        }
+    }
+}
+
 /// The measured boxes of a file of questions, the refused ones too.
 fn measured(name: &str) -> Vec<StateBox> {
     let (sheet, _, asks) = load(name);
@@ -153,6 +193,12 @@ fn leg_press_questions_are_what_was_measured() {
         (160.0, -500.0),
         (160.0, -500.0),
         (160.0, -500.0),
+        (160.0, -500.0),
+        (300.0, 0.0),
+        (460.0, 400.0),
+        (460.0, 400.0),
+        (300.0, 0.0),
+        (460.0, 400.0),
         (160.0, -500.0),
     ];
     let boxes = measured("leg_press");
@@ -402,6 +448,9 @@ fn pendulum_questions_are_what_was_measured() {
         (0.0, -0.2, -2.0),
         (0.0, 0.0, 0.0),
         (0.0, 0.0, 0.0),
+        (0.0, 0.0, 0.0),
+        (0.27, 0.0, 0.0),
+        (0.285, 0.0, 0.0),
     ];
     let tolerance = [0.0001, 0.002, 0.0001, 0.005];
     let rows = inverse(&modes());

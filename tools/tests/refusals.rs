@@ -380,6 +380,41 @@ fn questions() {
             "ask x 0..0 command 25 allowance 100 refused 14",
             "line 1: the guard does not refuse this with 14",
         ),
+        ("ask x 0..0 command -25..25 allowance 100", "accepted"),
+        ("ask x 0..0 command 25..25 allowance 100", "accepted"),
+        (
+            "ask x 0..0 command -26..25 allowance 100",
+            "line 1: refused 14 (command): the span's least command is -26, it has to lie within -25..25 (to ask it all the same, end the line with: refused 14)",
+        ),
+        (
+            "ask x 0..0 command -20..26 allowance 100",
+            "line 1: refused 14 (command): the span's greatest command is 26, it has to lie within -20..25 (to ask it all the same, end the line with: refused 14)",
+        ),
+        (
+            "ask x 0..0 command 20..19 allowance 100",
+            "line 1: refused 14 (command): the span's greatest command is 19, it has to lie within 20..25 (to ask it all the same, end the line with: refused 14)",
+        ),
+        (
+            "ask x 0..0 command 25..-25 allowance 100",
+            "line 1: refused 14 (command): the span's greatest command is -25, it has to be 25 (to ask it all the same, end the line with: refused 14)",
+        ),
+        (
+            "ask x 0..0 command 26..26 allowance 100",
+            "line 1: refused 14 (command): the span's least command is 26, it has to lie within -25..25 (to ask it all the same, end the line with: refused 14)",
+        ),
+        ("ask x 0..0 command 20..19 allowance 100 refused 14", "accepted"),
+        (
+            "ask x 1..0 command 20..19 allowance 1000001",
+            "line 1: refused 13 (allowance): the allowance is 1000001, it has to lie within 0..1000000 (to ask it all the same, end the line with: refused 13)",
+        ),
+        ("ask x 1..0 command 20..19 allowance 100 refused 14", "accepted"),
+        ("ask x 1..0 command 19..20 allowance 100 refused 15", "accepted"),
+        (
+            "ask x 0..0 command 19..20 allowance 100 refused 14",
+            "line 1: the guard does not refuse this with 14",
+        ),
+        ("ask x 0..0 command 19.. allowance 100", "line 1: a whole number is missing"),
+        ("ask x 0..0 command ..20 allowance 100", "line 1: a whole number is missing"),
         (
             "ask x 1..0 command 25 allowance 100",
             "line 1: refused 15 (measured or start side): the upper side of x is 0, it has to lie within 1..1000000 (to ask it all the same, end the line with: refused 15)",
@@ -392,6 +427,23 @@ fn questions() {
         ("bytes \"515\" refused 12", "line 1: bytes are pairs of hex digits in quotes"),
         (
             "bytes \"5153\" refused 12\nask x 0..0 command 25 allowance 100",
+            "line 2: the bytes before are no question: nothing may follow them",
+        ),
+        // A mark that is known, with its length in bytes or more, is a question.
+        (
+            "bytes \"515300000064000000190000000000000000\" refused 12",
+            "line 1: the first 18 bytes are a question: it is written with 'ask'",
+        ),
+        (
+            "bytes \"51520000006400000019000000190000000000000000ff\" refused 12",
+            "line 1: the first 22 bytes are a question: it is written with 'ask'",
+        ),
+        ("bytes \"515200000064000000190000000000000000\" refused 12", "accepted"),
+        ("bytes \"51\" refused 12", "accepted"),
+        // An unknown mark takes all the rest.
+        ("bytes \"515800000064000000190000000000000000ffffffffff\" refused 12", "accepted"),
+        (
+            "bytes \"515800000064000000190000000000000000\" refused 12\nask x 0..0 command 25 allowance 100",
             "line 2: the bytes before are no question: nothing may follow them",
         ),
         ("ask command 25 allowance 100", "line 1: a range for 'x' is missing"),

@@ -59,16 +59,67 @@ fn random_sheets_and_questions_come_back() {
         let mut buffer = vec![0; bytes.len()];
         second::write(&sheet, &mut buffer, 0).expect("within the ranges");
         assert_eq!(bytes, buffer, "the second guard writes the same");
-        // Some questions, most of them refused, and a short tail.
-        let length = 10 + 8 * sheet.n() as i64;
-        let asks: Vec<u8> = (0..numbers.whole(0, 3 * length))
-            .map(|at| match at % length {
-                0 => b'Q',
-                1 => b'S',
-                _ => numbers.whole(0, 255) as u8 * numbers.whole(0, 1) as u8,
-            })
-            .collect();
+        let asks = random_asks(&sheet, &mut numbers);
         assert_eq!(through_text(&bytes, &asks), (bytes, asks));
+    }
+}
+
+/// Some questions of both kinds, most of them refused, and now and then a short tail or an unknown mark.
+fn random_asks(sheet: &Sheet, numbers: &mut Numbers) -> Vec<u8> {
+    let mut asks = Vec::new();
+    for _ in 0..numbers.whole(0, 4) {
+        let (mark, head) = match numbers.whole(0, 8) {
+            0 => (b"QX", 12),
+            1..=4 => (b"QS", 10),
+            _ => (b"QR", 14),
+        };
+        asks.extend(mark);
+        for _ in 2..head + 8 * sheet.n() {
+            asks.push(numbers.whole(0, 255) as u8 * numbers.whole(0, 1) as u8);
+        }
+    }
+    let left_out = numbers.whole(0, 40) / 2;
+    asks.truncate(asks.len().saturating_sub(left_out as usize));
+    asks
+}
+
+/// The lines of a text of questions to sheet A, packed and printed again.
+fn reprinted(asks: &str) -> String {
+    let text = sheet_parser::parse(&example_text("sheet_a.txt")).expect("sheet A");
+    let bytes = text.bytes().expect("an accepted sheet");
+    let parsed = asks_text::parse(asks, &text.sheet, &text.names).expect("questions");
+    let packed = parsed.bytes(&text.sheet);
+    asks_text::from_file(&packed, &bytes, &text.sheet, &text.names).text()
+}
+
+/// A span of one command is still a span, beside the question about that command.
+#[test]
+fn both_kinds_of_question_come_back_as_they_were() {
+    let asks = "ask  x 0..0  command 25  allowance 100\n\
+                ask  x 0..0  command 25..25  allowance 100\n\
+                ask  x 0..0  command -20..25  allowance 100\n\
+                ask  x 0..0  command 25..-20  allowance 100  refused 14\n\
+                ask  x 0..0  command -2147483648..2147483647  allowance 100  refused 14\n\
+                ask  x 0..0  command 0  allowance 0\n";
+    assert_eq!(reprinted(asks), asks);
+    for last in ["51", "5152", "515200000064", "5158ffff", "00"] {
+        let asks = format!("{asks}bytes \"{last}\"  refused 12\n");
+        assert_eq!(reprinted(&asks), asks);
+    }
+}
+
+/// Both kinds have a line of their own: another kind or another end is another line, with its comment.
+#[test]
+fn another_span_changes_one_line() {
+    let text = sheet_parser::parse(&example_text("sheet_a.txt")).expect("sheet A");
+    let asks =
+        |text_of: &str| asks_text::parse(text_of, &text.sheet, &text.names).expect("questions");
+    let line =
+        |commands: &str| format!("ask \"it\"  x 0..0  command {commands}  allowance 100  # why\n");
+    let kinds = ["25", "25..25", "-20..25", "-20..24"].map(line);
+    for (old, new) in [(0, 1), (1, 0), (1, 2), (2, 3), (0, 0), (2, 2)] {
+        let like = asks(&kinds[old]).with_asks(&asks(&kinds[new]), &text.names);
+        assert_eq!(like.expect("one question").text(), kinds[new]);
     }
 }
 
