@@ -101,6 +101,38 @@ overlap_is_drawn() {
     [ "$(grep -c 'class="common"' "$overlap/picture.svg")" -eq 2 ] && [ "$(tail -n 1 "$overlap/picture.svg")" = "</svg>" ]
 }
 
+# Questions to the leg press at rest, about one force, about the span of that force alone, and about a span.
+span_asks() {
+    for commands in 0 0..0 -500..-300 "$@"; do
+        echo "ask  position 2998..3002  coasting 2975..3025  command $commands  allowance 2000"
+    done
+}
+
+# The answer to question J of the leg press.
+leg_press_answer() { sed -n "s/^$1 //p" "$root/examples/leg_press.listing"; }
+
+# Spans pack with the mark QR and four more bytes than one force has, come back as they were, and are listed; the
+# span of one force as that force. A reversed span is refused with its line, and nothing is written.
+spans_are_asked() {
+    leg_press=$root/examples/leg_press.txt
+    spans=$work/spans
+    mkdir -p "$spans" || return 1
+    span_asks >"$spans/asks.txt"
+    (
+        cd "$spans" || exit 1
+        "$sheet" pack "$leg_press" asks.txt || exit 1
+        [ "$(wc -c <asks.bin)" -eq $((26 + 30 + 30)) ] && [ "$(tail -c 60 asks.bin | head -c 2)" = QR ] || exit 1
+        "$sheet" text sheet.bin asks.bin --like "$leg_press" asks.txt | diff asks.txt - || exit 1
+        "$sheet" list sheet.bin asks.bin | tail -n +2 >listed || exit 1
+        printf '%s\n' "1 $(leg_press_answer 2)" "2 $(leg_press_answer 2)" "3 $(leg_press_answer 11)" |
+            diff - listed || exit 1
+        rm asks.bin
+        span_asks 1..0 >reversed.txt
+        ! "$sheet" pack "$leg_press" reversed.txt 2>said && ! [ -e asks.bin ] || exit 1
+        grep -q '^reversed.txt: line 4: refused 14 (command): .* greatest command is 0, .* within 1..400 ' said
+    )
+}
+
 packs_without_a_word() {
     "$sheet" pack "$root/examples/leg_press.txt" "$root/examples/leg_press.asks.txt" --to "$work" \
         >"$work/said_at_packing" && ! [ -s "$work/said_at_packing" ]
@@ -120,6 +152,7 @@ check "the leg press packs" packs_without_a_word
 check "the leg press packs in another order" other_order_packs
 check "the leg press's records are put in order" records_come_back
 check "the leg press on a no-go box is drawn" overlap_is_drawn
+check "spans are asked" spans_are_asked
 check "drive.c builds" compile "$work/drive" "$root/examples/drive.c"
 check "the drive prints its summary" drive_prints_its_summary
 check "the drive refuses no sheet" drive_refuses_no_sheet
