@@ -7,8 +7,9 @@ use common::{load, Numbers};
 use second_guard::boxes::StateBox;
 use second_guard::decision::{trace_recovery, Question};
 use second_guard::sheet::{CommandRange, Sheet};
-use sheet_tool::archive;
 use sheet_tool::attempts::{attempts, Ending, Subject};
+use sheet_tool::questions::{AskedQuestion, Commands};
+use sheet_tool::{archive, listing};
 use std::collections::BTreeSet;
 
 const NAMES: [&str; 4] = ["sheet_a", "leg_press", "motor", "pendulum"];
@@ -67,6 +68,64 @@ fn random_questions_to_the_examples() {
         }
     }
     assert_eq!(endings.len(), 8, "{endings:?}");
+}
+
+/// The bytes of a random question of either kind.
+fn random_bytes(sheet: &Sheet, numbers: &mut Numbers) -> Vec<u8> {
+    let Question {
+        allowance,
+        span,
+        measured,
+    } = random_question(sheet, numbers);
+    let commands = match numbers.whole(0, 2) {
+        0 => Commands::One(span.least),
+        _ => Commands::Span(span),
+    };
+    let question = AskedQuestion {
+        allowance,
+        commands,
+        measured,
+    };
+    question.bytes(sheet.n())
+}
+
+/// A few questions, and behind them nothing, a short one, one byte, or an unknown mark with a question behind it.
+fn random_file(sheet: &Sheet, numbers: &mut Numbers) -> Vec<u8> {
+    let count = numbers.whole(0, 4);
+    let questions = (0..count).flat_map(|_| random_bytes(sheet, numbers));
+    let mut file: Vec<u8> = questions.collect();
+    let mut last = random_bytes(sheet, numbers);
+    match numbers.whole(0, 3) {
+        0 => return file,
+        1 => last.truncate(numbers.whole(2, last.len() as i64 - 1) as usize),
+        2 => last.truncate(1),
+        _ => {
+            last[1] = b'X';
+            last.extend(random_bytes(sheet, numbers));
+        }
+    }
+    file.extend(last);
+    file
+}
+
+/// The tool cuts a file as the second guard does, and has the same answers from the archive.
+#[test]
+fn random_files_are_listed_alike() {
+    let mut numbers = Numbers(13);
+    let (mut whole, mut cut_short) = (0, 0);
+    for name in NAMES {
+        let (sheet, bytes, _) = load(name);
+        for _ in 0..100 {
+            let file = random_file(&sheet, &mut numbers);
+            let listed = listing::listing(&bytes, &file);
+            assert_eq!(listed, second_guard::listing::listing(&bytes, &file));
+            match listed.ends_with(" refused 12\n") {
+                true => cut_short += 1,
+                false => whole += 1,
+            }
+        }
+    }
+    assert!(whole > 50 && cut_short > 200, "{whole} {cut_short}");
 }
 
 /// Without the test of the boxes, the recovery check would fail at this width and at each half of it.
