@@ -1,6 +1,6 @@
 //! The decision and the recovery check, as packed numbers.
 
-use crate::reach::{lies_in, shares_a_state, step, to_box, Count, Spent, StateBox};
+use crate::reach::{lies_in, shares_a_state, step, to_box, Count, Law, Spent, StateBox};
 use crate::sheet::{read, read_question, Question, Sheet};
 
 pub const KEEP: u64 = 0;
@@ -28,8 +28,7 @@ pub fn unpack(number: u64) -> (u64, u64, u64) {
 /// One reach of an attempt.
 struct Leg {
     ticks: u16,
-    /// None is the plain law.
-    command: Option<i32>,
+    law: Law,
 }
 
 /// One attempt at one width: true for success, false for failure.
@@ -44,7 +43,7 @@ fn attempt(
     for leg in legs {
         let mut left = leg.ticks as i64;
         while left > 0 {
-            let settled = step(sheet, &at, left.min(width), leg.command, count)?;
+            let settled = step(sheet, &at, left.min(width), leg.law, count)?;
             // It fails as soon as a swept box shares a state with a no-go box.
             for k in 0..sheet.no_go as usize {
                 let no_go = to_box(&sheet.no_go_box[k], sheet.n);
@@ -110,11 +109,12 @@ pub fn decide_values(sheet: &Sheet, question: &Question) -> u64 {
     let legs = [
         Leg {
             ticks: sheet.delta,
-            command: Some(question.command),
+            // A keep covers any command of the span at each tick.
+            law: Some((question.least, question.greatest)),
         },
         Leg {
             ticks: sheet.alpha,
-            command: None,
+            law: None,
         },
     ];
     let first_width = sheet.delta.max(sheet.alpha) as i64;
@@ -145,7 +145,7 @@ pub fn recovery(bytes: &[u8]) -> u64 {
 pub fn recovery_values(sheet: &Sheet) -> u64 {
     let legs = [Leg {
         ticks: sheet.rho,
-        command: None,
+        law: None,
     }];
     let recovery_box = to_box(&sheet.recovery, sheet.n);
     let mut count = Count {

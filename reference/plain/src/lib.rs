@@ -1,5 +1,5 @@
 //! A plain guard, written from document 01, "The leg press guard: sheets, boxes
-//! and the keep", and papers 2, 3 and 8 of document 02 alone. No concern for speed.
+//! and the keep", and papers 2, 3, 4 and 8 of document 02 alone. No concern for speed.
 
 pub mod decision;
 pub mod listing;

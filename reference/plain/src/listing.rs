@@ -3,6 +3,21 @@
 use crate::decision::{decide, recovery, unpack, FAIL, FINEST, KEEP, PASS, REFUSED, SPENT};
 use crate::sheet::{question_length, read};
 
+/// The program cuts its file by mark (document 02, paper 4): how many bytes, of
+/// those that are left, are the next question.
+fn next_length(left: &[u8], n: u8) -> usize {
+    // A single byte is no mark.
+    if left.len() < 2 {
+        return left.len();
+    }
+    match question_length([left[0], left[1]], n) {
+        // A short tail is cut as it is, and refused by 12.
+        Some(length) => left.len().min(length),
+        // An unknown mark gives a last line with 12.
+        None => left.len(),
+    }
+}
+
 /// The listing's bytes from `sheet.bin` and `asks.bin`; None is a missing file.
 pub fn listing(sheet: Option<&[u8]>, asks: Option<&[u8]>) -> Vec<u8> {
     // A missing file reads as empty.
@@ -28,8 +43,7 @@ pub fn listing(sheet: Option<&[u8]>, asks: Option<&[u8]>) -> Vec<u8> {
     let mut ordinal: u64 = 1;
     let mut at = 0;
     while at < asks.len() {
-        // A short tail is cut as it is, and refused by 12.
-        let to = asks.len().min(at + question_length(n));
+        let to = at + next_length(&asks[at..], n);
         let (code, w, rounds) = unpack(decide(sheet, &asks[at..to]));
         match code {
             KEEP => out.push_str(&format!("{ordinal} keep {w} {rounds}\n")),

@@ -83,9 +83,13 @@ fn part_in_band(sheet: &Sheet, k: usize, slab: &StateBox) -> StateBox {
     part
 }
 
+/// Least and greatest command of a coach's span, of which each tick may use any;
+/// none is the plain law.
+pub type Law = Option<(i32, i32)>;
+
 /// The least and the greatest allowed change of variable i over the slab, all
-/// its commands and every band that the slab meets. None is the plain law.
-pub fn rates(sheet: &Sheet, i: usize, slab: &StateBox, command: Option<i32>) -> (i64, i64) {
+/// its commands and every band that the slab meets.
+pub fn rates(sheet: &Sheet, i: usize, slab: &StateBox, law: Law) -> (i64, i64) {
     let cap = sheet.caps[i] as i64;
     // Every slab meets a band; these are then replaced or bettered.
     let mut least = cap;
@@ -96,8 +100,8 @@ pub fn rates(sheet: &Sheet, i: usize, slab: &StateBox, command: Option<i32>) -> 
             continue;
         }
         let band = &sheet.band[k];
-        let (u_lower, u_upper) = match command {
-            Some(u) => (u as i64, u as i64),
+        let (u_lower, u_upper) = match law {
+            Some((least, greatest)) => (least as i64, greatest as i64),
             None => (band.safety_least as i64, band.safety_greatest as i64),
         };
         // The row bounded over the part of the slab that lies in this band, side
@@ -145,7 +149,7 @@ pub fn step(
     sheet: &Sheet,
     start: &StateBox,
     length: i64,
-    command: Option<i32>,
+    law: Law,
     count: &mut Count,
 ) -> Result<Step, Spent> {
     let mut k = length;
@@ -162,8 +166,8 @@ pub fn step(
                 lower_slab[i].1 = e[i].1.min(start[i].0 + (k + 1) * cap);
                 let mut upper_slab = e.clone();
                 upper_slab[i].0 = e[i].0.max(start[i].1 - (k + 1) * cap);
-                let lower_rate = rates(sheet, i, &lower_slab, command).0;
-                let upper_rate = rates(sheet, i, &upper_slab, command).1;
+                let lower_rate = rates(sheet, i, &lower_slab, law).0;
+                let upper_rate = rates(sheet, i, &upper_slab, law).1;
                 face_rates.push((lower_rate, upper_rate));
             }
             let m = hull(start, &moved(start, &face_rates, k - 1));
@@ -179,8 +183,8 @@ pub fn step(
     }
 }
 
-/// A reach of `ticks` at `width` from `start`: end box, swept box, rounds.
-/// None is the plain law.
+/// A reach of `ticks` at `width` from `start`, under one command or none, which is
+/// the plain law: end box, swept box, rounds.
 #[allow(clippy::type_complexity)]
 pub fn reach(
     sheet: &Sheet,
@@ -217,7 +221,8 @@ pub fn reach(
     let mut left = ticks as i64;
     while left > 0 {
         let k = left.min(width as i64);
-        let settled = match step(sheet, &end, k, command, &mut count) {
+        let law = command.map(|u| (u, u));
+        let settled = match step(sheet, &end, k, law, &mut count) {
             Ok(settled) => settled,
             Err(Spent) => unreachable!("no allowance"),
         };

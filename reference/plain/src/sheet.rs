@@ -93,9 +93,16 @@ pub fn sheet_length(n: u8, bands: u8, no_go: u8) -> usize {
     20 + 2 * n + bands * (14 + n * (2 * n + 12)) + (2 + 8 * n) * (no_go + 1)
 }
 
-/// A question has 10 + 8n bytes.
-pub fn question_length(n: u8) -> usize {
-    10 + 8 * n as usize
+/// `QS` has 10 + 8n bytes, `QR` 14 + 8n (document 02, paper 4). Other marks have
+/// no length.
+pub fn question_length(mark: [u8; 2], n: u8) -> Option<usize> {
+    if mark == *b"QS" {
+        return Some(10 + 8 * n as usize);
+    }
+    if mark == *b"QR" {
+        return Some(14 + 8 * n as usize);
+    }
+    None
 }
 
 // ---- The values' ranges, one test for each refusal number ----
@@ -463,18 +470,21 @@ pub fn write_at(sheet: &Sheet, buffer: &mut [u8], place: usize) -> Result<usize,
 #[derive(Clone, Copy, Debug)]
 pub struct Question {
     pub allowance: u32,
-    pub command: i32,
+    /// `QS` has one command, which is both.
+    pub least: i32,
+    pub greatest: i32,
     pub measured: Sides,
 }
 
 /// A question to a sheet that was read, or its refusal, 12 to 15.
 pub fn read_question(sheet: &Sheet, bytes: &[u8]) -> Result<Question, u8> {
     // 12: the question's length or mark.
-    if bytes.len() != question_length(sheet.n) {
+    if bytes.len() < 2 {
         return Err(12);
     }
     let mut from = Bytes { bytes, at: 0 };
-    if from.mark() != *b"QS" {
+    let mark = from.mark();
+    if question_length(mark, sheet.n) != Some(bytes.len()) {
         return Err(12);
     }
     // 13: allowance.
@@ -482,15 +492,24 @@ pub fn read_question(sheet: &Sheet, bytes: &[u8]) -> Result<Question, u8> {
     if allowance > 1_000_000 {
         return Err(13);
     }
-    // 14: command.
-    let command = from.i32();
-    test_command(sheet, command)?;
+    // 14: command, or a reversed span or one outside the head's range.
+    let least = from.i32();
+    let mut greatest = least;
+    if mark == *b"QR" {
+        greatest = from.i32();
+    }
+    if least > greatest {
+        return Err(14);
+    }
+    test_command(sheet, least)?;
+    test_command(sheet, greatest)?;
     // 15: measured side.
     let measured = from.sides(sheet.n);
     test_sides(&measured, sheet.n, 1_000_000, 15)?;
     Ok(Question {
         allowance,
-        command,
+        least,
+        greatest,
         measured,
     })
 }

@@ -172,7 +172,7 @@ fn lengths() {
     let a = bytes_a();
     assert_eq!(a.len(), 70);
     assert_eq!(sheet_length(1, 1, 1), 70);
-    assert_eq!(question_length(1), 18);
+    assert_eq!(question_length(*b"QS", 1), Some(18));
     assert_eq!(read(&a[..19]), Err(1));
     assert_eq!(read(&a[..69]), Err(5));
     let mut long = a.clone();
@@ -469,7 +469,7 @@ fn each_band_row_over_its_part_of_the_slab() {
     // -10..-1, 2 - 5 .. 12 + 4 + 5, -30..-21.
     assert_eq!(over(-10, 10), (-30, 21));
     // The same with u = 20 in band two: 15..37.
-    assert_eq!(rates(&s, 0, &vec![(-10, 10)], Some(20)), (-30, 37));
+    assert_eq!(rates(&s, 0, &vec![(-10, 10)], Some((20, 20))), (-30, 37));
     assert_eq!(over(-10, -1), (-10, -1));
     // An edge on the slab's upper side: band two at 0 alone, -3..9.
     assert_eq!(over(-10, 0), (-10, 9));
@@ -687,9 +687,11 @@ fn the_same_boxes_in_any_order() {
         let s = random_sheet(&mut dice);
         let mut q = Question {
             allowance: dice.from_to(0, 200) as u32,
-            command: dice.from_to(s.least as i64, s.greatest as i64) as i32,
+            least: dice.from_to(s.least as i64, s.greatest as i64) as i32,
+            greatest: 0,
             measured: Sides::default(),
         };
+        q.greatest = dice.from_to(q.least as i64, s.greatest as i64) as i32;
         for i in 0..s.n as usize {
             let lower = dice.from_to(-150, 150) as i32;
             q.measured[i] = (lower, lower + dice.from_to(0, 40) as i32);
@@ -936,6 +938,216 @@ fn it_could_never_pass_the_recovery_check() {
     assert!(refused > 200, "{refused}");
 }
 
+// ---- A span of commands (document 02, paper 4) ----
+
+/// A question marked `QR`.
+fn span(sides: &[(i32, i32)], (least, greatest): (i32, i32), allowance: u32) -> Vec<u8> {
+    let mut out = question(sides, least, allowance);
+    out[1] = b'R';
+    let after = greatest.to_be_bytes();
+    out.splice(10..10, after);
+    out
+}
+
+/// The number by which sheet A refuses a question, 0 for none.
+fn refused_by_a(question: &[u8]) -> u64 {
+    match unpack(decide(&bytes_a(), question)) {
+        (3, number, 0) => number,
+        _ => 0,
+    }
+}
+
+#[test]
+fn a_question_marked_qr() {
+    // `QR`, allowance 100, -1..2, the box 0..0.
+    let bytes = span(&[(0, 0)], (-1, 2), 100);
+    #[rustfmt::skip]
+    assert_eq!(bytes, [
+        b'Q', b'R', 0, 0, 0, 100, 255, 255, 255, 255, 0, 0, 0, 2,
+        0, 0, 0, 0, 0, 0, 0, 0,
+    ]);
+    for n in 1..=4 {
+        assert_eq!(question_length(*b"QR", n), Some(14 + 8 * n as usize));
+        assert_eq!(question_length(*b"QS", n), Some(10 + 8 * n as usize));
+        assert_eq!(question_length(*b"QT", n), None);
+    }
+    assert_eq!(refused_by_a(&bytes), 0);
+    // Each mark has its own length.
+    let mut other = bytes.clone();
+    other[1] = b'S';
+    assert_eq!(refused_by_a(&other), 12);
+    let mut other = question(&[(0, 0)], 2, 100);
+    assert_eq!(refused_by_a(&other), 0);
+    other[1] = b'R';
+    assert_eq!(refused_by_a(&other), 12);
+    for length in 0..bytes.len() {
+        assert_eq!(refused_by_a(&bytes[..length]), 12);
+    }
+    for mark in [*b"QT", *b"RR", *b"sq", *b"SQ"] {
+        let mut unknown = bytes.clone();
+        unknown[..2].copy_from_slice(&mark);
+        assert_eq!(refused_by_a(&unknown), 12);
+    }
+}
+
+#[test]
+fn a_reversed_span_or_one_outside_is_14() {
+    let refused = |ends| refused_by_a(&span(&[(0, 0)], ends, 100));
+    for ends in [(-25, 25), (-25, -25), (25, 25), (0, 0)] {
+        assert_eq!(refused(ends), 0);
+    }
+    for ends in [
+        (1, 0),
+        (25, -25),
+        (-26, 25),
+        (-25, 26),
+        (-26, -26),
+        (26, 26),
+        (26, -26),
+    ] {
+        assert_eq!(refused(ends), 14);
+    }
+    // After 12 and 13, before 15.
+    let all = span(&[(1, 0)], (1, 0), 1_000_001);
+    assert_eq!(refused_by_a(&all[..21]), 12);
+    assert_eq!(refused_by_a(&all), 13);
+    assert_eq!(refused_by_a(&span(&[(1, 0)], (1, 0), 1_000_000)), 14);
+    assert_eq!(refused_by_a(&span(&[(1, 0)], (0, 26), 0)), 14);
+    assert_eq!(refused_by_a(&span(&[(1, 0)], (0, 1), 0)), 15);
+}
+
+#[test]
+fn all_commands_of_the_span_in_every_band() {
+    // Band one: N = 3u. Band two from 0: N = -u + 1. The safety ranges are not asked.
+    let s = with_bands(
+        1_000,
+        &[
+            (-2_000_000, (0, 0), row_of_one(0, 3, 0, 0, 1)),
+            (0, (7, 8), row_of_one(0, -1, 1, 0, 1)),
+        ],
+    );
+    let over = |lower, upper, ends| rates(&s, 0, &vec![(lower, upper)], Some(ends));
+    assert_eq!(over(-5, -1, (-2, 4)), (-6, 12));
+    assert_eq!(over(0, 5, (-2, 4)), (-3, 3));
+    assert_eq!(over(-5, 5, (-2, 4)), (-6, 12));
+    // 3u is 3..6 and -u + 1 is -1..0.
+    assert_eq!(over(-5, 5, (1, 2)), (-1, 6));
+    assert_eq!(over(-5, 5, (1, 1)), (0, 3));
+}
+
+#[test]
+fn a_span_of_one_command_answers_as_qs_does() {
+    let mut dice = Dice(5);
+    let mut codes = [0; 4];
+    for _ in 0..1_500 {
+        let s = random_sheet(&mut dice);
+        let bytes = write(&s).unwrap();
+        let u = dice.from_to(s.least as i64 - 1, s.greatest as i64 + 1) as i32;
+        let allowance = dice.from_to(0, 120) as u32;
+        let mut sides = Vec::new();
+        for _ in 0..s.n {
+            let lower = dice.from_to(-150, 150) as i32;
+            sides.push((lower, lower + dice.from_to(0, 9) as i32));
+        }
+        let answer = decide(&bytes, &question(&sides, u, allowance));
+        assert_eq!(decide(&bytes, &span(&sides, (u, u), allowance)), answer);
+        codes[unpack(answer).0 as usize] += 1;
+    }
+    assert!(codes.iter().all(|&seen| seen > 50), "{codes:?}");
+}
+
+#[test]
+fn the_program_cuts_its_file_by_mark() {
+    let (one, two) = (
+        question(&[(0, 0)], 25, 100),
+        span(&[(0, 0)], (-25, 25), 100),
+    );
+    let lines = |parts: &[&[u8]]| {
+        let text = listing(Some(&bytes_a()), Some(&parts.concat()));
+        let text = String::from_utf8(text).unwrap();
+        text.strip_prefix("sheet pass 4 1\n").unwrap().to_string()
+    };
+    let kept = "1 keep 4 4\n2 keep 4 4\n3 keep 4 4\n";
+    assert_eq!(lines(&[&one, &two, &one]), kept);
+    assert_eq!(lines(&[&two, &one, &two]), kept);
+    // An unknown mark gives a last line, however much is behind it.
+    assert_eq!(lines(&[b"QT", &one, &two]), "1 refused 12\n");
+    assert_eq!(lines(&[&one, b"xx", &two]), "1 keep 4 4\n2 refused 12\n");
+    assert_eq!(lines(&[&two, b"xx"]), "1 keep 4 4\n2 refused 12\n");
+    assert_eq!(lines(&[&two, b"Q"]), "1 keep 4 4\n2 refused 12\n");
+    // A short tail.
+    for length in 1..22 {
+        let cut = lines(&[&one, &two[..length]]);
+        assert_eq!(cut, "1 keep 4 4\n2 refused 12\n");
+    }
+}
+
+/// One tick under one command for all variables, each change at random.
+fn tick(dice: &mut Dice, s: &Sheet, state: &mut [i64], u: i64) {
+    let before = state.to_vec();
+    for i in 0..s.n as usize {
+        let (lower, upper) = allowed_change(s, &before, i, u).unwrap();
+        state[i] += match dice.from_to(0, 2) {
+            0 => lower,
+            1 => upper,
+            _ => dice.from_to(lower, upper),
+        };
+    }
+}
+
+/// Delta ticks, each under any command of the span, and alpha ticks of the plain law.
+fn keeps_clear_and_comes_back(dice: &mut Dice, s: &Sheet, q: &Question) -> bool {
+    let n = s.n as usize;
+    let holds = |sides: &Sides, state: &[i64]| {
+        (0..n).all(|i| sides[i].0 as i64 <= state[i] && state[i] <= sides[i].1 as i64)
+    };
+    let mut state = Vec::new();
+    for i in 0..n {
+        state.push(dice.from_to(q.measured[i].0 as i64, q.measured[i].1 as i64));
+    }
+    for time in 0..s.delta + s.alpha {
+        let band = &s.band[band_of(s, state[s.band_variable as usize]).unwrap()];
+        let (least, greatest) = match time < s.delta {
+            true => (q.least, q.greatest),
+            false => (band.safety_least, band.safety_greatest),
+        };
+        let u = dice.from_to(least as i64, greatest as i64);
+        tick(dice, s, &mut state, u);
+        if (0..s.no_go as usize).any(|k| holds(&s.no_go_box[k], &state)) {
+            return false;
+        }
+    }
+    holds(&s.recovery, &state)
+}
+
+#[test]
+fn a_keep_covers_any_command_of_the_span_at_each_tick() {
+    let mut dice = Dice(6);
+    let mut kept = 0;
+    for _ in 0..1_500 {
+        let s = random_sheet(&mut dice);
+        let mut q = Question {
+            allowance: 1_000_000,
+            least: dice.from_to(s.least as i64, s.greatest as i64) as i32,
+            greatest: 0,
+            measured: Sides::default(),
+        };
+        q.greatest = dice.from_to(q.least as i64, s.greatest as i64) as i32;
+        for i in 0..s.n as usize {
+            let lower = dice.from_to(-100, 100) as i32;
+            q.measured[i] = (lower, lower + dice.from_to(0, 9) as i32);
+        }
+        if q.least == q.greatest || unpack(decide_values(&s, &q)).0 != 0 {
+            continue;
+        }
+        kept += 1;
+        for _ in 0..20 {
+            assert!(keeps_clear_and_comes_back(&mut dice, &s, &q));
+        }
+    }
+    assert!(kept > 200, "{kept}");
+}
+
 // ---- The boxes hold every run of the machine ----
 
 struct Dice(u64);
@@ -1077,7 +1289,15 @@ fn any_bytes_have_an_answer() {
             sides.push((lower, lower + dice.from_to(0, 40) as i32));
         }
         let u = dice.from_to(s.least as i64, s.greatest as i64) as i32;
-        let mut q = question(&sides, u, dice.from_to(0, 300) as u32);
+        let allowance = dice.from_to(0, 300) as u32;
+        let mut q = match dice.from_to(0, 1) {
+            0 => question(&sides, u, allowance),
+            _ => span(
+                &sides,
+                (u, dice.from_to(u as i64, s.greatest as i64) as i32),
+                allowance,
+            ),
+        };
         if dice.from_to(0, 2) == 0 {
             let at = dice.from_to(0, sheet.len() as i64 - 1) as usize;
             sheet[at] = dice.from_to(0, 255) as u8;
