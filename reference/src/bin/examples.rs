@@ -4,8 +4,8 @@
 use second_guard::boxes::StateBox;
 use second_guard::changes::{At, Change, Place, ALL_AT};
 use second_guard::decision::{
-    check_recovery_watched, decide, decide_watched, read_question, Decision, Faults, Question,
-    RecoveryCheck,
+    check_recovery_watched, decide, decide_watched, read_question, Bounded, Decision, Faults,
+    Question, RecoveryCheck,
 };
 use second_guard::neighborhoods::{neighborhoods, Face};
 use second_guard::reach::{advance, reach, Budget, Law, Step, Watch};
@@ -66,6 +66,15 @@ enum Covers {
     NoTicks,
     /// A width above the ticks left.
     ShorterLastStep,
+    /// A `QR` with equal ends has the answer of `QS`.
+    SpanOfOne,
+    WiderSpan,
+    /// The least and the greatest command alone are both kept.
+    EndsKept,
+    CommandForward,
+    CommandBackward,
+    /// A guard that bounds only so much of a span has another answer.
+    OtherIfBounded(Bounded),
     Refused(u8),
 }
 
@@ -109,7 +118,23 @@ impl Covers {
             Covers::NoTicks => "no ticks".into(),
             Covers::ShorterLastStep => "a last step below the width".into(),
             Covers::Refused(number) => format!("refused by {number}"),
+            Covers::SpanOfOne => "a span of one command, answered as that command".into(),
+            Covers::WiderSpan => "a span of several commands".into(),
+            Covers::EndsKept => "a span whose least and whose greatest command are kept".into(),
+            Covers::CommandForward => "a row with b above 0".into(),
+            Covers::CommandBackward => "a row with b below 0".into(),
+            Covers::OtherIfBounded(bounded) => other_if_text(bounded).into(),
         }
+    }
+}
+
+/// What of a span a wrong guard bounds that answers otherwise.
+fn other_if_text(bounded: Bounded) -> &'static str {
+    match bounded {
+        Bounded::Outer => "another answer by the outer end",
+        Bounded::Inner => "another answer by the inner end",
+        Bounded::Least => "another answer by the least command alone",
+        Bounded::Greatest => "another answer by the greatest command alone",
     }
 }
 
@@ -161,6 +186,14 @@ const REQUIRED: &[Covers] = &[
     Covers::UnderBaseline,
     Covers::NoTicks,
     Covers::ShorterLastStep,
+    Covers::SpanOfOne,
+    Covers::WiderSpan,
+    Covers::EndsKept,
+    Covers::CommandForward,
+    Covers::CommandBackward,
+    Covers::OtherIfBounded(Bounded::Inner),
+    Covers::OtherIfBounded(Bounded::Least),
+    Covers::OtherIfBounded(Bounded::Greatest),
 ];
 
 /// The most rounds an example may take.
@@ -1044,6 +1077,182 @@ fn recovery_on_a_box() -> Example {
     }
 }
 
+/// A question about a span.
+fn ask_span(allowance: u32, ends: (i32, i32), measured: StateBox) -> Call {
+    let span = CommandRange {
+        least: ends.0,
+        greatest: ends.1,
+    };
+    Call::Decide(
+        Mark::Span,
+        Question {
+            allowance,
+            span,
+            measured,
+        },
+    )
+}
+
+/// One variable that the command pushes by b/4, another b from an edge on. The plain law leaves it.
+fn pushed(b: i32, edge: i32, from_edge: i32, recovery: (i64, i64)) -> Sheet {
+    let push = |edge, b| band(edge, (0, 0), [row([0], b, 0, 0, 4)]);
+    with(
+        head(0, (1, 1, 1), (-8, 8), [5]),
+        [push(FIRST, b), push(edge, from_edge)],
+        [sides([(100, 200)])],
+        sides([recovery]),
+    )
+}
+
+/// Spans -4..8 from 10..20: by b = -1 to 8..21, with b = 1 below 15 to 8..22.
+fn spans_by_sign() -> Vec<Example> {
+    use Covers::*;
+    let asked = |name, sheet, covers: &[Covers]| Example {
+        name,
+        sheet,
+        call: ask_span(10, (-4, 8), sides([(10, 20)])),
+        covers: [&[WiderSpan], covers].concat(),
+    };
+    let backward = |recovery| pushed(-1, 50, -1, recovery);
+    let turning = |recovery| pushed(1, 15, -1, recovery);
+    let (inner, least) = (
+        OtherIfBounded(Bounded::Inner),
+        OtherIfBounded(Bounded::Least),
+    );
+    let greatest = OtherIfBounded(Bounded::Greatest);
+    vec![
+        asked(
+            "span_backward_kept",
+            backward((8, 21)),
+            &[Keep, CommandBackward],
+        ),
+        asked(
+            "span_backward_below",
+            backward((9, 21)),
+            &[Finest, inner, least],
+        ),
+        asked(
+            "span_backward_above",
+            backward((8, 20)),
+            &[Finest, inner, greatest],
+        ),
+        asked(
+            "span_turning_kept",
+            turning((8, 22)),
+            &[Keep, CommandForward, CommandBackward],
+        ),
+        asked(
+            "span_turning_below",
+            turning((9, 22)),
+            &[Finest, BandsMet(2)],
+        ),
+        asked(
+            "span_turning_above",
+            turning((8, 21)),
+            &[Finest, BandsMet(2)],
+        ),
+    ]
+}
+
+/// x follows the command, and from 1 on z goes by -5 times the command. The command 1 leads z down, -1
+/// leaves it; 1 and then -1 leads it to 5, into the no-go box.
+fn steered() -> Sheet {
+    let still = row([0, 0], 0, 0, 0, 1);
+    let by = |b| row([0, 0], b, 0, 0, 1);
+    with(
+        head(0, (2, 1, 1), (-1, 1), [1, 5]),
+        [
+            band(FIRST, (0, 0), [by(1), still]),
+            band(1, (0, 0), [by(1), by(-5)]),
+        ],
+        [sides([(-3, 3), (5, 9)])],
+        sides([(-3, 3), (-20, 4)]),
+    )
+}
+
+/// Each command of that span is kept, and the span is not.
+fn spans_and_their_ends() -> Vec<Example> {
+    use Covers::*;
+    let origin = sides([(0, 0), (0, 0)]);
+    let asked = |name, call, covers| Example {
+        name,
+        sheet: steered(),
+        call,
+        covers,
+    };
+    let whole = vec![Finest, WiderSpan, EndsKept, UnsafeMet];
+    vec![
+        asked("steered_by_1", ask(20, 1, origin), vec![Keep]),
+        asked("steered_by_0", ask(20, 0, origin), vec![Keep]),
+        asked("steered_by_minus_1", ask(20, -1, origin), vec![Keep]),
+        asked(
+            "steered_by_a_half",
+            ask_span(20, (-1, 0), origin),
+            vec![Keep, WiderSpan],
+        ),
+        asked("steered_by_all", ask_span(20, (-1, 1), origin), whole),
+    ]
+}
+
+/// Spans on the machines of the other examples.
+fn spans_of_machines() -> Vec<Example> {
+    use Covers::*;
+    let origin = sides([(0, 0), (0, 0)]);
+    let example = |name, sheet, call, covers| Example {
+        name,
+        sheet,
+        call,
+        covers,
+    };
+    let narrow = || sledge(sides([(-100, 100), (-70, 65)]));
+    let stiff_one = ask_span(200, (10, 10), sides([(18, 19)]));
+    let gently = ask_span(200, (-5, 5), sides([(-4, 8), (60, 70), (-88, -70)]));
+    vec![
+        example(
+            "stiff_span_of_one",
+            stiff(),
+            stiff_one,
+            vec![Keep, SpanOfOne],
+        ),
+        example(
+            "span_of_one_spent",
+            narrow(),
+            ask_span(8, (20, 20), origin),
+            vec![Spent, SpanOfOne],
+        ),
+        example(
+            "span_second_width",
+            narrow(),
+            ask_span(100, (12, 20), origin),
+            vec![Keep, WiderSpan, WidthInTurn(2)],
+        ),
+        example(
+            "span_spent",
+            narrow(),
+            ask_span(9, (12, 20), origin),
+            vec![Spent, WiderSpan, WidthInTurn(2)],
+        ),
+        example(
+            "gentle_span",
+            gentle(),
+            gently,
+            vec![
+                Keep,
+                WiderSpan,
+                CommandForward,
+                CommandBackward,
+                Variables(3),
+            ],
+        ),
+        example(
+            "refused_span",
+            stiff(),
+            ask_span(200, (10, 9), sides([(18, 19)])),
+            vec![Refused(14)],
+        ),
+    ]
+}
+
 fn hex(bytes: &[u8]) -> String {
     bytes.iter().fold(String::new(), |mut text, byte| {
         let _ = write!(text, "{byte:02x}");
@@ -1250,6 +1459,25 @@ fn answer(bytes: &[u8], call: &Call, n: usize) -> Answer {
     }
 }
 
+/// The question of an example that asks by a span, and the sheet's bytes.
+fn spans(example: &Example) -> Option<(&Question, Vec<u8>)> {
+    match &example.call {
+        Call::Decide(Mark::Span, question) => Some((question, sheet_bytes(&example.sheet))),
+        _ => None,
+    }
+}
+
+/// The code of a guard that bounds only so much of a span.
+fn decided_by(example: &Example, bounded: Bounded) -> Option<u8> {
+    let faults = Faults {
+        bounded,
+        ..Faults::default()
+    };
+    let (question, _) = spans(example)?;
+    let decision = decide_watched(&example.sheet, question, faults, &mut Counts::default());
+    Some(decided(decision).0)
+}
+
 /// Whether the example really shows it.
 fn shows(covers: Covers, example: &Example, answer: &Answer) -> bool {
     let sheet = &example.sheet;
@@ -1324,6 +1552,23 @@ fn shows(covers: Covers, example: &Example, answer: &Answer) -> bool {
                 ..
             }
         ),
+        Covers::SpanOfOne => spans(example).is_some_and(|(asked, sheet)| {
+            let one = question_bytes(Mark::One, asked, n);
+            let two = question_bytes(Mark::Span, asked, n);
+            asked.span.least == asked.span.greatest && decide(&sheet, &one) == decide(&sheet, &two)
+        }),
+        Covers::WiderSpan => {
+            spans(example).is_some_and(|(asked, _)| asked.span.least < asked.span.greatest)
+        }
+        Covers::EndsKept => {
+            let kept = |bounded| decided_by(example, bounded) == Some(0);
+            kept(Bounded::Least) && kept(Bounded::Greatest)
+        }
+        Covers::CommandForward => any_row(|row| row.b > 0),
+        Covers::CommandBackward => any_row(|row| row.b < 0),
+        Covers::OtherIfBounded(bounded) => {
+            decided_by(example, bounded).is_some_and(|code| code != answer.code)
+        }
         Covers::NoTicks => matches!(example.call, Call::Reach { ticks: 0, .. }),
         Covers::ShorterLastStep => counts.steps.last().is_some_and(|s| s.ticks < answer.width),
         Covers::Refused(number) => answer.code == 3 && answer.width == u32::from(number),
@@ -1436,6 +1681,9 @@ fn main() {
         decisions_at_places(),
         checks_at_places(),
         vec![recovery_on_a_box()],
+        spans_by_sign(),
+        spans_and_their_ends(),
+        spans_of_machines(),
     ];
     let mut covered = Vec::new();
     for example in all.iter().flatten() {

@@ -1,6 +1,6 @@
 //! Prints `limits.txt`: numbers at each of document 01's bounds and one past it, no-go boxes in order and out of it and beside and
-//! on the recovery box, the first of two refusals, and listings, with the answers of the second guard. Each line says by which
-//! number it is refused, and the program stops where it is not.
+//! on the recovery box, spans of commands, the first of two refusals, and listings, with the answers of the second guard. Each
+//! line says by which number it is refused, and the program stops where it is not.
 
 use second_guard::boxes::{StateBox, VARIABLES};
 use second_guard::decision::{decide, Decision};
@@ -101,6 +101,14 @@ fn a() -> File {
 /// Sheet A's first question: allowance 100, command 25, box 0..0.
 fn q() -> File {
     File::named("Q", [b"QS", &numbers(&[100, 25, 0, 0])[..]].concat())
+}
+
+/// The same for any command: allowance 100, commands -25..25, box 0..0.
+fn r() -> File {
+    File::named(
+        "span_A",
+        [b"QR", &numbers(&[100, -25, 25, 0, 0])[..]].concat(),
+    )
 }
 
 fn two_bands() -> File {
@@ -720,8 +728,47 @@ fn decisions() -> Vec<(&'static str, File, File, u8)> {
     all
 }
 
+/// Decisions on sheet A by a span.
+fn spans() -> Vec<(&'static str, File, u8)> {
+    let span = |least, greatest| r().pair(6, (least, greatest));
+    let over = || r().number(2, 4, 1_000_001);
+    let marked = |mark: &[u8; 2]| r().with(0, mark);
+    vec![
+        ("span_whole_range", r(), 0),
+        ("span_of_one_command", span(25, 25), 0),
+        ("span_of_the_least_command", span(-25, -25), 0),
+        ("span_allowance_3", r().number(2, 4, 3), 0),
+        ("span_least_minus_26", span(-26, 25), 14),
+        ("span_greatest_26", span(-25, 26), 14),
+        ("span_below_the_range", span(-27, -26), 14),
+        ("span_above_the_range", span(26, 27), 14),
+        ("span_reversed", span(1, 0), 14),
+        ("span_reversed_and_outside", span(26, -26), 14),
+        ("span_allowance_1000001", over(), 13),
+        ("span_measured_reversed", r().pair(14, (5, 4)), 15),
+        ("span_measured_beyond", r().number(14, 4, -1_000_001), 15),
+        ("allowance_before_span", over().pair(6, (1, 0)), 13),
+        ("reversed_before_measured", span(1, 0).pair(14, (5, 4)), 14),
+        ("least_before_measured", span(-26, 0).pair(14, (5, 4)), 14),
+        ("greatest_before_measured", span(0, 26).pair(14, (5, 4)), 14),
+        ("span_a_byte_short", r().first(21), 12),
+        ("span_a_byte_long", r().and(&[0]), 12),
+        ("span_as_long_as_a_question", r().first(18), 12),
+        ("question_as_long_as_a_span", q().and(&[0; 4]), 12),
+        ("span_mark_alone", r().first(2), 12),
+        ("half_a_mark", r().first(1), 12),
+        ("mark_QT", marked(b"QT"), 12),
+        ("mark_RR", marked(b"RR"), 12),
+        ("mark_sq", marked(b"sq"), 12),
+        ("span_mark_before_allowance", over().with(0, b"RR"), 12),
+    ]
+}
+
 fn print_decisions() {
-    for (name, sheet, question, refusal) in decisions() {
+    let spans = spans()
+        .into_iter()
+        .map(|(name, question, refusal)| (name, a(), question, refusal));
+    for (name, sheet, question, refusal) in decisions().into_iter().chain(spans) {
         let answered =
             |code, width, rounds| (0, format!("code={code} width={width} rounds={rounds}"));
         let (given, answer) = match decide(&sheet.bytes, &question.bytes) {
@@ -799,8 +846,60 @@ fn refused_listings() -> [(&'static str, File, File, &'static str); 3] {
     ]
 }
 
+/// Files of both marks, and of unknown ones, which take the rest.
+fn listings_by_mark() -> [(&'static str, File, File, &'static str); 9] {
+    let (one, two) = (q().bytes, r().bytes);
+    let other = q().with(0, b"RR").bytes;
+    let reversed = r().pair(6, (1, 0)).bytes;
+    let of = |name, asks, last| (name, a(), asks, last);
+    [
+        of("listing_of_a_span", r(), "1 keep 4 4"),
+        of("listing_of_both_marks", q().and(&two), "2 keep 4 4"),
+        of(
+            "listing_of_all_kinds",
+            r().and(&one).and(&reversed).and(&two).and(&other),
+            "5 refused 12",
+        ),
+        of(
+            "listing_of_an_unknown_mark_first",
+            q().with(0, b"RR").and(&two),
+            "1 refused 12",
+        ),
+        of(
+            "listing_of_an_unknown_mark_between",
+            r().and(&other).and(&two),
+            "2 refused 12",
+        ),
+        of(
+            "listing_of_an_unknown_mark_last",
+            r().and(b"sq"),
+            "2 refused 12",
+        ),
+        of("listing_of_a_last_byte", r().and(b"Q"), "2 refused 12"),
+        of("listing_of_a_byte", q().first(1), "1 refused 12"),
+        of(
+            "listing_of_a_span_and_a_short_tail",
+            r().and(&two[..21]),
+            "2 refused 12",
+        ),
+    ]
+}
+
+/// A span cut at each of its bytes.
+fn cut_listings() -> impl Iterator<Item = (String, File, File, &'static str)> {
+    (1..r().bytes.len()).map(|length| {
+        let name = format!("listing_of_a_span_cut_at_{length}");
+        (name, a(), r().first(length), "1 refused 12")
+    })
+}
+
 fn print_listings() {
-    for (name, sheet, asks, last) in listings().into_iter().chain(refused_listings()) {
+    let named = listings()
+        .into_iter()
+        .chain(refused_listings())
+        .chain(listings_by_mark())
+        .map(|(name, sheet, asks, last)| (name.into(), sheet, asks, last));
+    for (name, sheet, asks, last) in named.chain(cut_listings()) {
         let text = listing(&sheet.bytes, &asks.bytes);
         let given = text.lines().last().unwrap_or_default();
         assert!(given.starts_with(last), "{name}: {given}");
@@ -814,14 +913,15 @@ fn print_listings() {
 
 fn main() {
     println!("# Limits, as printed by the program `print_limits`: numbers at each of document 01's bounds and one past it, no-go boxes in");
-    println!("# order and out of it (document 02, paper 2) and beside and on the recovery box (paper 8), the first of two refusals, and");
-    println!("# listings. A line has a name, the call, its files and numbers, and the answer; refusal 0 is none.");
+    println!("# order and out of it (document 02, paper 2) and beside and on the recovery box (paper 8), spans of commands (paper 4), the first");
+    println!("# of two refusals, and listings. A line has a name, the call, its files and numbers, and the answer; refusal 0 is none.");
     println!("# A file is one of those named first or a sheet in hex. @10:03e8 is with these bytes from place 10 on (of `numbers`: with");
     println!("# this number in the slot), <69 its first 69 bytes, +00 with this byte after it. In a listing _ is a space and / a newline.");
-    println!("\n# sheet A, its first question, and sheets of A's numbers with other counts");
+    println!("\n# sheet A, its first question, the same for any command, and sheets of A's numbers with other counts");
     for file in [
         a(),
         q(),
+        r(),
         two_bands(),
         eight_bands(),
         eight_boxes(),
