@@ -1104,53 +1104,46 @@ fn pushed(b: i32, edge: i32, from_edge: i32, recovery: (i64, i64)) -> Sheet {
     )
 }
 
-/// Spans -4..8 from 10..20: by b = -1 to 8..21, with b = 1 below 15 to 8..22.
-fn spans_by_sign() -> Vec<Example> {
-    use Covers::*;
-    let asked = |name, sheet, covers: &[Covers]| Example {
+fn example(name: &'static str, sheet: Sheet, call: Call, covers: &[Covers]) -> Example {
+    Example {
         name,
         sheet,
-        call: ask_span(10, (-4, 8), sides([(10, 20)])),
-        covers: [&[WiderSpan], covers].concat(),
+        call,
+        covers: covers.to_vec(),
+    }
+}
+
+/// The span -4..8 from 10..20: by b = -1 to 8..21.
+fn spans_backward() -> Vec<Example> {
+    use Covers::*;
+    let asked = |name, recovery, covers| {
+        let call = ask_span(10, (-4, 8), sides([(10, 20)]));
+        example(name, pushed(-1, 50, -1, recovery), call, covers)
     };
-    let backward = |recovery| pushed(-1, 50, -1, recovery);
-    let turning = |recovery| pushed(1, 15, -1, recovery);
-    let (inner, least) = (
-        OtherIfBounded(Bounded::Inner),
-        OtherIfBounded(Bounded::Least),
-    );
-    let greatest = OtherIfBounded(Bounded::Greatest);
+    let other = OtherIfBounded;
+    let kept = &[Keep, WiderSpan, CommandBackward];
+    let below = &[Finest, other(Bounded::Inner), other(Bounded::Least)];
+    let above = &[Finest, other(Bounded::Inner), other(Bounded::Greatest)];
     vec![
-        asked(
-            "span_backward_kept",
-            backward((8, 21)),
-            &[Keep, CommandBackward],
-        ),
-        asked(
-            "span_backward_below",
-            backward((9, 21)),
-            &[Finest, inner, least],
-        ),
-        asked(
-            "span_backward_above",
-            backward((8, 20)),
-            &[Finest, inner, greatest],
-        ),
-        asked(
-            "span_turning_kept",
-            turning((8, 22)),
-            &[Keep, CommandForward, CommandBackward],
-        ),
-        asked(
-            "span_turning_below",
-            turning((9, 22)),
-            &[Finest, BandsMet(2)],
-        ),
-        asked(
-            "span_turning_above",
-            turning((8, 21)),
-            &[Finest, BandsMet(2)],
-        ),
+        asked("span_backward_kept", (8, 21), kept),
+        asked("span_backward_below", (9, 21), below),
+        asked("span_backward_above", (8, 20), above),
+    ]
+}
+
+/// The same with b = 1 below 15: to 8..22.
+fn spans_turning() -> Vec<Example> {
+    use Covers::*;
+    let asked = |name, recovery, covers| {
+        let call = ask_span(10, (-4, 8), sides([(10, 20)]));
+        example(name, pushed(1, 15, -1, recovery), call, covers)
+    };
+    let kept = &[Keep, WiderSpan, CommandForward, CommandBackward];
+    let missed = &[Finest, WiderSpan, BandsMet(2)];
+    vec![
+        asked("span_turning_kept", (8, 22), kept),
+        asked("span_turning_below", (9, 22), missed),
+        asked("span_turning_above", (8, 21), missed),
     ]
 }
 
@@ -1174,82 +1167,37 @@ fn steered() -> Sheet {
 fn spans_and_their_ends() -> Vec<Example> {
     use Covers::*;
     let origin = sides([(0, 0), (0, 0)]);
-    let asked = |name, call, covers| Example {
-        name,
-        sheet: steered(),
-        call,
-        covers,
-    };
-    let whole = vec![Finest, WiderSpan, EndsKept, UnsafeMet];
+    let one = |name, command| example(name, steered(), ask(20, command, origin), &[Keep]);
+    let all = |name, ends, covers| example(name, steered(), ask_span(20, ends, origin), covers);
     vec![
-        asked("steered_by_1", ask(20, 1, origin), vec![Keep]),
-        asked("steered_by_0", ask(20, 0, origin), vec![Keep]),
-        asked("steered_by_minus_1", ask(20, -1, origin), vec![Keep]),
-        asked(
-            "steered_by_a_half",
-            ask_span(20, (-1, 0), origin),
-            vec![Keep, WiderSpan],
-        ),
-        asked("steered_by_all", ask_span(20, (-1, 1), origin), whole),
+        one("steered_by_1", 1),
+        one("steered_by_0", 0),
+        one("steered_by_minus_1", -1),
+        all("steered_by_a_half", (-1, 0), &[Keep, WiderSpan]),
+        all("steered_by_all", (-1, 1), &[Finest, EndsKept, UnsafeMet]),
     ]
 }
 
 /// Spans on the machines of the other examples.
 fn spans_of_machines() -> Vec<Example> {
     use Covers::*;
-    let origin = sides([(0, 0), (0, 0)]);
-    let example = |name, sheet, call, covers| Example {
-        name,
-        sheet,
-        call,
-        covers,
+    let pushed = |name, allowance, ends, covers| {
+        let call = ask_span(allowance, ends, sides([(0, 0), (0, 0)]));
+        example(name, sledge(sides([(-100, 100), (-70, 65)])), call, covers)
     };
-    let narrow = || sledge(sides([(-100, 100), (-70, 65)]));
-    let stiff_one = ask_span(200, (10, 10), sides([(18, 19)]));
+    let stiffly = |name, ends, covers| {
+        let call = ask_span(200, ends, sides([(18, 19)]));
+        example(name, stiff(), call, covers)
+    };
     let gently = ask_span(200, (-5, 5), sides([(-4, 8), (60, 70), (-88, -70)]));
+    let covers = &[Keep, WiderSpan, CommandForward, CommandBackward];
     vec![
-        example(
-            "stiff_span_of_one",
-            stiff(),
-            stiff_one,
-            vec![Keep, SpanOfOne],
-        ),
-        example(
-            "span_of_one_spent",
-            narrow(),
-            ask_span(8, (20, 20), origin),
-            vec![Spent, SpanOfOne],
-        ),
-        example(
-            "span_second_width",
-            narrow(),
-            ask_span(100, (12, 20), origin),
-            vec![Keep, WiderSpan, WidthInTurn(2)],
-        ),
-        example(
-            "span_spent",
-            narrow(),
-            ask_span(9, (12, 20), origin),
-            vec![Spent, WiderSpan, WidthInTurn(2)],
-        ),
-        example(
-            "gentle_span",
-            gentle(),
-            gently,
-            vec![
-                Keep,
-                WiderSpan,
-                CommandForward,
-                CommandBackward,
-                Variables(3),
-            ],
-        ),
-        example(
-            "refused_span",
-            stiff(),
-            ask_span(200, (10, 9), sides([(18, 19)])),
-            vec![Refused(14)],
-        ),
+        stiffly("stiff_span_of_one", (10, 10), &[Keep, SpanOfOne]),
+        stiffly("refused_span", (10, 9), &[Refused(14)]),
+        pushed("span_of_one_spent", 8, (20, 20), &[Spent, SpanOfOne]),
+        pushed("span_second_width", 100, (12, 20), &[Keep, WidthInTurn(2)]),
+        pushed("span_spent", 9, (12, 20), &[Spent, WidthInTurn(2)]),
+        example("gentle_span", gentle(), gently, covers),
     ]
 }
 
@@ -1681,7 +1629,8 @@ fn main() {
         decisions_at_places(),
         checks_at_places(),
         vec![recovery_on_a_box()],
-        spans_by_sign(),
+        spans_backward(),
+        spans_turning(),
         spans_and_their_ends(),
         spans_of_machines(),
     ];

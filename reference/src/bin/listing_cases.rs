@@ -2,7 +2,7 @@
 //! A case names text that its listing has, and the program stops where the second guard's listing has it not.
 
 use second_guard::boxes::StateBox;
-use second_guard::listing::listing;
+use second_guard::listing::{listing, questions as questions_of};
 use second_guard::sheet::{self, Band, CommandRange, Row, Sheet};
 use std::path::Path;
 use std::{env, fs};
@@ -88,10 +88,10 @@ fn bytes(sheet: &Sheet) -> Vec<u8> {
     bytes
 }
 
-fn question(mark: &[u8; 2], allowance: u32, command: i32, pairs: &[(i32, i32)]) -> Vec<u8> {
+fn question(mark: &[u8; 2], allowance: u32, commands: &[i32], pairs: &[(i32, i32)]) -> Vec<u8> {
     let mut bytes = mark.to_vec();
     bytes.extend(allowance.to_be_bytes());
-    bytes.extend(command.to_be_bytes());
+    bytes.extend(commands.iter().flat_map(|command| command.to_be_bytes()));
     for (lower, upper) in pairs {
         bytes.extend(lower.to_be_bytes());
         bytes.extend(upper.to_be_bytes());
@@ -100,7 +100,12 @@ fn question(mark: &[u8; 2], allowance: u32, command: i32, pairs: &[(i32, i32)]) 
 }
 
 fn ask(lower: i32, upper: i32, command: i32, allowance: u32) -> Vec<u8> {
-    question(b"QS", allowance, command, &[(lower, upper)])
+    question(b"QS", allowance, &[command], &[(lower, upper)])
+}
+
+/// A question about a span of commands, from the state 0.
+fn ask_span(least: i32, greatest: i32) -> Vec<u8> {
+    question(b"QR", 100, &[least, greatest], &[(0, 0)])
 }
 
 /// Document 01's five questions.
@@ -129,27 +134,36 @@ impl Numbers {
     }
 }
 
-/// Questions of n variables, a few of them refused.
+/// Questions of n variables with both marks, a few of them refused.
 fn many(count: usize, n: usize) -> Vec<u8> {
     let mut numbers = Numbers(n as u64);
     let mut asks = Vec::new();
     for _ in 0..count {
-        let mark = if numbers.from_to(0, 20) == 0 {
-            b"QX"
-        } else {
-            b"QS"
-        };
         let allowance = numbers.from_to(0, 30) as u32;
         let command = numbers.from_to(-26, 26);
+        let greatest = command + numbers.from_to(-1, 9);
         let pairs: Vec<(i32, i32)> = (0..n)
             .map(|_| {
                 let lower = numbers.from_to(-150, 150);
                 (lower, lower + numbers.from_to(-1, 40))
             })
             .collect();
-        asks.extend(question(mark, allowance, command, &pairs));
+        asks.extend(match numbers.from_to(0, 1) {
+            0 => question(b"QS", allowance, &[command], &pairs),
+            _ => question(b"QR", allowance, &[command, greatest], &pairs),
+        });
     }
     asks
+}
+
+/// Questions of both marks that take just so many bytes, an even number.
+fn filling(size: usize) -> Vec<u8> {
+    let (one, two) = (ask(0, 0, 25, 100), ask_span(-25, 25));
+    let fits = |spans: &usize| (size - spans * two.len()).is_multiple_of(one.len());
+    let mut counts = 0..=size / two.len();
+    let spans = counts.find(fits).expect("a size that they can have");
+    let ones = (size - spans * two.len()) / one.len();
+    [two.repeat(spans), one.repeat(ones)].concat()
 }
 
 /// Sheet A with other bytes from a place on.
@@ -294,7 +308,7 @@ fn questions() -> Vec<Case> {
             "12_mark",
             "1 refused 12\n",
             a(),
-            [question(b"QT", 9, 0, &[(0, 0)]), asks_a()].concat(),
+            [question(b"QT", 9, &[0], &[(0, 0)]), asks_a()].concat(),
         ),
         files(
             "13_allowance",
@@ -313,6 +327,109 @@ fn questions() -> Vec<Case> {
         files("spent_at_once", "1 over spent 4 0\n", a(), ask(0, 0, 25, 0)),
         files("longest_sheet", "500 ", bytes(&longest()), many(500, 4)),
         files("many", "100001 refused 12\n", a(), many_a),
+    ]
+}
+
+/// Files of both marks, on a sheet that passes.
+fn marks() -> Vec<Case> {
+    let on_a = |name, says, asks: &[&[u8]]| files(name, says, bytes(&sheet_a()), asks.concat());
+    let (one, two) = (&ask(0, 0, 25, 100)[..], &ask_span(-25, 25)[..]);
+    let (reversed, outside) = (&ask_span(1, 0)[..], &ask_span(-25, 26)[..]);
+    let short = &question(b"QR", 100, &[-25], &[(0, 0)])[..];
+    let long = &question(b"QS", 100, &[25, 25], &[(0, 0)])[..];
+    let unknown = &question(b"RR", 100, &[25], &[(0, 0)])[..];
+    vec![
+        on_a("span", "1 keep 4 4\n", &[two]),
+        on_a("span_of_one", "1 keep 4 4\n", &[&ask_span(25, 25)]),
+        on_a("both_marks", "4 keep 4 4\n", &[two, one, two, one]),
+        on_a("14_reversed", "2 refused 14\n3 keep", &[one, reversed, two]),
+        on_a("14_outside", "1 refused 14\n2 keep", &[outside, one]),
+        on_a("span_cut_as_its_mark_says", "1 refused 15\n", &[short, one]),
+        on_a(
+            "question_cut_as_its_mark_says",
+            "2 refused 12\n",
+            &[long, one],
+        ),
+        on_a("unknown_first", "1 refused 12\n", &[unknown, one, two]),
+        on_a("unknown_between", "2 refused 12\n", &[two, unknown, one]),
+        on_a("unknown_last", "3 refused 12\n", &[one, two, unknown]),
+        on_a("unknown_mark_alone", "2 refused 12\n", &[two, b"sq"]),
+        on_a("half_a_mark", "2 refused 12\n", &[two, b"Q"]),
+        on_a("another_byte", "2 refused 12\n", &[two, b"\0"]),
+    ]
+}
+
+/// A span cut at each of its bytes, alone and behind other questions.
+fn cut_spans() -> Vec<Case> {
+    let four = question(b"QR", 100, &[-25, 25], &[(0, 0); 4]);
+    let of_a = (1..22).map(|length| {
+        let asks = [&asks_a()[..], &ask_span(-25, 25)[..length]].concat();
+        let name = format!("span_cut_at_{length}");
+        files(&name, "6 refused 12\n", bytes(&sheet_a()), asks)
+    });
+    let of_four = [1, 2, 13, 14, 42, 43, 45].map(|length| {
+        let name = format!("span_of_four_cut_at_{length}");
+        let asks = four[..length].to_vec();
+        files(&name, "1 refused 12\n", bytes(&longest()), asks)
+    });
+    of_a.chain(of_four).collect()
+}
+
+/// Files over the program's buffer, with an unknown mark at a border of it and just beside one.
+fn long_files() -> Vec<Case> {
+    let after = |size: usize, rest: Vec<u8>, name: String| {
+        let count = questions_of(&filling(size), 1).count();
+        let says = format!("{} refused 12\n", count + 1);
+        let asks = [filling(size), rest].concat();
+        files(&name, &says, bytes(&sheet_a()), asks)
+    };
+    let sizes = [4_094, 4_096, 4_098, 8_192, 65_536];
+    let unknown = sizes.map(|size| {
+        let rest = [b"RR", &filling(10_000)[..]].concat();
+        after(size, rest, format!("unknown_at_{size}"))
+    });
+    let tails = sizes.map(|size| {
+        let tail = ask_span(-25, 25)[..21].to_vec();
+        after(size, tail, format!("tail_at_{size}"))
+    });
+    let bytes_left = sizes.map(|size| after(size, vec![b'Q'], format!("byte_at_{size}")));
+    let all = unknown.into_iter().chain(tails).chain(bytes_left);
+    all.collect()
+}
+
+/// An unknown mark with so many bytes in all: around the length of the longest question, and more.
+fn unknown_rests() -> Vec<Case> {
+    let rest = |length: usize| {
+        let unknown = [b"RR", &filling(112)[..]].concat();
+        let asks = [&asks_a()[..], &unknown[..length]].concat();
+        let name = format!("unknown_of_{length}_bytes");
+        files(&name, "6 refused 12\n", bytes(&sheet_a()), asks)
+    };
+    [3, 17, 18, 19, 21, 22, 23, 41, 42, 43, 45, 46, 47, 92]
+        .map(rest)
+        .into()
+}
+
+/// Both marks and an unknown one, on a sheet that is refused and on one that fails.
+fn marks_on_other_sheets() -> [Case; 2] {
+    let asks = || [asks_a(), ask_span(-25, 25), b"RR".to_vec(), asks_a()].concat();
+    let refused = bytes(&sheet_a())[..69].to_vec();
+    let mut drifting = sheet_a();
+    drifting.bands[0].rows[0].a[0] = 0;
+    drifting.bands[0].rows[0].c = 40;
+    [
+        files(
+            "marks_on_a_refused_sheet",
+            "sheet refused 5\n",
+            refused,
+            asks(),
+        ),
+        files(
+            "marks_on_a_failing_sheet",
+            "sheet fail 1 ",
+            bytes(&drifting),
+            asks(),
+        ),
     ]
 }
 
@@ -342,6 +459,11 @@ fn main() {
         refused_sheets(),
         questions(),
         vec![clear_sheet()],
+        marks(),
+        cut_spans(),
+        long_files(),
+        unknown_rests(),
+        marks_on_other_sheets().into(),
     ];
     for case in cases.into_iter().flatten() {
         let read = |place: &Place| match place {
