@@ -8,7 +8,7 @@ use second_guard::changes::{At, Change};
 use second_guard::decision::{decide_watched, Faults, Question};
 use second_guard::neighborhoods::{neighborhoods, Neighborhood};
 use second_guard::reach::Watch;
-use second_guard::sheet::Sheet;
+use second_guard::sheet::{CommandRange, Sheet};
 
 /// The numerators that are aimed at.
 pub const PLACES: [At; 7] = [
@@ -52,7 +52,7 @@ impl Watch for Round {
 fn first_round(case: &Case) -> Vec<(usize, Change)> {
     let question = Question {
         allowance: 1,
-        command: case.command,
+        span: CommandRange::one(case.command),
         measured: case.measured,
     };
     let mut round = Round::default();

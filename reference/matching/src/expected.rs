@@ -83,7 +83,7 @@ pub fn reach(sheet: &[u8], call: ReachCall, start: &[u8], out: &mut [u8]) -> Ans
         let n = sheet.n();
         let law = match call.law {
             0 => Law::Baseline,
-            _ => Law::Command(call.command),
+            _ => Law::command(call.command),
         };
         // A start of another length comes after 16 and 14, as a box out of order does.
         let mut disordered = StateBox::default();

@@ -296,10 +296,10 @@ struct Attempt {
     swept: StateBox,
 }
 
-fn attempt(case: &Case, width: u32) -> Attempt {
+fn attempt(case: &Case, span: CommandRange, width: u32) -> Attempt {
     let question = Question {
         allowance: 0,
-        command: case.command,
+        span,
         measured: case.measured,
     };
     let steps = trace(&case.sheet, &question, width, Faults::default()).steps;
@@ -346,13 +346,24 @@ pub enum Shape {
 }
 
 /// Places recovery and unsafe boxes so that the attempt after so many halvings is the first
-/// to pass, or the first that only just fails.
+/// to pass, or the first that only just fails. It is the attempt under the case's command.
 pub fn shape(random: &mut Random, case: &mut Case, halvings: usize) -> Shape {
+    let span = CommandRange::one(case.command);
+    shape_for(random, case, span, halvings)
+}
+
+/// The same for the attempt under a span.
+pub fn shape_for(
+    random: &mut Random,
+    case: &mut Case,
+    span: CommandRange,
+    halvings: usize,
+) -> Shape {
     let n = case.sheet.n();
     let attempts: Vec<Attempt> = widths(&case.sheet)
         .iter()
         .take(halvings + 1)
-        .map(|&width| attempt(case, width))
+        .map(|&width| attempt(case, span, width))
         .collect();
     let Some((wanted, before)) = attempts.split_last() else {
         return Shape::None;
@@ -553,12 +564,12 @@ pub fn everyday(random: &mut Random) -> Everyday {
     }
 }
 
-/// A question with any command about a box near a case's.
+/// A question with any one command about a box near a case's.
 pub fn question_near(random: &mut Random, case: &Case) -> Question {
     let measured = near(random, case);
     Question {
         allowance: random.spread(1, 1_000_000) as u32,
-        command: pick_command(random, &case.sheet),
+        span: CommandRange::one(pick_command(random, &case.sheet)),
         measured,
     }
 }
@@ -764,11 +775,41 @@ pub fn bytes_as_they_are(sheet: &Sheet) -> Vec<u8> {
     bytes
 }
 
-/// The bytes of a question, in range or not.
+/// The bytes of a question about one command, in range or not.
 pub fn question_bytes(allowance: u32, command: i32, measured: &StateBox, n: usize) -> Vec<u8> {
-    let mut bytes = b"QS".to_vec();
+    marked_bytes(b"QS", allowance, &[command], measured, n)
+}
+
+/// The same about a span.
+pub fn span_bytes(allowance: u32, span: CommandRange, measured: &StateBox, n: usize) -> Vec<u8> {
+    let ends = [span.least, span.greatest];
+    marked_bytes(b"QR", allowance, &ends, measured, n)
+}
+
+fn marked_bytes(
+    mark: &[u8; 2],
+    allowance: u32,
+    commands: &[i32],
+    measured: &StateBox,
+    n: usize,
+) -> Vec<u8> {
+    let mut bytes = mark.to_vec();
     bytes.extend(allowance.to_be_bytes());
-    bytes.extend(command.to_be_bytes());
+    bytes.extend(commands.iter().flat_map(|command| command.to_be_bytes()));
     bytes.extend(pairs(measured, n));
     bytes
+}
+
+/// The bytes of a question: with one command's mark where the span has one command.
+pub fn bytes_of(question: &Question, n: usize) -> Vec<u8> {
+    let Question {
+        allowance,
+        span,
+        measured,
+    } = question;
+    if span.least == span.greatest {
+        question_bytes(*allowance, span.least, measured, n)
+    } else {
+        span_bytes(*allowance, *span, measured, n)
+    }
 }

@@ -1,10 +1,9 @@
 //! The machines of examples/, and questions to them.
 
-use crate::generate::question_bytes;
 use crate::random::Random;
 use second_guard::boxes::StateBox;
 use second_guard::decision::Question;
-use second_guard::sheet::Sheet;
+use second_guard::sheet::{CommandRange, Sheet};
 use sheet_tool::{asks_text, sheet_parser};
 use std::fs;
 
@@ -21,7 +20,7 @@ pub fn machine(name: &str) -> (Sheet, Vec<u8>, Vec<u8>) {
     (text.sheet, bytes, asks.bytes(&text.sheet))
 }
 
-/// A small box in or close to the recovery box, and any command.
+/// A small box in or close to the recovery box, and any one command.
 pub fn any_question(random: &mut Random, sheet: &Sheet) -> Question {
     let mut measured = StateBox::default();
     for i in 0..sheet.n() {
@@ -33,12 +32,7 @@ pub fn any_question(random: &mut Random, sheet: &Sheet) -> Question {
     }
     Question {
         allowance: 2_000,
-        command: random.int(sheet.commands.least, sheet.commands.greatest),
+        span: CommandRange::one(random.int(sheet.commands.least, sheet.commands.greatest)),
         measured,
     }
-}
-
-/// The bytes of a question.
-pub fn bytes_of(question: &Question, n: usize) -> Vec<u8> {
-    question_bytes(question.allowance, question.command, &question.measured, n)
 }

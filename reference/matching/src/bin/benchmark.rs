@@ -6,13 +6,13 @@
 //! compared with its cap first, for reading a sheet at most 1.25 times the second guard's. The last
 //! line is `N passed, M failed`.
 
-use matching::archive::format::question_length;
 use matching::archive::{self, sheet_archive::SheetArchive};
 use matching::expected;
 use matching::generate::{everyday, everywhere, question_bytes, sheet_bytes, worst_case};
 use matching::machines::machine;
 use matching::random::Random;
 use second_guard::boxes::{StateBox, VARIABLES};
+use second_guard::listing::questions;
 use second_guard::sheet::{self, Band, CommandRange, Row, Sheet};
 use second_guard::sheet::{BANDS, NUMBERS, UNSAFE_BOXES};
 use std::hint::black_box;
@@ -281,8 +281,7 @@ const GROUPS: [(&str, fn() -> Asked, f64); 2] = [
 /// The leg press of examples/ with those of its questions that are not refused.
 fn leg_press() -> Asked {
     let (sheet, bytes, asks) = machine("leg_press");
-    let questions = asks.chunks(question_length(sheet.n()));
-    let asked = questions.map(|question| (bytes.clone(), question.to_vec()));
+    let asked = questions(&asks, sheet.n()).map(|question| (bytes.clone(), question.to_vec()));
     asked
         .filter(|(sheet, question)| rounds(sheet, question) > 0)
         .collect()

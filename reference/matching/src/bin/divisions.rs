@@ -5,14 +5,16 @@
 //! and the plain guard's, which divides every change, where random sheets show none of one kind, or
 //! where a numerator to be divided is too large. The last line is `N passed, M failed`.
 
-use matching::archive::format::question_length;
 use matching::archive::{self, Answer};
-use matching::generate::{everyday, question_bytes, question_near, sheet_bytes, worst_case};
-use matching::machines::{any_question, bytes_of, machine};
+use matching::generate::{
+    bytes_of, everyday, question_bytes, question_near, sheet_bytes, worst_case,
+};
+use matching::machines::{any_question, machine};
 use matching::random::Random;
 use second_guard::boxes::{StateBox, VARIABLES};
 use second_guard::changes::Change;
 use second_guard::decision::{check_recovery_watched, decide_watched, read_question, Faults};
+use second_guard::listing::questions;
 use second_guard::neighborhoods::Face;
 use second_guard::reach::Watch;
 use second_guard::sheet::{self, Sheet};
@@ -205,7 +207,7 @@ fn machine_groups(name: &str) -> Vec<Group> {
     let (sheet, bytes, asks) = machine(name);
     let (n, name) = (sheet.n(), name.replace('_', " "));
     let mut own = Group::new(format!("{name}, its questions"), false);
-    for question in asks.chunks(question_length(n)) {
+    for question in questions(&asks, n) {
         own.question(&bytes, question);
     }
     let mut asked = Group::new(format!("{name}, random questions"), false);

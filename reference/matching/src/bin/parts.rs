@@ -4,12 +4,12 @@
 //! likewise. It fails where random sheets or the worked examples show no such case, or where a
 //! sheet of one band has another answer. The last line is `N passed, M failed`.
 
-use matching::archive::format::question_length;
 use matching::archive::{self, Answer};
 use matching::expected::{decide_before, recovery_before};
-use matching::generate::{everyday, question_bytes, question_near, sheet_bytes};
-use matching::machines::{any_question, bytes_of, machine};
+use matching::generate::{bytes_of, everyday, question_bytes, question_near, sheet_bytes};
+use matching::machines::{any_question, machine};
 use matching::random::Random;
+use second_guard::listing::questions;
 use second_guard::sheet;
 
 /// How many everyday sheets, questions near each one's, and questions to each machine of examples/.
@@ -113,7 +113,7 @@ fn machine_groups(name: &str) -> Vec<Group> {
     let (sheet, bytes, asks) = machine(name);
     let n = sheet.n();
     let mut own = Group::new(format!("{name}, its questions"));
-    for question in asks.chunks(question_length(n)) {
+    for question in questions(&asks, n) {
         own.question(&bytes, question);
     }
     let mut asked = Group::new(format!("{name}, random questions"));

@@ -465,7 +465,7 @@ impl Run<'_> {
                 // A damaged question may still be read, and then it is not about this state.
                 match read_question(sheet, &question) {
                     Ok(other) if !other.measured.holds(&self.state) => continue,
-                    Ok(other) => command = other.command,
+                    Ok(other) => command = other.span.least,
                     Err(_) => {}
                 }
             }

@@ -14,8 +14,9 @@ use matching::archive::sheet_archive::{self, SheetArchive};
 use matching::archive::{self, Answer, ReachCall};
 use matching::expected;
 use matching::generate::{
-    cut_recovery, everyday, long_times, model, near, pick_command, question_bytes, question_near,
-    shape, sheet_bytes, slow_growth, times, widths, worst_case, Case, Everyday, Shape, BOUNDS,
+    bytes_of, cut_recovery, everyday, long_times, model, near, pick_command, question_bytes,
+    question_near, shape, sheet_bytes, slow_growth, times, widths, worst_case, Case, Everyday,
+    Shape, BOUNDS,
 };
 use matching::random::Random;
 use matching::spoil::{
@@ -31,7 +32,7 @@ use second_guard::decision::{
 };
 use second_guard::neighborhoods::{neighborhoods, Face};
 use second_guard::reach::{Step, Watch};
-use second_guard::sheet::Sheet;
+use second_guard::sheet::{CommandRange, Sheet};
 use std::collections::HashMap;
 use std::ops::ControlFlow;
 use std::time::Instant;
@@ -433,12 +434,7 @@ impl Matching {
 
     /// A decision on a sheet and a question that are accepted; gives the second guard's answer.
     fn decision(&mut self, sheet: &Sheet, bytes: &[u8], question: &Question) -> Decision {
-        let question_bytes = question_bytes(
-            question.allowance,
-            question.command,
-            &question.measured,
-            sheet.n(),
-        );
+        let question_bytes = bytes_of(question, sheet.n());
         let mut sight = Sight::default();
         let decision = decide_watched(sheet, question, Faults::default(), &mut sight);
         debug_assert_eq!(read_question(sheet, &question_bytes), Ok(*question));
@@ -460,7 +456,7 @@ impl Matching {
         let sheet = &case.sheet;
         let mut question = Question {
             allowance: 1_000_000,
-            command: case.command,
+            span: CommandRange::one(case.command),
             measured: case.measured,
         };
         let decision = self.decision(sheet, bytes, &question);
@@ -645,7 +641,7 @@ impl Matching {
             let bytes = sheet_bytes(&case.sheet);
             let question = Question {
                 allowance: 1_000_000,
-                command: case.command,
+                span: CommandRange::one(case.command),
                 measured: case.measured,
             };
             self.decision(&case.sheet, &bytes, &question);

@@ -5,7 +5,7 @@ use super::Matching;
 use matching::archive::format::{slot_unsafe, NUMBERS, SLOT_RECOVERY, VARIABLES};
 use matching::archive::{self, Answer};
 use matching::generate::{
-    bytes_as_they_are, everyday, model, question_bytes, question_near, record, set_in_order, shape,
+    bytes_as_they_are, bytes_of, everyday, model, question_near, record, set_in_order, shape,
     sheet_bytes, times, Case,
 };
 use matching::order::{difference, not_greater, shuffled, Difference, LastSwept, DIFFERENCES};
@@ -14,7 +14,7 @@ use second_guard::boxes::StateBox;
 use second_guard::decision::{
     check_recovery_watched, decide_watched, Decision, Faults, Question, RecoveryCheck,
 };
-use second_guard::sheet::{Sheet, UNSAFE_BOXES};
+use second_guard::sheet::{CommandRange, Sheet, UNSAFE_BOXES};
 
 /// How many sheets with boxes in order and out of it, and how many whose boxes are shuffled; orders
 /// of each of these, and questions in each order.
@@ -260,7 +260,7 @@ impl Matching {
     fn other_decisions(&mut self, case: &Case, other: &Sheet, bytes: &[u8]) {
         let mut question = Question {
             allowance: 1_000_000,
-            command: case.command,
+            span: CommandRange::one(case.command),
             measured: case.measured,
         };
         for _ in 0..=NEAR {
@@ -284,12 +284,7 @@ impl Matching {
         if matches!(decision, Decision::Finest { .. }) && met.first().is_some_and(|&j| j > 0) {
             kinds.push(order.finest_at_later_box);
         }
-        let Question {
-            allowance,
-            command,
-            measured,
-        } = question;
-        let asked = question_bytes(*allowance, *command, measured, other.n());
+        let asked = bytes_of(question, other.n());
         let (wanted, found) = (Answer(decision.pack()), archive::decide(bytes, &asked));
         self.note(&kinds, wanted, wanted == found, || {
             format!("decision in another order: {} {}", hex(bytes), hex(&asked))
