@@ -11,5 +11,6 @@ pub mod machines;
 pub mod order;
 pub mod overlap;
 pub mod random;
+pub mod spans;
 pub mod spoil;
 pub mod tally;

@@ -10,8 +10,9 @@ use crate::expected::pairs;
 use crate::order::any_not_greater;
 use crate::overlap::{moved_onto, Moved};
 use crate::random::Random;
+use crate::spans::{wrong_span, WRONGS};
 use second_guard::boxes::StateBox;
-use second_guard::sheet::Sheet;
+use second_guard::sheet::{CommandRange, Sheet};
 
 /// All numbers by which a call can be refused.
 pub const REFUSALS: [u8; 19] = [
@@ -307,19 +308,36 @@ pub fn question_fault(random: &mut Random, sheet: &Sheet, number: u8) -> Fault {
             ]);
             Fault::new(14, rank, 6, &int(command))
         }
-        15 => {
-            let at = 10 + 8 * random.below(n);
-            if random.percent(30) {
-                // Lower above upper.
-                let mut pair = int(5).to_vec();
-                pair.extend(int(4));
-                Fault::new(15, rank, at, &pair)
-            } else {
-                let at = at + random.pick(&[0, 4]);
-                Fault::new(15, rank, at, &int(beyond(random, 1_000_000)))
-            }
-        }
+        15 => side_fault(random, 10, n),
         _ => unreachable!("not a refusal of a question"),
+    }
+}
+
+/// One of the pairs of sides from this place of a question on is reversed, or has a side too far out.
+fn side_fault(random: &mut Random, from: usize, n: usize) -> Fault {
+    let at = from + 8 * random.below(n);
+    if random.percent(30) {
+        let reversed = [5_i32, 4].map(i32::to_be_bytes).concat();
+        return Fault::new(15, 15, at, &reversed);
+    }
+    let at = at + random.pick(&[0, 4]);
+    let side = beyond(random, 1_000_000);
+    Fault::new(15, 15, at, &side.to_be_bytes())
+}
+
+/// The same as `question_fault` in a question about a span.
+pub fn span_fault(random: &mut Random, sheet: &Sheet, number: u8) -> Fault {
+    match number {
+        12 if random.percent(50) => Fault::new(12, 12, 0, &not_mark(random, b"QR")),
+        12 => Fault::new(12, 12, usize::MAX, &vec![0; random.pick(&[1, 4, 8, 22])]),
+        14 => {
+            let wrong = random.pick(&WRONGS);
+            let CommandRange { least, greatest } = wrong_span(random, sheet, wrong);
+            let ends = [least, greatest].map(i32::to_be_bytes).concat();
+            Fault::new(14, 14, 6, &ends)
+        }
+        15 => side_fault(random, 14, sheet.n()),
+        _ => question_fault(random, sheet, number),
     }
 }
 

@@ -4,6 +4,7 @@
 
 mod order;
 mod overlap;
+mod spans;
 
 use matching::aim::{aimed, PLACES};
 use matching::archive::format::{
@@ -160,6 +161,7 @@ struct Kinds {
     refusals: Vec<KindId>,
     order: order::Kinds,
     overlap: overlap::Kinds,
+    spans: spans::Kinds,
     pairs: HashMap<(&'static str, u8, u8), KindId>,
 }
 
@@ -218,6 +220,7 @@ impl Kinds {
                 .to_vec(),
             order: order::Kinds::new(tally),
             overlap: overlap::Kinds::new(tally),
+            spans: spans::Kinds::new(tally),
             pairs: HashMap::new(),
         }
     }
@@ -353,6 +356,7 @@ impl Matching {
         wanted: Answer,
     ) {
         let found = archive::decide(sheet, question);
+        self.by_mark(sheet, question, found);
         self.note(kinds, wanted, wanted == found, || {
             format!(
                 "decide {} {}: wanted {}, found {}",
@@ -1066,7 +1070,7 @@ type Part = (&'static str, fn(&mut Matching));
 
 fn main() {
     let mut matching = Matching::new();
-    let parts: [Part; 12] = [
+    let parts: [Part; 15] = [
         ("numbers", Matching::sizes),
         ("values at their bounds", Matching::bounds),
         ("pairs of faults", Matching::faults),
@@ -1079,6 +1083,9 @@ fn main() {
         ("unsafe boxes in order and out of it", Matching::order),
         ("the same boxes in another order", Matching::other_orders),
         ("recovery boxes on unsafe boxes", Matching::overlap),
+        ("spans of commands", Matching::spans),
+        ("spans that are refused", Matching::wrong_spans),
+        ("pairs of faults with a span", Matching::span_faults),
     ];
     for (name, part) in parts {
         let start = Instant::now();
