@@ -5,8 +5,11 @@ use matching::archive::format::{reach_length, LONGEST_SHEET, NUMBERS};
 use matching::archive::{self, Answer, ReachCall};
 use matching::expected;
 use matching::fences::{array, array_mut, watch_fences, Fenced, Side};
-use matching::generate::{model, near, question_bytes, shape, sheet_bytes, times, widths, Case};
+use matching::generate::{
+    model, near, question_bytes, shape, sheet_bytes, span_bytes, times, widths, Case,
+};
 use matching::random::Random;
+use matching::spans::any_span;
 use matching::spoil::{damage, refusal_place, REFUSALS};
 use matching::tally::{hex, KindId, Tally};
 
@@ -37,6 +40,9 @@ struct Kinds {
     outputs_on_refusal: KindId,
     around: KindId,
     locked: KindId,
+    /// Decisions accepted and refused by mark: `QS`, `QR` and others, which are refused.
+    decided: [[KindId; 2]; 2],
+    other_mark: KindId,
 }
 
 const NAMES: [&str; 6] = [
@@ -71,6 +77,11 @@ impl Kinds {
             outputs_on_refusal: tally.kind("no write on refusal", 50_000),
             around: tally.kind("no write around a buffer", 1_000_000),
             locked: tally.kind("buffers that cannot be written", 50_000),
+            decided: ["QS", "QR"].map(|mark| {
+                ["accepted", "refused"]
+                    .map(|what| tally.kind(format!("guard_decide {mark}: {what}"), 10_000))
+            }),
+            other_mark: tally.kind("guard_decide with another mark: refused", 10_000),
         }
     }
 }
@@ -88,7 +99,7 @@ struct Fuzz {
 
 fn corpus(random: &mut Random) -> Vec<Sound> {
     (0..CORPUS)
-        .map(|_| {
+        .map(|number| {
             let most = random.pick(&[3, 6, 10]);
             let times = times(random, most);
             let mut case = model(random, times, 4);
@@ -97,9 +108,16 @@ fn corpus(random: &mut Random) -> Vec<Sound> {
             shape(random, &mut case, halvings);
             let n = case.sheet.n();
             let allowance = random.spread(1, 400) as u32;
+            let question = match number % 2 {
+                0 => question_bytes(allowance, case.command, &case.measured, n),
+                _ => {
+                    let span = any_span(random, &case.sheet);
+                    span_bytes(allowance, span, &case.measured, n)
+                }
+            };
             Sound {
                 sheet: sheet_bytes(&case.sheet),
-                question: question_bytes(allowance, case.command, &case.measured, n),
+                question,
                 numbers: bytes_of(&case.sheet.numbers()),
                 start: expected::pairs(&near(random, &case), n),
                 case,
@@ -190,6 +208,17 @@ impl Fuzz {
         } else {
             Side::Start
         }
+    }
+
+    /// Counts a decision under its question's mark.
+    fn note_mark(&mut self, question: &[u8], answer: Answer) {
+        let refused = usize::from(answer.refusal().is_some());
+        let kind = match question.get(..2) {
+            Some(b"QS") => self.kinds.decided[0][refused],
+            Some(b"QR") => self.kinds.decided[1][refused],
+            _ => self.kinds.other_mark,
+        };
+        self.tally.saw(kind);
     }
 
     /// Bytes made from the sheets of two sound cases.
@@ -318,6 +347,9 @@ impl Fuzz {
             self.tally.check(kind, right, describe);
         } else {
             self.tally.saw(self.kinds.accepted[call]);
+        }
+        if call == 2 {
+            self.note_mark(&two, wanted);
         }
         let kept = self.first.lent() == one && self.second.lent() == two;
         self.tally.check(self.kinds.inputs_kept, kept, describe);

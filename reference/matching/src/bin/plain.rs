@@ -1,4 +1,4 @@
-//! The archive against the plain guard, which was written from document 01 and papers 2, 3 and 8 of
+//! The archive against the plain guard, which was written from document 01 and papers 2, 3, 4 and 8 of
 //! document 02 alone: a check of the readings, on sheets and questions from fixed seeds.
 
 use matching::aim::aimed;
@@ -7,22 +7,24 @@ use matching::archive::{self, Answer, ReachCall};
 use matching::expected::{decide_before, pairs};
 use matching::generate::{
     bytes_as_they_are, everyday, model, near, pick_command, question_bytes, shape, sheet_bytes,
-    times, Case,
+    span_bytes, times, Case,
 };
 use matching::order::{any_not_greater, difference, shuffled, DIFFERENCES};
 use matching::overlap::{any_sharing, moved_beside, with_box, Sharing, SHARINGS};
 use matching::random::Random;
-use matching::spoil::{can_have, damage, question_fault, sheet_fault};
+use matching::spans::{any_span, spanned, wrong_span, WRONGS};
+use matching::spoil::{can_have, damage, question_fault, sheet_fault, span_fault};
 use matching::tally::{hex, KindId, Tally};
 use plain_guard::decision::{decide_values, recovery_values};
 use plain_guard::reach::{step, to_box, Count};
 use second_guard::boxes::StateBox;
-use second_guard::sheet::Sheet;
+use second_guard::sheet::{CommandRange, Sheet};
 
 const SHEETS: usize = 20_000;
 const AIMED_SHEETS: usize = 10_000;
 const SHEETS_OF_BOXES: usize = 5_000;
 const OVERLAP_SHEETS: usize = 1_000;
+const SPANNED_SHEETS: usize = 10_000;
 const TICKS: i64 = 200;
 const REFUSED: u64 = 3 << 48;
 /// The numbers by which a decision is refused.
@@ -50,7 +52,24 @@ struct Kinds {
     written_on_recovery: KindId,
     without_the_test: KindId,
     beside_recovery: KindId,
+    spans: [KindId; 4],
+    as_command: KindId,
+    wrong_span: [KindId; WRONGS.len()],
+    faulty_span: [KindId; 4],
+    files: [KindId; ENDS.len()],
 }
+
+/// The answers to a question about a span, by their code.
+const CODES: [&str; 4] = ["keep", "finest", "spent", "refused"];
+
+/// How a file of questions with both marks ends.
+const ENDS: [&str; 5] = [
+    "with a question",
+    "with a short tail",
+    "with a byte",
+    "with an unknown mark",
+    "with questions behind an unknown mark",
+];
 
 impl Kinds {
     fn new(tally: &mut Tally) -> Kinds {
@@ -82,6 +101,15 @@ impl Kinds {
             written_on_recovery: tally.kind("write refused by 22", 3_000),
             without_the_test: tally.kind("without the test: fails as first steps do", 3_000),
             beside_recovery: tally.kind("a box just beside the recovery box: accepted", 2_000),
+            spans: CODES.map(|code| tally.kind(format!("QR: {code}"), 2_000)),
+            as_command: tally.kind("QR with one command as QS", SPANNED_SHEETS as u64),
+            wrong_span: WRONGS.map(|wrong| {
+                let name = format!("refused by 14: a span {}", wrong.text());
+                tally.kind(name, 1_000)
+            }),
+            faulty_span: [12, 13, 14, 15]
+                .map(|number| tally.kind(format!("QR with a fault: refused {number}"), 1_000)),
+            files: ENDS.map(|end| tally.kind(format!("listing of both marks {end}"), 200)),
         }
     }
 
@@ -318,6 +346,101 @@ fn sheets_on_recovery(tally: &mut Tally, kinds: &Kinds) {
     }
 }
 
+/// Both decide on a span; the answer is counted under its code. It is the plain guard's.
+fn decide_span(tally: &mut Tally, kinds: &Kinds, sheet: &[u8], question: &[u8]) -> Answer {
+    decide(tally, kinds, sheet, question);
+    let plain = Answer(plain_guard::decide(sheet, question));
+    tally.saw(kinds.spans[plain.code() as usize]);
+    plain
+}
+
+/// A span with as many rounds as it needs, with few, of one command, and refused.
+fn asked_spans(
+    tally: &mut Tally,
+    kinds: &Kinds,
+    random: &mut Random,
+    case: &Case,
+    span: CommandRange,
+) {
+    let (sheet, n) = (sheet_bytes(&case.sheet), case.sheet.n());
+    for allowance in [730_000, random.below(40) as u32] {
+        let question = span_bytes(allowance, span, &case.measured, n);
+        decide_span(tally, kinds, &sheet, &question);
+    }
+    let other = span_bytes(5_000, any_span(random, &case.sheet), &near(random, case), n);
+    decide_span(tally, kinds, &sheet, &other);
+    let one = question_bytes(5_000, case.command, &case.measured, n);
+    let span = CommandRange::one(case.command);
+    let as_one = span_bytes(5_000, span, &case.measured, n);
+    let answer = decide_span(tally, kinds, &sheet, &as_one);
+    let same = archive::decide(&sheet, &one) == answer;
+    tally.check(kinds.as_command, same, || hex(&sheet));
+}
+
+/// Spans that are refused, each by a fault.
+fn faulty_spans(
+    tally: &mut Tally,
+    kinds: &Kinds,
+    random: &mut Random,
+    case: &Case,
+    span: CommandRange,
+) {
+    let (sheet, n) = (sheet_bytes(&case.sheet), case.sheet.n());
+    let wrong = random.below(WRONGS.len());
+    if WRONGS[wrong].can_be(&case.sheet) {
+        let ends = wrong_span(random, &case.sheet, WRONGS[wrong]);
+        let question = span_bytes(5_000, ends, &case.measured, n);
+        let answer = decide_span(tally, kinds, &sheet, &question);
+        let right = answer.refusal() == Some(14);
+        tally.check(kinds.wrong_span[wrong], right, || hex(&question));
+    }
+    let place = random.below(4);
+    let number = 12 + place as u8;
+    let mut question = span_bytes(5_000, span, &case.measured, n);
+    span_fault(random, &case.sheet, number).apply(&mut question);
+    let answer = decide_span(tally, kinds, &sheet, &question);
+    let right = answer.refusal() == Some(number);
+    tally.check(kinds.faulty_span[place], right, || hex(&question));
+}
+
+/// A file of some questions with both marks that ends in this way.
+fn file_of_both(random: &mut Random, case: &Case, end: usize) -> Vec<u8> {
+    let n = case.sheet.n();
+    let question = |random: &mut Random| match random.below(2) {
+        0 => question_bytes(60, case.command, &near(random, case), n),
+        _ => span_bytes(60, any_span(random, &case.sheet), &near(random, case), n),
+    };
+    let count = 1 + random.below(3);
+    let mut file: Vec<u8> = (0..count).flat_map(|_| question(random)).collect();
+    let last = question(random);
+    let unknown = random.pick(&[b"QT", b"RR", b"sq", b"SQ", b"RQ", b"\0\0"]);
+    match end {
+        0 => file.extend(last),
+        1 => file.extend(&last[..2 + random.below(last.len() - 2)]),
+        2 => file.push(random.pick(&[b'Q', b'R', 0])),
+        3 => file.extend(unknown),
+        _ => file.extend([&unknown[..], &last[..], &question(random)].concat()),
+    }
+    file
+}
+
+/// Sheets whose boxes are placed for a span: decisions, refusals and files of both marks.
+fn sheets_of_spans(tally: &mut Tally, kinds: &Kinds) {
+    let random = &mut Random::new(4);
+    for turn in 0..SPANNED_SHEETS {
+        let (case, span) = spanned(random);
+        asked_spans(tally, kinds, random, &case, span);
+        faulty_spans(tally, kinds, random, &case, span);
+        let (sheet, end) = (sheet_bytes(&case.sheet), turn % ENDS.len());
+        let asks = file_of_both(random, &case, end);
+        let plain = plain_guard::listing(Some(&sheet), Some(&asks));
+        if plain.starts_with(b"sheet pass") {
+            let same = plain == second_guard::listing::listing(&sheet, &asks).into_bytes();
+            tally.check(kinds.files[end], same, || hex(&sheet));
+        }
+    }
+}
+
 fn main() {
     let mut tally = Tally::new();
     let kinds = Kinds::new(&mut tally);
@@ -371,5 +494,6 @@ fn main() {
     aimed_sheets(&mut tally, &kinds);
     sheets_of_boxes(&mut tally, &kinds);
     sheets_on_recovery(&mut tally, &kinds);
+    sheets_of_spans(&mut tally, &kinds);
     std::process::exit(tally.finish());
 }
