@@ -1,15 +1,17 @@
 //! Runs the machine itself, kept and handed over as the archive answers, with random allowed
-//! changes and the worst ones; fails on a forbidden state or a missed return. With `--fault` a
-//! faulty guard stands in the archive's place and has to be found out; `--self-test` tries all.
+//! changes and the worst ones; fails on a forbidden state or a missed return. The coach asks by one
+//! command or by a span, and then varies its command at every tick. With `--fault` a faulty guard stands
+//! in the archive's place, or a faulty drive runs the motor, and has to be found out; `--self-test`
+//! tries all.
 
 use matching::archive::{self, Answer};
 use matching::expected::decide_before;
-use matching::generate::{everywhere, question_bytes, set_in_order, sheet_bytes};
+use matching::generate::{everywhere, question_bytes, set_in_order, sheet_bytes, span_bytes};
 use matching::random::Random;
 use matching::tally::{hex, KindId, Tally};
 use second_guard::boxes::{State, StateBox, VARIABLES};
 use second_guard::decision::{
-    check_recovery, decide_watched, read_question, trace_recovery, Faults, RecoveryCheck,
+    check_recovery, decide_watched, read_question, trace_recovery, Bounded, Faults, RecoveryCheck,
 };
 use second_guard::machine::{allowed_change, band_of};
 use second_guard::reach::NoWatch;
@@ -57,6 +59,15 @@ impl Guard {
     }
 }
 
+/// How the drive uses a kept span.
+#[derive(Clone, Copy, PartialEq, Eq)]
+enum Drive {
+    /// Any command of it at each tick.
+    Obeys,
+    /// Any command of the head, where the span has several.
+    Leaves,
+}
+
 struct Kinds {
     ticks: KindId,
     forbidden: KindId,
@@ -74,6 +85,13 @@ struct Kinds {
     crossings: KindId,
     beside: KindId,
     outside: KindId,
+    spans_kept: KindId,
+    spans_refined: KindId,
+    spans_finest: KindId,
+    span_ticks: KindId,
+    varied: KindId,
+    /// A tick under a span at its least command, at its greatest, and between.
+    at: [KindId; 3],
 }
 
 impl Kinds {
@@ -95,6 +113,13 @@ impl Kinds {
             crossings: tally.kind("ticks from one band into another", 10_000),
             beside: tally.kind("ticks beside a forbidden box", 50_000),
             outside: tally.kind("ticks outside the recovery box", 100_000),
+            spans_kept: tally.kind("periods kept: by a span", 50_000),
+            spans_refined: tally.kind("periods kept: by a span, below the first width", 5_000),
+            spans_finest: tally.kind("periods handed over: by a span, finest", 10_000),
+            span_ticks: tally.kind("ticks under a span", 200_000),
+            varied: tally.kind("ticks under a span, another command than before", 100_000),
+            at: ["at its least command", "at its greatest command", "between"]
+                .map(|at| tally.kind(format!("ticks under a span, {at}"), 50_000)),
         }
     }
 }
@@ -270,6 +295,7 @@ enum Adversary {
 
 struct Run<'a> {
     guard: Guard,
+    drive: Drive,
     random: &'a mut Random,
     tally: &'a mut Tally,
     kinds: &'a Kinds,
@@ -278,6 +304,8 @@ struct Run<'a> {
     adversary: Adversary,
     /// The plain ticks since the last kept period, where one was.
     behind_keep: Option<u32>,
+    /// The command of the last tick.
+    command: i32,
 }
 
 impl Run<'_> {
@@ -324,30 +352,58 @@ impl Run<'_> {
             .unwrap_or(any)
     }
 
+    /// A command of these at a state in the band: any, or the end that the adversary wants for a
+    /// variable.
+    fn pick_command(&mut self, commands: CommandRange, band: usize) -> i32 {
+        let CommandRange { least, greatest } = commands;
+        if matches!(self.adversary, Adversary::Random) || self.random.percent(10) {
+            return self.random.int(least, greatest);
+        }
+        let i = self.random.below(self.scene.sheet.n());
+        let raises = self.upward(i) == (self.scene.sheet.bands[band].rows[i].b >= 0);
+        if raises {
+            greatest
+        } else {
+            least
+        }
+    }
+
+    /// The command of a tick: of the kept span, or of the plain law.
+    fn command(&mut self, kept: Option<CommandRange>, band: usize) -> i32 {
+        let sheet = &self.scene.sheet;
+        let Some(span) = kept else {
+            return self.pick_command(sheet.bands[band].safety, band);
+        };
+        if span.least == span.greatest {
+            return span.least;
+        }
+        let command = match self.drive {
+            Drive::Obeys => self.pick_command(span, band),
+            Drive::Leaves => self.pick_command(sheet.commands, band),
+        };
+        self.look_at_command(span, command);
+        command
+    }
+
+    /// Counts where a command lies in its span.
+    fn look_at_command(&mut self, span: CommandRange, command: i32) {
+        self.tally.saw(self.kinds.span_ticks);
+        if command != self.command {
+            self.tally.saw(self.kinds.varied);
+        }
+        let ends = [span.least, span.greatest];
+        let place = ends.iter().position(|&end| end == command);
+        self.tally.saw(self.kinds.at[place.unwrap_or(2)]);
+    }
+
     /// One tick; false where it ends in a forbidden state or misses a return.
-    fn tick(&mut self, kept: Option<i32>) -> bool {
+    fn tick(&mut self, kept: Option<CommandRange>) -> bool {
         let sheet = &self.scene.sheet;
         let n = sheet.n();
         let v = sheet.band_variable as usize;
         let band = band_of(sheet, self.state[v]).expect("the state has a band");
-        let command = match kept {
-            Some(command) => command,
-            None => {
-                let CommandRange { least, greatest } = sheet.bands[band].safety;
-                match self.adversary {
-                    Adversary::Random => self.random.int(least, greatest),
-                    _ => {
-                        let i = self.random.below(n);
-                        let raises = self.upward(i) == (sheet.bands[band].rows[i].b >= 0);
-                        if raises {
-                            greatest
-                        } else {
-                            least
-                        }
-                    }
-                }
-            }
-        };
+        let command = self.command(kept, band);
+        self.command = command;
         let mut next = self.state;
         for (i, next) in next.iter_mut().enumerate().take(n) {
             let (least, greatest) =
@@ -430,19 +486,11 @@ impl Run<'_> {
         measured
     }
 
-    /// Asks for ever weaker commands until one is kept; the last question is the period's.
-    fn ask(&mut self) -> Option<i32> {
-        let scene = self.scene;
-        let sheet = &scene.sheet;
-        let n = sheet.n();
+    /// A command toward where the adversary wants to go, or any.
+    fn wanted_command(&mut self) -> i32 {
+        let sheet = &self.scene.sheet;
         let CommandRange { least, greatest } = sheet.commands;
-        let measured = self.measured();
-        let allowance = if self.random.percent(90) {
-            1_000_000
-        } else {
-            self.random.spread(1, 1_000) as u32
-        };
-        let mut command = match self.random.below(4) {
+        match self.random.below(4) {
             0 => self.random.int(least, greatest),
             turn => {
                 let band = band_of(sheet, self.state[sheet.band_variable as usize]);
@@ -455,17 +503,41 @@ impl Run<'_> {
                 };
                 strong / (turn as i32 + 1) * 2
             }
+        }
+    }
+
+    /// Asks for ever weaker commands until one is kept; the last question is the period's. Half of the
+    /// periods are asked by a span around the command, which gets narrower.
+    fn ask(&mut self) -> Option<CommandRange> {
+        let scene = self.scene;
+        let sheet = &scene.sheet;
+        let n = sheet.n();
+        let strongest = i64::from(sheet.commands.greatest);
+        let measured = self.measured();
+        let allowance = if self.random.percent(90) {
+            1_000_000
+        } else {
+            self.random.spread(1, 1_000) as u32
+        };
+        let mut command = self.wanted_command();
+        let mut room = match self.random.below(2) {
+            0 => 0,
+            _ => self.random.spread(1, strongest) as i32,
         };
         let mut tries = self.random.pick(&[1, 6, 12]);
         loop {
-            let mut question = question_bytes(allowance, command, &measured, n);
+            let mut span = around(sheet.commands, command, room);
+            let mut question = match room {
+                0 => question_bytes(allowance, command, &measured, n),
+                _ => span_bytes(allowance, span, &measured, n),
+            };
             if self.random.percent(2) {
                 let at = self.random.below(question.len());
                 question[at] ^= 0x80;
                 // A damaged question may still be read, and then it is not about this state.
                 match read_question(sheet, &question) {
                     Ok(other) if !other.measured.holds(&self.state) => continue,
-                    Ok(other) => command = other.span.least,
+                    Ok(other) => span = other.span,
                     Err(_) => {}
                 }
             }
@@ -473,6 +545,7 @@ impl Run<'_> {
             tries -= 1;
             if code != 0 && tries > 0 {
                 command = command * 3 / 4;
+                room = (room * 3 / 4).max(room.min(1));
                 continue;
             }
             let kind = match code {
@@ -482,10 +555,14 @@ impl Run<'_> {
                 _ => self.kinds.refused,
             };
             self.tally.saw(kind);
+            let refined = width < sheet.delta.max(sheet.alpha) as u32;
+            if span.least < span.greatest {
+                self.look_at_answer(code, refined);
+            }
             if code != 0 {
                 return None;
             }
-            if width < sheet.delta.max(sheet.alpha) as u32 {
+            if refined {
                 self.tally.saw(self.kinds.keeps_refined);
             }
             if !sheet.recovery.holds(&self.state) {
@@ -495,7 +572,19 @@ impl Run<'_> {
             if asked_before && decide_before(&scene.bytes, &question).code() != 0 {
                 self.tally.saw(self.kinds.keeps_won);
             }
-            return Some(command);
+            return Some(span);
+        }
+    }
+
+    /// Counts the answer to a question about a span.
+    fn look_at_answer(&mut self, code: u64, refined: bool) {
+        match code {
+            0 => self.tally.saw(self.kinds.spans_kept),
+            1 => self.tally.saw(self.kinds.spans_finest),
+            _ => {}
+        }
+        if code == 0 && refined {
+            self.tally.saw(self.kinds.spans_refined);
         }
     }
 
@@ -548,6 +637,14 @@ impl Run<'_> {
     }
 }
 
+/// The commands so far around one, as far as the head has them.
+fn around(commands: CommandRange, command: i32, room: i32) -> CommandRange {
+    CommandRange {
+        least: (command - room).max(commands.least),
+        greatest: (command + room).min(commands.greatest),
+    }
+}
+
 /// A first state in the recovery box, often in a corner of it.
 fn first_state(random: &mut Random, sheet: &Sheet) -> State {
     let mut state = [0; VARIABLES];
@@ -563,7 +660,7 @@ fn first_state(random: &mut Random, sheet: &Sheet) -> State {
 }
 
 /// Runs sheet after sheet; the answer is whether all went well.
-fn simulate(guard: Guard, ticks: u64, patience: Duration, tally: &mut Tally) -> bool {
+fn simulate(guard: Guard, drive: Drive, ticks: u64, patience: Duration, tally: &mut Tally) -> bool {
     let kinds = Kinds::new(tally);
     let mut random = Random::new(11);
     let start = Instant::now();
@@ -581,6 +678,7 @@ fn simulate(guard: Guard, ticks: u64, patience: Duration, tally: &mut Tally) -> 
         let state = first_state(&mut random, &scene.sheet);
         let mut run = Run {
             guard,
+            drive,
             random: &mut random,
             tally,
             kinds: &kinds,
@@ -588,6 +686,7 @@ fn simulate(guard: Guard, ticks: u64, patience: Duration, tally: &mut Tally) -> 
             state,
             adversary: Adversary::Random,
             behind_keep: None,
+            command: 0,
         };
         run.pick_adversary();
         if !run.periods() {
@@ -597,29 +696,31 @@ fn simulate(guard: Guard, ticks: u64, patience: Duration, tally: &mut Tally) -> 
     true
 }
 
-/// The faulty guards that have to be found out.
-fn faults() -> [(&'static str, Guard); 3] {
+/// The faulty guards, and the faulty drive, that have to be found out.
+fn faults() -> [(&'static str, Guard, Drive); 7] {
     let none = Faults::default();
+    let faulty = |name, faults| (name, Guard::Faulty(faults), Drive::Obeys);
+    let bounded = |name, bounded| faulty(name, Faults { bounded, ..none });
+    let swept = Faults {
+        end_boxes_only: true,
+        ..none
+    };
+    let measured = Faults {
+        baseline_from_measured: true,
+        ..none
+    };
     [
-        (
-            "swept",
-            Guard::Faulty(Faults {
-                end_boxes_only: true,
-                ..none
-            }),
-        ),
-        (
-            "measured",
-            Guard::Faulty(Faults {
-                baseline_from_measured: true,
-                ..none
-            }),
-        ),
-        ("keeps", Guard::AlwaysKeeps),
+        faulty("swept", swept),
+        faulty("measured", measured),
+        ("keeps", Guard::AlwaysKeeps, Drive::Obeys),
+        bounded("inner", Bounded::Inner),
+        bounded("least", Bounded::Least),
+        bounded("greatest", Bounded::Greatest),
+        ("drive", Guard::Faulty(none), Drive::Leaves),
     ]
 }
 
-/// Each faulty guard is found out, and the second guard without faults is not.
+/// Each fault is found out, and nothing is without one.
 fn self_test() -> i32 {
     let mut failed = 0;
     let mut passed = 0;
@@ -634,9 +735,9 @@ fn self_test() -> i32 {
             failed += 1;
         }
     };
-    for (name, guard) in faults() {
+    for (name, guard, drive) in faults() {
         let start = Instant::now();
-        let well = simulate(guard, u64::MAX, PATIENCE, &mut Tally::new());
+        let well = simulate(guard, drive, u64::MAX, PATIENCE, &mut Tally::new());
         let found = !well;
         verdict(
             &format!("fault {name} is found"),
@@ -646,7 +747,8 @@ fn self_test() -> i32 {
     }
     let start = Instant::now();
     let sound = Guard::Faulty(Faults::default());
-    let well = simulate(sound, TICKS / 4, Duration::MAX, &mut Tally::new());
+    let (ticks, tally) = (TICKS / 4, &mut Tally::new());
+    let well = simulate(sound, Drive::Obeys, ticks, Duration::MAX, tally);
     verdict(
         "nothing is found without a fault",
         well,
@@ -659,23 +761,24 @@ fn self_test() -> i32 {
 fn main() {
     let arguments: Vec<String> = std::env::args().skip(1).collect();
     let words: Vec<&str> = arguments.iter().map(String::as_str).collect();
-    let (guard, ticks, patience) = match words[..] {
-        [] => (Guard::Archive, TICKS, Duration::MAX),
+    let (guard, drive, ticks, patience) = match words[..] {
+        [] => (Guard::Archive, Drive::Obeys, TICKS, Duration::MAX),
         ["--self-test"] => std::process::exit(self_test()),
         ["--fault", name] => match faults().into_iter().find(|fault| fault.0 == name) {
-            Some((_, guard)) => (guard, u64::MAX, PATIENCE),
+            Some((_, guard, drive)) => (guard, drive, u64::MAX, PATIENCE),
             None => usage(),
         },
         _ => usage(),
     };
     let mut tally = Tally::new();
     let start = Instant::now();
-    simulate(guard, ticks, patience, &mut tally);
+    simulate(guard, drive, ticks, patience, &mut tally);
     println!("{:.1} s", start.elapsed().as_secs_f64());
     std::process::exit(tally.finish());
 }
 
 fn usage() -> ! {
-    eprintln!("simulator [--fault swept|measured|keeps | --self-test]");
+    let names = faults().map(|(name, _, _)| name).join("|");
+    eprintln!("simulator [--fault {names} | --self-test]");
     std::process::exit(2);
 }
