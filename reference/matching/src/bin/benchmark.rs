@@ -1,6 +1,7 @@
 //! The archive against the second guard in one run: the two take turns, the medians of their
 //! processor times are compared, and a table in markdown is printed. A second table has the
-//! instructions of a round and of reading a sheet, which callgrind counts over this program itself.
+//! instructions of a round and of reading a sheet, which callgrind counts over this program itself. A
+//! third one has the guard's rounds under a span of commands beside those under one command.
 //! Times are told and not judged, since they vary with the machine. What is judged is that the two
 //! answer alike and how many instructions the guard takes: for a round no more than before a change was
 //! compared with its cap first, for reading a sheet at most 1.25 times the second guard's. The last
@@ -8,7 +9,9 @@
 
 use matching::archive::{self, sheet_archive::SheetArchive};
 use matching::expected;
-use matching::generate::{everyday, everywhere, question_bytes, sheet_bytes, worst_case};
+use matching::generate::{
+    everyday, everywhere, question_bytes, sheet_bytes, span_bytes, worst_case,
+};
 use matching::machines::machine;
 use matching::random::Random;
 use second_guard::boxes::{StateBox, VARIABLES};
@@ -71,6 +74,11 @@ fn median(mut times: Vec<f64>) -> f64 {
 /// Both calls in turn; they have to answer alike, else the program ends here.
 fn compare(mut guard: impl FnMut() -> u64, mut second: impl FnMut() -> u64) -> Times {
     assert_eq!(guard(), second(), "the two answer alike");
+    take_turns(guard, second)
+}
+
+/// The times of two calls in turn.
+fn take_turns(mut guard: impl FnMut() -> u64, mut second: impl FnMut() -> u64) -> Times {
     let once = time(3, &mut second).max(1.0);
     let times = (SAMPLE.as_nanos() as f64 / once).clamp(1.0, 1e6) as u32;
     let (mut guards, mut seconds) = (Vec::new(), Vec::new());
@@ -217,6 +225,9 @@ const SHAPES: [(usize, usize); 9] = [
     (4, 8),
 ];
 
+/// Those at which a round under a span is measured.
+const SPAN_SHAPES: [(usize, usize); 3] = [(1, 1), (2, 3), (4, 8)];
+
 /// A sheet that is read, and its name.
 type Size = (&'static str, fn() -> Sheet);
 
@@ -265,6 +276,24 @@ fn many_rounds(n: usize, bands: usize) -> (Vec<u8>, Vec<u8>) {
     let (sheet, measured) = model(n, bands, 1);
     let bytes = sheet_bytes(&sheet);
     let question = question_bytes(1_500, 5, &measured, n);
+    assert!(rounds(&bytes, &question) > 1_000, "enough rounds");
+    (bytes, question)
+}
+
+/// How a round under the coach's commands is asked for.
+const ASKED_BY: [&str; 3] = ["`QS`", "`QR` of one command", "`QR` of all commands"];
+
+/// A sheet and a question that takes over 1,000 rounds, nearly all of them under the coach's commands:
+/// by its place in `ASKED_BY`.
+fn rounds_of_coach(n: usize, bands: usize, asked_by: usize) -> (Vec<u8>, Vec<u8>) {
+    let (mut sheet, measured) = model(n, bands, 1);
+    (sheet.delta, sheet.alpha) = (990, 10);
+    let bytes = sheet_bytes(&sheet);
+    let question = match asked_by {
+        0 => question_bytes(1_500, 5, &measured, n),
+        1 => span_bytes(1_500, CommandRange::one(5), &measured, n),
+        _ => span_bytes(1_500, sheet.commands, &measured, n),
+    };
     assert!(rounds(&bytes, &question) > 1_000, "enough rounds");
     (bytes, question)
 }
@@ -359,6 +388,8 @@ const COUNTED: &str = "counted";
 enum Work {
     /// Decisions at a number of variables and of bands.
     Decide(usize, usize),
+    /// The same under the coach's commands, by a place in `ASKED_BY`.
+    Coach(usize, usize, usize),
     /// The questions of a group, by its place in `GROUPS`.
     Ask(usize),
     /// Reading a sheet, by its place in `SIZES`.
@@ -366,40 +397,40 @@ enum Work {
 }
 
 impl Work {
-    fn words(self) -> [String; 3] {
-        match self {
-            Work::Decide(n, bands) => ["decide".into(), n.to_string(), bands.to_string()],
-            Work::Ask(group) => ["ask".into(), group.to_string(), "0".into()],
-            Work::Read(size) => ["read".into(), size.to_string(), "0".into()],
-        }
+    fn words(self) -> Vec<String> {
+        let (name, numbers) = match self {
+            Work::Decide(n, bands) => ("decide", vec![n, bands]),
+            Work::Coach(n, bands, asked_by) => ("coach", vec![n, bands, asked_by]),
+            Work::Ask(group) => ("ask", vec![group]),
+            Work::Read(size) => ("read", vec![size]),
+        };
+        let numbers = numbers.iter().map(usize::to_string);
+        [name.to_string()].into_iter().chain(numbers).collect()
     }
 
     fn from_words(words: &[String]) -> Work {
         let number = |i: usize| words[i].parse::<usize>().expect("a number");
         match words[0].as_str() {
             "decide" => Work::Decide(number(1), number(2)),
+            "coach" => Work::Coach(number(1), number(2), number(3)),
             "ask" => Work::Ask(number(1)),
             _ => Work::Read(number(1)),
         }
     }
 
     fn run(self, who: &str, times: u32) {
+        let ask = |asked: &Asked| match who {
+            "guard" => repeat(times, || ask_all(asked, decide_by_guard)),
+            _ => repeat(times, || ask_all(asked, decide_by_second)),
+        };
+        let decide = |(sheet, question): (Vec<u8>, Vec<u8>)| match who {
+            "guard" => repeat(times, || decide_by_guard(&sheet, &question)),
+            _ => repeat(times, || decide_by_second(&sheet, &question)),
+        };
         match self {
-            Work::Decide(n, bands) => {
-                let (sheet, question) = many_rounds(n, bands);
-                let (sheet, question) = (&sheet[..], &question[..]);
-                match who {
-                    "guard" => repeat(times, || decide_by_guard(sheet, question)),
-                    _ => repeat(times, || decide_by_second(sheet, question)),
-                }
-            }
-            Work::Ask(group) => {
-                let asked = GROUPS[group].1();
-                match who {
-                    "guard" => repeat(times, || ask_all(&asked, decide_by_guard)),
-                    _ => repeat(times, || ask_all(&asked, decide_by_second)),
-                }
-            }
+            Work::Decide(n, bands) => decide(many_rounds(n, bands)),
+            Work::Coach(n, bands, asked_by) => decide(rounds_of_coach(n, bands, asked_by)),
+            Work::Ask(group) => ask(&GROUPS[group].1()),
             Work::Read(size) => {
                 let sheet = &sheet_of_size(size)[..];
                 let archive = SheetArchive::new();
@@ -531,6 +562,56 @@ fn time_worst_case() {
     line(&name, &decide(&bytes, &question), 1.0);
 }
 
+/// The lines of a round of the guard under the coach's commands: its time and its instructions under
+/// one command, and how many times those it takes under a span.
+fn compare_spans() {
+    println!();
+    println!(
+        "| one round under the coach's commands | {} | ratio |",
+        ASKED_BY.join(" | ")
+    );
+    println!("|---|---:|---:|---:|---:|");
+    for (n, bands) in SPAN_SHAPES {
+        let shape = format!("n {n}, bands {bands}");
+        time_spans(&shape, n, bands);
+        count_spans(&shape, n, bands);
+    }
+}
+
+/// The answers by `QS` and by a `QR` of that command have to be alike, else the program ends here.
+fn time_spans(shape: &str, n: usize, bands: usize) {
+    let asked = [0, 1, 2].map(|asked_by| rounds_of_coach(n, bands, asked_by));
+    let by = |place: usize| decide_by_guard(&asked[place].0, &asked[place].1);
+    assert_eq!(by(0), by(1), "a span of one command is answered alike");
+    let per = |place: usize| rounds(&asked[place].0, &asked[place].1) as f64;
+    let (one, all) = (
+        take_turns(|| by(1), || by(0)),
+        take_turns(|| by(2), || by(0)),
+    );
+    println!(
+        "| time, {shape} | {} | {} | {} | {:.2} |",
+        show(one.second / per(0)),
+        show(one.guard / per(1)),
+        show(all.guard / per(2)),
+        all.ratio * per(0) / per(2)
+    );
+}
+
+fn count_spans(shape: &str, n: usize, bands: usize) {
+    let counts = [0, 1, 2].map(|asked_by| {
+        let (sheet, question) = rounds_of_coach(n, bands, asked_by);
+        let work = Work::Coach(n, bands, asked_by);
+        instructions_once("guard", work) / rounds(&sheet, &question) as f64
+    });
+    println!(
+        "| instructions, {shape} | {:.0} | {:.0} | {:.0} | {:.2} |",
+        counts[0],
+        counts[1],
+        counts[2],
+        counts[2] / counts[0]
+    );
+}
+
 fn main() {
     let words: Vec<String> = std::env::args().skip(1).collect();
     if words.first().is_some_and(|word| word == COUNTED) {
@@ -543,8 +624,10 @@ fn main() {
     time_reading();
     time_worst_case();
     let (fine, all) = count_instructions();
-    // every line of the first table has compared two answers
-    let alike = ALLOWANCES.len() + SHAPES.len() + GROUPS.len() + SIZES.len() + 1;
+    compare_spans();
+    // every line of the first table, and every shape of the third, has compared two answers
+    let alike =
+        ALLOWANCES.len() + SHAPES.len() + SPAN_SHAPES.len() + GROUPS.len() + SIZES.len() + 1;
     println!("{} passed, {} failed", alike + fine, all - fine);
     std::process::exit(i32::from(fine < all));
 }
