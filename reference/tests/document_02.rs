@@ -1403,13 +1403,12 @@ fn a_spans_step_holds_that_of_each_command() {
     assert!(compared > 5_000 && wider > 2_000, "{compared} {wider}");
 }
 
-/// One tick with any allowed changes under one command for all variables.
+/// One tick with the least or the greatest change of each variable, under one command for all of them.
 fn tick(numbers: &mut Numbers, sheet: &Sheet, state: &mut State, command: i32) {
     let before = *state;
-    for i in 0..sheet.n() {
+    for (i, value) in state.iter_mut().enumerate().take(sheet.n()) {
         let (least, greatest) = allowed_change(sheet, &before, command, i).expect("a band");
-        let either = [least, greatest][numbers.between(0, 1) as usize];
-        state[i] += either;
+        *value += [least, greatest][numbers.between(0, 1) as usize];
     }
 }
 
@@ -1417,10 +1416,8 @@ fn tick(numbers: &mut Numbers, sheet: &Sheet, state: &mut State, command: i32) {
 /// kept clear of the no-go boxes and came back.
 fn comes_back(numbers: &mut Numbers, sheet: &Sheet, question: &Question) -> bool {
     let (at, v) = (&question.measured, sheet.band_variable as usize);
-    let mut state: State = [0; 4];
-    for i in 0..sheet.n() {
-        state[i] = [at.lower[i], at.upper[i]][numbers.between(0, 1) as usize];
-    }
+    let corner = |i: usize| [at.lower[i], at.upper[i]][numbers.between(0, 1) as usize];
+    let mut state: State = std::array::from_fn(corner);
     for time in 0..sheet.delta + sheet.alpha {
         let band = band_of(sheet, state[v]).expect("a band");
         let commands = if time < sheet.delta {

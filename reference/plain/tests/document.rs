@@ -1277,6 +1277,17 @@ fn boxes_hold_random_runs() {
     }
 }
 
+/// A question with either mark.
+fn any_question(dice: &mut Dice, s: &Sheet, sides: &[(i32, i32)]) -> Vec<u8> {
+    let least = dice.from_to(s.least as i64, s.greatest as i64);
+    let greatest = dice.from_to(least, s.greatest as i64);
+    let allowance = dice.from_to(0, 300) as u32;
+    match dice.from_to(0, 1) {
+        0 => question(sides, least as i32, allowance),
+        _ => span(sides, (least as i32, greatest as i32), allowance),
+    }
+}
+
 #[test]
 fn any_bytes_have_an_answer() {
     let mut dice = Dice(2);
@@ -1288,16 +1299,7 @@ fn any_bytes_have_an_answer() {
             let lower = dice.from_to(-150, 150) as i32;
             sides.push((lower, lower + dice.from_to(0, 40) as i32));
         }
-        let u = dice.from_to(s.least as i64, s.greatest as i64) as i32;
-        let allowance = dice.from_to(0, 300) as u32;
-        let mut q = match dice.from_to(0, 1) {
-            0 => question(&sides, u, allowance),
-            _ => span(
-                &sides,
-                (u, dice.from_to(u as i64, s.greatest as i64) as i32),
-                allowance,
-            ),
-        };
+        let mut q = any_question(&mut dice, &s, &sides);
         if dice.from_to(0, 2) == 0 {
             let at = dice.from_to(0, sheet.len() as i64 - 1) as usize;
             sheet[at] = dice.from_to(0, 255) as u8;

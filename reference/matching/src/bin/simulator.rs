@@ -423,21 +423,25 @@ impl Run<'_> {
         self.tally.check(self.kinds.forbidden, safe, || {
             format!("state {state:?} on sheet {}", hex(&scene.bytes))
         });
-        if kept.is_some() {
-            return safe;
+        safe && (kept.is_some() || self.returned())
+    }
+
+    /// Behind a plain tick: false where it is the last of alpha behind a keep and misses the return.
+    fn returned(&mut self) -> bool {
+        let (scene, state) = (self.scene, self.state);
+        let Some(ticks) = &mut self.behind_keep else {
+            return true;
+        };
+        *ticks += 1;
+        if *ticks < scene.sheet.alpha as u32 {
+            return true;
         }
-        if let Some(ticks) = &mut self.behind_keep {
-            *ticks += 1;
-            if *ticks == sheet.alpha as u32 {
-                self.behind_keep = None;
-                let returned = sheet.recovery.holds(&next);
-                self.tally.check(self.kinds.returns, returned, || {
-                    format!("state {state:?} on sheet {}", hex(&scene.bytes))
-                });
-                return safe && returned;
-            }
-        }
-        safe
+        self.behind_keep = None;
+        let returned = scene.sheet.recovery.holds(&state);
+        self.tally.check(self.kinds.returns, returned, || {
+            format!("state {state:?} on sheet {}", hex(&scene.bytes))
+        });
+        returned
     }
 
     /// Counts where the state is.
@@ -506,13 +510,37 @@ impl Run<'_> {
         }
     }
 
+    /// A question about a command, or about the span around it, and what it is about. A few are damaged;
+    /// one that can still be read and is not about this state is none.
+    fn question(
+        &mut self,
+        allowance: u32,
+        command: i32,
+        room: i32,
+        measured: &StateBox,
+    ) -> Option<(CommandRange, Vec<u8>)> {
+        let sheet = &self.scene.sheet;
+        let span = around(sheet.commands, command, room);
+        let mut question = match room {
+            0 => question_bytes(allowance, command, measured, sheet.n()),
+            _ => span_bytes(allowance, span, measured, sheet.n()),
+        };
+        if !self.random.percent(2) {
+            return Some((span, question));
+        }
+        let at = self.random.below(question.len());
+        question[at] ^= 0x80;
+        match read_question(sheet, &question) {
+            Ok(other) if !other.measured.holds(&self.state) => None,
+            Ok(other) => Some((other.span, question)),
+            Err(_) => Some((span, question)),
+        }
+    }
+
     /// Asks for ever weaker commands until one is kept; the last question is the period's. Half of the
     /// periods are asked by a span around the command, which gets narrower.
     fn ask(&mut self) -> Option<CommandRange> {
         let scene = self.scene;
-        let sheet = &scene.sheet;
-        let n = sheet.n();
-        let strongest = i64::from(sheet.commands.greatest);
         let measured = self.measured();
         let allowance = if self.random.percent(90) {
             1_000_000
@@ -522,69 +550,52 @@ impl Run<'_> {
         let mut command = self.wanted_command();
         let mut room = match self.random.below(2) {
             0 => 0,
-            _ => self.random.spread(1, strongest) as i32,
+            _ => {
+                let strongest = scene.sheet.commands.greatest;
+                self.random.spread(1, strongest.into()) as i32
+            }
         };
         let mut tries = self.random.pick(&[1, 6, 12]);
         loop {
-            let mut span = around(sheet.commands, command, room);
-            let mut question = match room {
-                0 => question_bytes(allowance, command, &measured, n),
-                _ => span_bytes(allowance, span, &measured, n),
-            };
-            if self.random.percent(2) {
-                let at = self.random.below(question.len());
-                question[at] ^= 0x80;
-                // A damaged question may still be read, and then it is not about this state.
-                match read_question(sheet, &question) {
-                    Ok(other) if !other.measured.holds(&self.state) => continue,
-                    Ok(other) => span = other.span,
-                    Err(_) => {}
-                }
-            }
-            let (code, width) = self.guard.answer(sheet, &scene.bytes, &question);
-            tries -= 1;
-            if code != 0 && tries > 0 {
-                command = command * 3 / 4;
-                room = (room * 3 / 4).max(room.min(1));
+            let Some((span, question)) = self.question(allowance, command, room, &measured) else {
                 continue;
-            }
-            let kind = match code {
-                0 => self.kinds.keeps,
-                1 => self.kinds.finest,
-                2 => self.kinds.spent,
-                _ => self.kinds.refused,
             };
-            self.tally.saw(kind);
-            let refined = width < sheet.delta.max(sheet.alpha) as u32;
-            if span.least < span.greatest {
-                self.look_at_answer(code, refined);
+            let (code, width) = self.guard.answer(&scene.sheet, &scene.bytes, &question);
+            tries -= 1;
+            if code == 0 || tries == 0 {
+                self.look_at_answer(code, width, span, &question);
+                return (code == 0).then_some(span);
             }
-            if code != 0 {
-                return None;
-            }
-            if refined {
-                self.tally.saw(self.kinds.keeps_refined);
-            }
-            if !sheet.recovery.holds(&self.state) {
-                self.tally.saw(self.kinds.keeps_outside);
-            }
-            let asked_before = self.tally.seen(self.kinds.keeps).is_multiple_of(8);
-            if asked_before && decide_before(&scene.bytes, &question).code() != 0 {
-                self.tally.saw(self.kinds.keeps_won);
-            }
-            return Some(span);
+            command = command * 3 / 4;
+            room = (room * 3 / 4).max(room.min(1));
         }
     }
 
-    /// Counts the answer to a question about a span.
-    fn look_at_answer(&mut self, code: u64, refined: bool) {
-        match code {
-            0 => self.tally.saw(self.kinds.spans_kept),
-            1 => self.tally.saw(self.kinds.spans_finest),
-            _ => {}
-        }
-        if code == 0 && refined {
-            self.tally.saw(self.kinds.spans_refined);
+    /// Counts the answer to the period's question.
+    fn look_at_answer(&mut self, code: u64, width: u32, span: CommandRange, question: &[u8]) {
+        let (sheet, kinds) = (&self.scene.sheet, self.kinds);
+        let several = span.least < span.greatest;
+        let refined = width < sheet.delta.max(sheet.alpha) as u32;
+        let outside = !sheet.recovery.holds(&self.state);
+        self.tally.saw(match code {
+            0 => kinds.keeps,
+            1 => kinds.finest,
+            2 => kinds.spent,
+            _ => kinds.refused,
+        });
+        let asked_before = self.tally.seen(kinds.keeps).is_multiple_of(8);
+        let won =
+            code == 0 && asked_before && decide_before(&self.scene.bytes, question).code() != 0;
+        let seen = [
+            (code == 0 && refined, kinds.keeps_refined),
+            (code == 0 && outside, kinds.keeps_outside),
+            (won, kinds.keeps_won),
+            (code == 0 && several, kinds.spans_kept),
+            (code == 0 && several && refined, kinds.spans_refined),
+            (code == 1 && several, kinds.spans_finest),
+        ];
+        for (_, kind) in seen.into_iter().filter(|&(seen, _)| seen) {
+            self.tally.saw(kind);
         }
     }
 
