@@ -1441,7 +1441,7 @@ fn runs(bounded: Bounded) -> (u32, u32) {
         ..Faults::default()
     };
     let (mut numbers, mut made, mut wrong) = (Numbers(6), 0, 0);
-    for _ in 0..3_000 {
+    for _ in 0..6_000 {
         let mut sheet = among_boxes(&mut numbers, 2);
         sheet.recovery = sides((-20, 20), (-20, 20));
         let question = any_span(&mut numbers);
