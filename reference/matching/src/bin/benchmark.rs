@@ -307,10 +307,11 @@ const GROUPS: [(&str, fn() -> Asked, f64); 2] = [
     ("random sheets", random_sheets, 905.0),
 ];
 
-/// The leg press of examples/ with those of its questions that are not refused.
+/// The leg press of examples/ with those of its questions about one command that are not refused.
 fn leg_press() -> Asked {
     let (sheet, bytes, asks) = machine("leg_press");
-    let asked = questions(&asks, sheet.n()).map(|question| (bytes.clone(), question.to_vec()));
+    let one_command = questions(&asks, sheet.n()).filter(|question| question.starts_with(b"QS"));
+    let asked = one_command.map(|question| (bytes.clone(), question.to_vec()));
     asked
         .filter(|(sheet, question)| rounds(sheet, question) > 0)
         .collect()
