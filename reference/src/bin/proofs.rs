@@ -200,7 +200,7 @@ impl<'a> Bases<'a> {
 fn law(example: &Example) -> String {
     match example.field("law") {
         "0" => "Baseline".into(),
-        _ => format!("(Command ({}))", integer(example.field("command").parse().expect("a number"))),
+        _ => format!("(oneCommand ({}))", integer(example.field("command").parse().expect("a number"))),
     }
 }
 
@@ -290,7 +290,8 @@ use lib.IntN.{ℤ, pos, negsuc}
 use lib.ListN.{take}
 use lib.Seq.{sets}
 use Rattle.sheet_spec.specs.SheetA.{fileA}
-use Rattle.machine_spec.specs.declared.Law.the-variants.{Baseline, Command}
+use Rattle.machine_spec.specs.declared.Law.the-variants.{Baseline}
+use Rattle.machine_spec.specs.Machine.{oneCommand}
 use Rattle.boxes_spec.specs.Reach.{Answer, refused, reachFile}
 use Rattle.boxes_spec.proofs.Everything.{everything}
 
