@@ -14,7 +14,7 @@ use lib.Seq.{set-set, set-comm}
 use lib.Signed.{leZ, _≤ℤ_, _<ℤ_}
 use borrow.Author.Tests.{lt-leb}
 use Rattle.integers.proofs.Z.{ints, le-true, le-false}
-use Rattle.sheet_spec.specs.Slots.{_!_, N, bandSlot, bands, edge}
+use Rattle.sheet_spec.specs.Slots.{_!_, N, bandSize, bandSlot, bands, edge}
 use Rattle.sheet_spec.specs.Box.{lo, hi}
 use Rattle.sheet_spec.specs.Valid.{ValidNumbers}
 use Rattle.machine_spec.specs.Machine.{Machine, bandsOf, bandVarOf, cap, rowOf, change}
@@ -22,26 +22,29 @@ use Rattle.machine_spec.specs.Rate.{outermost, bandMet, cutToBand, part, rowOve
 use Rattle.sheet_spec.proofs.Box.{differ}
 use Rattle.machine_spec.proofs.Bands.{Meets, meets-read, meets-show, edge-below, edges-ascend}
 use Rattle.machine_spec.proofs.Part.{low-stays, low-cut}
-use Rattle.machine_spec.proofs.Sound.{outer-neutral, outermost-between}
+use Rattle.machine_spec.proofs.Sound.{share-between, outer-neutral, outer-limit, outermost-between}
 use Rattle.machine_spec.proofs.Face.{cond-yes, cond-no}
-use Rattle.boxes_rates.specs.Plant.{startsBy, FirstBand}
+use Rattle.boxes_rates.specs.Plant.{nextStartsBy, FirstBand}
 use Rattle.boxes_rates.proofs.Cut.{put-back}
 
--- ---- whether a band starts at or below a number
+-- ---- whether the next band starts at or below a number
 
--- the slot is that of band k, and the bands end at `end`
-module _ (v : List ℤ) (k : ℕ) {end at : ℕ} (x : ℤ) (p : at ≡ bandSlot k) (q : end ≡ bandSlot (bands v)) where
-  pub starts-yes : startsBy v end at x ≡ true → (k < bands v) × (edge v k ≤ℤ x)
-  unfolding startsBy
-  starts-yes e = by (leb end at) refl e
+-- the slots are those of band k and of the last band
+module _ (v : List ℤ) (k last : ℕ) {at : ℕ} (x : ℤ) (p : at ≡ bandSlot k) (q : last + bandSize ≡ bandSlot (bands v)) where
+  next-place : at + bandSize ≡ bandSlot (k + 1)
+  next-place = omega (arith, p)
+
+  pub starts-yes : nextStartsBy v last at x ≡ true → (k + 1 < bands v) × (edge v (k + 1) ≤ℤ x)
+  unfolding nextStartsBy
+  starts-yes e = by (leb last at) refl e
     where
-      by : (t : Bool) → leb end at ≡ t → (not t && leZ (v ! at) x) ≡ true → (k < bands v) × (edge v k ≤ℤ x)
+      by : (t : Bool) → leb last at ≡ t → (not t && leZ (v ! (at + bandSize)) x) ≡ true → (k + 1 < bands v) × (edge v (k + 1) ≤ℤ x)
       by true u e = absurd (differ e refl)
-      by false u e = (let less : at < end = nleb→lt end at (rw u tt) in omega arith, rw p at (le-true (v ! at) x e))
+      by false u e = (let less : at < last = nleb→lt last at (rw u tt) in omega (arith, p, q), rw next-place at (le-true (v ! (at + bandSize)) x e))
 
-  pub starts-no : startsBy v end at x ≡ false → k < bands v → x <ℤ edge v k
-  unfolding startsBy
-  starts-no e h = rw p at (le-false (v ! at) x (rw (lt-leb end at (omega arith)) at e))
+  pub starts-no : nextStartsBy v last at x ≡ false → k + 1 < bands v → x <ℤ edge v (k + 1)
+  unfolding nextStartsBy
+  starts-no e h = rw next-place at (le-false (v ! (at + bandSize)) x (rw (lt-leb last at (omega (arith, p, q))) at e))
 
 -- ---- the bands that are met
 
@@ -92,6 +95,13 @@ module _ (m : Machine) (B : List ℤ) (up : Bool) (i : ℕ) where
       rw (add-suc k d, share-unmet (k + d) (n d (omega arith)))
       (outer-neutral (outermost-between up m B i (k + d) c) up ∙ unmet-stays c k d (λ j h. n j (omega arith)))
 
+  -- none moves the outermost where it is the cap's outer end
+  pub limit-stays : pos 0 ≤ℤ cap m i → (k d : ℕ) → outermost up (neutral up (cap m i)) k (bandRate up m B i) ≡ neutral (not up) (cap m i)
+      → outermost up (neutral up (cap m i)) (k + d) (bandRate up m B i) ≡ neutral (not up) (cap m i)
+  unfolding outermost
+  limit-stays c k zero e = rw (add-zero k) e
+  limit-stays c k (suc d) e = rw (add-suc k d, limit-stays c k d e) (outer-limit (share-between up m B i (k + d) c) up)
+
 -- ---- the parts, made in the box
 
 set-own : (l : List ℤ) (j : ℕ) → set l j (l ! j) ≡ l
@@ -129,6 +139,16 @@ module _ (m : Machine) (k : ℕ) (B : List ℤ) where
               ∙ (ap (λ (l : List ℤ). set l (i + N) x) (set-comm A (i + N) i y e (λ z. omega arith) ∙ ap (λ (l : List ℤ). set l (i + N) y) (set-set B i _ e))
               ∙ (set-set (set B i e) (i + N) y x ∙ ap (λ (z : ℤ). set (set B i z) (i + N) x) same)));
         }
+
+    -- both sides are put back
+    pub cutting-undone : j < N → {P : List ℤ} → P ≡ part m k B → {x y : ℤ} → x ≡ lo B i → y ≡ hi B i → set (set P (j + N) y) j x ≡ B
+    unfolding part
+    cutting-undone r p q e =
+        let c = cutToBand false m k (lo B i) in
+        rw (v, q, e) (ap (λ (l : List ℤ). set (set l (i + N) (hi B i)) i (lo B i)) p
+        ∙ (ap (λ (l : List ℤ). set l i (lo B i)) (set-set (set B i c) (i + N) _ (hi B i))
+        ∙ (set-comm (set B i c) (i + N) i (hi B i) (lo B i) (λ z. omega arith)
+        ∙ (ap (λ (l : List ℤ). set l (i + N) (hi B i)) (put-back B i c) ∙ set-own B (i + N)))))
 
     -- the last one: both sides are as they were once the lower is put back
     pub cutting-ends : j < N → {P : List ℤ} → P ≡ part m k B → cutToBand true m k (hi B i) ≡ hi B i → {x : ℤ} → x ≡ lo B i → set P j x ≡ B

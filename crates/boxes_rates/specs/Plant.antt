@@ -6,7 +6,7 @@ use Prim.Native.Nat.{ℕ, _+_, _<_}
 use lib.Dec.{leb}
 use lib.IntN.{ℤ}
 use lib.Signed.{leZ, _≤ℤ_, _<ℤ_}
-use Rattle.sheet_spec.specs.Slots.{_!_, N, bandSlot, vars, bands, bandVar, edge}
+use Rattle.sheet_spec.specs.Slots.{_!_, N, bandSize, bandSlot, vars, bands, bandVar, edge}
 use Rattle.sheet_spec.specs.Valid.{ValidNumbers}
 use Rattle.machine_spec.specs.Accepted.{Lawful}
 use Rattle.boxes_rates.specs.declared.Plant.{Plant}
@@ -21,9 +21,9 @@ pub record Describes (p : Plant) (v : List ℤ) : Type 0 where
 
 -- ---- bands, by the slots of their edges
 
--- the band at a slot is one of those before the slot `end`, and starts at or below x
-unfoldable pub startsBy : List ℤ → ℕ → ℕ → ℤ → Bool
-startsBy v end at x = not (leb end at) && leZ (v ! at) x
+-- a band follows the one at a slot, which is not the last band's, and starts at or below x
+unfoldable pub nextStartsBy : List ℤ → ℕ → ℕ → ℤ → Bool
+nextStartsBy v last at x = not (leb last at) && leZ (v ! (at + bandSize)) x
 
 -- the bands before the one at a slot end at or below l
 pub record BandFrom (v : List ℤ) (l : ℤ) (at : ℕ) : Type 0 where

@@ -8,13 +8,15 @@ ghost use Rattle.sheet_spec.specs.Valid.{ValidNumbers};
 ghost use Rattle.machine_spec.specs.Machine.{machine};
 ghost use Rattle.machine_spec.specs.Rate.{faceRate, neighborhood, neutral, rate, rates};
 ghost use Rattle.boxes_rates.specs.Limits.{BandAsked, CommandTerm, CommandsAsked, NarrowAsked, RateAsked, RatesAsked, RowRated};
-ghost use Rattle.boxes_rates.specs.Plant.{FirstBand, cutAt, startsBy};
+ghost use Rattle.boxes_rates.specs.Plant.{FirstBand, cutAt, nextStartsBy};
 use crate::Plant;
 use crate::row::bound;
 use crate::row::further;
+use crate::row::product;
 use crate::row::span_term;
 use boxes_arithmetic::max;
 use boxes_arithmetic::min;
+use boxes_arithmetic::outer;
 use machine_spec::Law;
 use sheet_spec::slots::BAND_SIZE;
 use sheet_spec::slots::BOX_SIZE;
@@ -28,24 +30,25 @@ use sheet_spec::slots::SAFETY_GREATEST;
 use sheet_spec::slots::SAFETY_LEAST;
 use sheet_spec::slots::SLOTS;
 
-// The band at the slot `at` is one of those before the slot `end`, and starts at or below x.
-fn starts_by(sheet: &[i32; SLOTS], end: usize, at: usize, x: i64) -> bool
-    requires { ⌜ end ≤ slots.slots ⌝ }
-    ensures { λ r. ⌜ r ≡ startsBy (now (sheet .entry)) end at x ⌝ }
+// A band follows the one at the slot `at`, which is not the last band's slot `top`, and starts at or below x.
+fn next_starts_by(sheet: &[i32; SLOTS], top: usize, at: usize, x: i64) -> bool
+    requires { ⌜ top + slots.bandSize ≤ slots.slots ⌝ }
+    ensures { λ r. ⌜ r ≡ nextStartsBy (now (sheet .entry)) top at x ⌝ }
 {
-    if end <= at {
+    if top <= at {
         return false;
     }
-    (sheet[at] as i64) <= x
+    let next = at + BAND_SIZE;
+    (sheet[next] as i64) <= x
 }
 
-// The slot of the first band that has a number from `low` on. The bands end at the slot `end`.
-fn first_band(sheet: &[i32; SLOTS], end: usize, low: i64) -> usize
-    requires { ⌜ ValidNumbers (now sheet) × (end ≡ slots.bandSlot (slots.bands (now sheet))) ⌝ }
+// The slot of the first band that has a number from `low` on.
+fn first_band(sheet: &[i32; SLOTS], top: usize, low: i64) -> usize
+    requires { ⌜ ValidNumbers (now sheet) × (top + slots.bandSize ≡ slots.bandSlot (slots.bands (now sheet))) ⌝ }
     ensures { λ r. ⌜ FirstBand (now (sheet .entry)) low r ⌝ }
 {
     let mut at: usize = FIRST_BAND;
-    while starts_by(sheet, end, at + BAND_SIZE, low) {
+    while next_starts_by(sheet, top, at, low) {
         at += BAND_SIZE;
     }
     at
@@ -70,7 +73,11 @@ fn command_term(up: bool, law: Law, sheet: &[i32; SLOTS], row: usize, band: usiz
         Law::Baseline => {
             let least = band + SAFETY_LEAST;
             let greatest = band + SAFETY_GREATEST;
-            span_term(up, coefficient, sheet[least], sheet[greatest])
+            outer(
+                up,
+                product(coefficient, sheet[least] as i64),
+                product(coefficient, sheet[greatest] as i64),
+            )
         }
         Law::Span { least, greatest } => span_term(up, coefficient, least, greatest),
     }
@@ -109,18 +116,26 @@ fn rate(up: bool, plant: Plant, sheet: &[i32; SLOTS], over: &mut [i64; BOX_SIZE]
     let low = over[lower];
     let high = over[upper];
     let slot = FIRST_CAP + i;
-    let end = FIRST_BAND + plant.bands * BAND_SIZE;
-    let mut outermost = neutral(up, sheet[slot] as i64);
-    let mut band = first_band(sheet, end, low);
+    let cap = sheet[slot] as i64;
+    let top = FIRST_BAND + (plant.bands - 1) * BAND_SIZE;
+    let mut outermost = neutral(up, cap);
+    let mut band = first_band(sheet, top, low);
     // while the next band is met too
-    while starts_by(sheet, end, band + BAND_SIZE, high) {
+    while next_starts_by(sheet, top, band, high) {
         let next = band + BAND_SIZE;
         let last = (sheet[next] as i64) - 1;
         over[upper] = last;
         outermost = row_rate(up, plant, sheet, over, i, band, outermost);
+        // no change goes beyond the cap
+        if outermost == neutral(!up, cap) {
+            over[upper] = high;
+            over[lower] = low;
+            return outermost;
+        }
         over[lower] = last + 1;
         band = next;
     }
+    // the last part ends with the box
     over[upper] = high;
     outermost = row_rate(up, plant, sheet, over, i, band, outermost);
     over[lower] = low;

@@ -59,14 +59,15 @@ fn weighted(up: bool, n: usize, sheet: &[i32; SLOTS], row: usize, over: &[i64; B
 }
 
 // A coefficient times a command.
-fn product(coefficient: i32, command: i32) -> i64
+pub fn product(coefficient: i32, command: i64) -> i64
+    requires { ⌜ Bound command word ⌝ }
     ensures { λ r. ⌜ (r ≡ coefficient *ℤ command) × Bound r termLimit ⌝ }
 {
-    (coefficient as i64) * (command as i64)
+    (coefficient as i64) * command
 }
 
 // The end of a span at which a coefficient's product is the outer one.
-fn outer_end(up: bool, coefficient: i32, least: i32, greatest: i32) -> i32
+fn outer_end(up: bool, coefficient: i32, least: i64, greatest: i64) -> i64
     ensures { λ r. ⌜ r ≡ outerEnd up coefficient least greatest ⌝ }
 {
     if up {
@@ -77,8 +78,8 @@ fn outer_end(up: bool, coefficient: i32, least: i32, greatest: i32) -> i32
 }
 
 // The outer one of a coefficient's products with the commands of a span.
-pub fn span_term(up: bool, coefficient: i32, least: i32, greatest: i32) -> i64
-    requires { ⌜ least ≤ℤ greatest ⌝ }
+pub fn span_term(up: bool, coefficient: i32, least: i64, greatest: i64) -> i64
+    requires { ⌜ (least ≤ℤ greatest) × (Bound least word × Bound greatest word) ⌝ }
     ensures { λ r. ⌜ (r ≡ outer up (coefficient *ℤ least) (coefficient *ℤ greatest)) × Bound r termLimit ⌝ }
 {
     product(coefficient, outer_end(up, coefficient, least, greatest))

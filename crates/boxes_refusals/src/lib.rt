@@ -39,13 +39,13 @@ pub fn law_refusal(sheet: &[i32; SLOTS], law: Law) -> u8
     let Law::Span { least, greatest } = law else {
         return 0;
     };
-    if least < sheet[LEAST] {
+    if least < sheet[LEAST] as i64 {
         return COMMAND;
     }
     if greatest < least {
         return COMMAND;
     }
-    if sheet[GREATEST] < greatest {
+    if (sheet[GREATEST] as i64) < greatest {
         return COMMAND;
     }
     0

@@ -18,7 +18,7 @@ use Rattle.boxes_spec.specs.Reach.{Reached, testedStep, reach, Answer, r
 use Rattle.boxes_spec.proofs.Everything.{everything}
 
 -- a box of one variable
-box : ℤ → ℤ → List ℤ
+pub box : ℤ → ℤ → List ℤ
 box l h = (l ∷ replicate (N - 1) (pos 0)) ++ (h ∷ replicate (N - 1) (pos 0))
 
 -- four ticks at width 4 after c rounds, and a step of width 1
@@ -52,7 +52,7 @@ unfolding everything box one
 from-131 = refl
 
 -- the public reach: no ticks, and the order of the refusals
-answers : Law → ℕ → List ℤ → Answer
+pub answers : Law → ℕ → List ℤ → Answer
 answers l w S = reachFile fileA 0 w l S
 
 no-ticks : answers Baseline 1 (box (pos 5) (pos 7)) ≡ record { refusal = 0; end = box (pos 5) (pos 7); swept = box (pos 5) (pos 7); rounds = 0 }
@@ -64,9 +64,9 @@ unfolding everything box answers
 refusals = (refl, refl, refl)
 
 -- a span is refused where it is reversed, or an end of it is not the head's; the head's commands are one
-spans : List Law → List ℕ
+pub spans : List Law → List ℕ
 spans ls = map (λ l. answers l 1 (box (pos 1) (pos 1)) .refusal) ls
 
-span-refusals : spans (Span (negsuc 24) (pos 25) ∷ Span (pos 1) (pos 0) ∷ Span (negsuc 25) (pos 0) ∷ Span (pos 0) (pos 26) ∷ []) ≡ 0 ∷ 14 ∷ 14 ∷ 14 ∷ []
+pub span-refusals : spans (Span (negsuc 24) (pos 25) ∷ Span (pos 1) (pos 0) ∷ Span (negsuc 25) (pos 0) ∷ Span (pos 0) (pos 26) ∷ []) ≡ 0 ∷ 14 ∷ 14 ∷ 14 ∷ []
 unfolding everything box answers spans
 span-refusals = refl

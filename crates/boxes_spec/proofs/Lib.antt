@@ -1,6 +1,6 @@
 pub mod Everything
 pub mod Boxes
-mod Examples
+pub mod Examples
 pub mod Stages
 pub mod Settled
 pub mod Sound

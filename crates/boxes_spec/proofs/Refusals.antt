@@ -6,18 +6,17 @@ use Prim.Native.Nat.{ℕ, _≤_, _<_}
 use native.Mathlib.Omega.{arith}
 use lib.Dec.{leb}
 use lib.IntN.{ℤ}
-use lib.Signed.{leZ}
 use borrow.Author.Tests.{leb-true}
 use Rattle.sheet_spec.specs.Limits.{maxTicks, maxWidth}
 use Rattle.sheet_spec.specs.Refusals.{Cause, greatestNumber}
-use Rattle.sheet_spec.specs.Slots.{vars, leastCommand, greatestCommand}
+use Rattle.sheet_spec.specs.Slots.{vars}
 use Rattle.sheet_spec.specs.Box.{all}
 use Rattle.sheet_spec.proofs.Box.{and-both}
 use Rattle.sheet_spec.proofs.Laws.{unless-zero, unless-most}
 use Rattle.sheet_spec.proofs.FirstRefusal.{all-pass}
 use Rattle.machine_spec.specs.declared.Law.{Law}
 use Rattle.machine_spec.specs.declared.Law.the-variants.{Baseline, Span}
-use Rattle.boxes_spec.specs.Reach.{sideIn, lawRefusal, sidesRefusal, ticksRefusal, reachRefusal}
+use Rattle.boxes_spec.specs.Reach.{spanIn, sideIn, lawRefusal, sidesRefusal, ticksRefusal, reachRefusal}
 
 ticks-width : (ticks w : ℕ) → ticksRefusal ticks w ≡ 0 → (ticks ≤ maxTicks) × (0 < w) × (w ≤ maxWidth)
 unfolding ticksRefusal
@@ -45,7 +44,7 @@ reach-passes v ticks w l B none =
 pub law-most : (v : List ℤ) (l : Law) → lawRefusal v l ≤ greatestNumber
 unfolding lawRefusal
 law-most v Baseline = omega arith
-law-most v (Span l h) = unless-most (leZ (leastCommand v) l && leZ l h && leZ h (greatestCommand v)) Cause.command
+law-most v (Span l h) = unless-most (spanIn v l h) Cause.command
 
 pub sides-most : (n : ℕ) (B : List ℤ) → sidesRefusal n B ≤ greatestNumber
 unfolding sidesRefusal

@@ -49,10 +49,14 @@ module _ (limited : Bool) (allowance : ℕ) (m : Machine) (clear : List ℤ → 
 
 -- ---- the public reach of a sheet v: no boxes to keep clear of, no allowance
 
+-- the commands from l to h: in order, and within the head's
+abbrev pub spanIn : List ℤ → ℤ → ℤ → Bool
+spanIn v l h = leZ (leastCommand v) l && leZ l h && leZ h (greatestCommand v)
+
 -- a span that is reversed, or not within the head's commands
 unfoldable pub lawRefusal : List ℤ → Law → ℕ
 lawRefusal v Baseline = 0
-lawRefusal v (Span l h) = refuseUnless (leZ (leastCommand v) l && leZ l h && leZ h (greatestCommand v)) Cause.command
+lawRefusal v (Span l h) = refuseUnless (spanIn v l h) Cause.command
 
 -- a variable's sides: in order and within ±1,000,000
 abbrev pub inRange : ℤ → ℤ → Bool

@@ -159,8 +159,8 @@ fn head(kind: QuestionKind, question: &[u8]) -> QuestionHead
     ensures { λ r. ⌜ r ≡ questionHead (now (question .entry)) ⌝ }
 {
     let span = Law::Span {
-        least: get_i32(question, COMMAND_AT),
-        greatest: get_i32(question, greatest_at(kind)),
+        least: get_i32(question, COMMAND_AT) as i64,
+        greatest: get_i32(question, greatest_at(kind)) as i64,
     };
     QuestionHead {
         allowance: four(question, ALLOWANCE_AT),

@@ -1,6 +1,6 @@
 -- What a question's mark says: where the fields start, and that a question with an unknown one is refused. Assumes nothing.
 use mathlib.Core.Path.{_≡_, refl}
-use mathlib.Core.Bool.{true, false}
+use mathlib.Core.Bool.{false}
 use mathlib.Core.List.{List}
 use Prim.Native.Nat.{ℕ, _≤_, _<_}
 use native.Mathlib.Nat.{lt-of-lt-of-le}
@@ -14,7 +14,7 @@ use Rattle.sheet_spec.specs.Sheet.{refusal, values}
 use Rattle.decision_spec.specs.declared.QuestionKind.{QuestionKind}
 use Rattle.decision_spec.specs.declared.QuestionKind.the-variants.{Single, Ranged, Unknown}
 use Rattle.decision_spec.specs.Question.{kindOf, known, commandAt, greatestAt, formRefusal, headRefusal, questionRefusal}
-use Rattle.decision_spec.specs.Decision.{Reply, refused, decide}
+use Rattle.decision_spec.specs.Decision.{refused, decide}
 
 -- ---- where the greatest command starts
 

@@ -1,12 +1,12 @@
 -- A question with a span of one command says what the question with that command says; so it has the same refusals and replies. Assumes nothing.
 use mathlib.Core.Path.{_≡_, refl, sym, ap, ap₂, _∙_}
 use mathlib.Core.Bool.{Bool, true, false}
-use mathlib.Core.List.{List, _∷_, _++_}
+use mathlib.Core.List.{List, _++_}
 use Prim.Native.Nat.{ℕ, _+_, _*_}
 use native.Mathlib.Omega.{arith}
 use lib.Dec.{eqb}
 use lib.IntN.{ℤ}
-use lib.ListN.{length, take, drop, length-append}
+use lib.ListN.{length, drop, length-append}
 use lib.Seq.{take-at, drop-at, drop-drop}
 use borrow.Author.Tests.{eq-eqb, ne-eqb, eqb-true, eqb-false}
 use Rattle.integers.specs.Bytes.{be}
@@ -34,36 +34,36 @@ module _ (a c s : List ℕ) (few : length a ≡ bytesIn i32) (own : length c ≡
 
   same-allowance : allowanceOf g ≡ allowanceOf g′
   unfolding allowanceOf
-  same-allowance = ap be (take-at a (c ++ (c ++ s)) (bytesIn i32) (omega (arith, few)) ∙ sym (take-at a (c ++ s) (bytesIn i32) (omega (arith, few))))
+  same-allowance = ap be (take-at a (c ++ (c ++ s)) (bytesIn i32) few ∙ sym (take-at a (c ++ s) (bytesIn i32) few))
 
   -- a number is in the bytes of its field alone
   number-is : (rest : List ℕ) → decoded i32 (c ++ rest) ≡ numberOf i32 c
   unfolding decoded
-  number-is rest = ap (numberOf i32) (take-at c rest (bytesIn i32) (omega (arith, own)))
+  number-is rest = ap (numberOf i32) (take-at c rest (bytesIn i32) own)
 
   same-least : leastOf g ≡ leastOf g′
   unfolding leastOf
   same-least =
-      ap (decoded i32) (drop-at a (c ++ (c ++ s)) (bytesIn i32) (omega (arith, few))) ∙ number-is (c ++ s)
-      ∙ sym (ap (decoded i32) (drop-at a (c ++ s) (bytesIn i32) (omega (arith, few))) ∙ number-is s)
+      ap (decoded i32) (drop-at a (c ++ (c ++ s)) (bytesIn i32) few) ∙ number-is (c ++ s)
+      ∙ sym (ap (decoded i32) (drop-at a (c ++ s) (bytesIn i32) few) ∙ number-is s)
 
   -- what follows the allowance and a command
   after-command : (rest : List ℕ) → drop (bytesIn i32 + bytesIn i32) (a ++ (c ++ rest)) ≡ rest
   after-command rest =
       sym (drop-drop (bytesIn i32) (bytesIn i32) (a ++ (c ++ rest)))
-      ∙ ap (λ (l : List ℕ). drop (bytesIn i32) l) (drop-at a (c ++ rest) (bytesIn i32) (omega (arith, few))) ∙ drop-at c rest (bytesIn i32) (omega (arith, own))
+      ∙ ap (λ (l : List ℕ). drop (bytesIn i32) l) (drop-at a (c ++ rest) (bytesIn i32) few) ∙ drop-at c rest (bytesIn i32) own
 
   same-greatest : greatestOf g ≡ greatestOf g′
   unfolding greatestOf kindOf
   same-greatest =
       ap (decoded i32) (after-command (c ++ s)) ∙ number-is s
-      ∙ sym (ap (decoded i32) (drop-at a (c ++ s) (bytesIn i32) (omega (arith, few))) ∙ number-is s)
+      ∙ sym (ap (decoded i32) (drop-at a (c ++ s) (bytesIn i32) few) ∙ number-is s)
 
   -- the sides are the bytes after the head
   after-span : drop (sidesAt Ranged) g ≡ s
   after-span =
       sym (drop-drop (bytesIn i32) (bytesIn i32 + bytesIn i32) (a ++ (c ++ (c ++ s))))
-      ∙ ap (λ (l : List ℕ). drop (bytesIn i32) l) (after-command (c ++ s)) ∙ drop-at c s (bytesIn i32) (omega (arith, own))
+      ∙ ap (λ (l : List ℕ). drop (bytesIn i32) l) (after-command (c ++ s)) ∙ drop-at c s (bytesIn i32) own
 
   same-side : (k p q : ℕ) → p ≡ sidesAt Ranged + k → q ≡ sidesAt Single + k → decoded i32 (drop p g) ≡ decoded i32 (drop q g′)
   same-side k p q e e′ =
@@ -106,7 +106,9 @@ module _ (a c s : List ℕ) (few : length a ≡ bytesIn i32) (own : length c ≡
 
 pub span-of-one : SpanOfOne
 unfolding decide
-span-of-one a c s few own =
+span-of-one a c s four each =
+    let few : length a ≡ bytesIn i32 = omega (arith, four) in
+    let own : length c ≡ bytesIn i32 = omega (arith, each) in
     let said : (n : ℕ) → questionOf n (rangedQuestion a c c s) ≡ questionOf n (singleQuestion a c s) = λ n. λ t. record {
       head = record { allowance = same-allowance a c s few own t; law = Span (same-least a c s few own t) (same-greatest a c s few own t) };
       measured = same-measured a c s few own n t;

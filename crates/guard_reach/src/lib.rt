@@ -69,8 +69,8 @@ fn law_of(law: u32, command: i32) -> Law
         Law::Baseline
     } else {
         Law::Span {
-            least: command,
-            greatest: command,
+            least: command as i64,
+            greatest: command as i64,
         }
     }
 }

@@ -77,6 +77,12 @@ unfolding outer neutral
 outer-neutral {c} {z} h false = omega (ints, min-is z c, h .high)
 outer-neutral {c} {z} h true = omega (ints, max-is z (negℤ c), h .low)
 
+-- and it does not move the other value, which nothing goes beyond
+pub outer-limit : {c z : ℤ} → Between (negℤ c) c z → (up : Bool) → outer up (neutral (not up) c) z ≡ neutral (not up) c
+unfolding outer neutral
+outer-limit {c} {z} h false = omega (ints, min-is (negℤ c) z, h .low)
+outer-limit {c} {z} h true = omega (ints, max-is c z, h .high)
+
 module _ {m : Machine} {x y : List ℤ} (wf : ValidNumbers (m .sheet)) (t : Tick m x y) (i : ℕ) (h : i < varsOf m) where
   allowed : (up : Bool) → Beyond up (change up (cap m i) (rowOf m (t .band) i) (numerator (varsOf m) (rowOf m (t .band) i) x (t .used))) (y ! i -ℤ x ! i)
   allowed false = record { order = t .change i h .above }
@@ -99,13 +105,15 @@ unfolding neutral
 neutral-between false c h = record { low = omega (ints, neg c); high = ≤ℤ-refl c }
 neutral-between true c h = record { low = ≤ℤ-refl (negℤ c); high = omega (ints, neg c) }
 
+pub share-between : (up : Bool) (m : Machine) (B : List ℤ) (i k : ℕ) → pos 0 ≤ℤ cap m i → Between (negℤ (cap m i)) (cap m i) (bandRate up m B i k)
+unfolding bandRate
+share-between up m B i k h =
+    cond-one (Between (negℤ (cap m i)) (cap m i)) (bandMet m k B) (change-between up (cap m i) (rowOf m k i) _ h) (neutral-between up (cap m i) h)
+
 -- the outermost of some bands' shares, and so a rate
 pub outermost-between : (up : Bool) (m : Machine) (B : List ℤ) (i n : ℕ) → pos 0 ≤ℤ cap m i → Between (negℤ (cap m i)) (cap m i) (outermost up (neutral up (cap m i)) n (bandRate up m B i))
-unfolding bandRate
 outermost-between up m B i n h =
-    let z = neutral-between up (cap m i) h in
-    outermost-one (Between (negℤ (cap m i)) (cap m i)) up n (bandRate up m B i) z
-    (λ k g. cond-one (Between (negℤ (cap m i)) (cap m i)) (bandMet m k B) (change-between up (cap m i) (rowOf m k i) _ h) z)
+    outermost-one (Between (negℤ (cap m i)) (cap m i)) up n (bandRate up m B i) (neutral-between up (cap m i) h) (λ k g. share-between up m B i k h)
 
 pub rate-between : (up : Bool) (m : Machine) (B : List ℤ) (i : ℕ) → pos 0 ≤ℤ cap m i → Between (negℤ (cap m i)) (cap m i) (rate up m B i)
 unfolding rate

@@ -5,5 +5,5 @@
 // What acts on the motor: the plain law, or a span of commands (document 02, paper 4), of which any one is used at each tick.
 pub enum Law {
     Baseline,
-    Span { least: i32, greatest: i32 },
+    Span { least: i64, greatest: i64 },
 }

@@ -1,13 +1,12 @@
 -- `head` gives what the head of a question says. Assumes nothing.
 use mathlib.Core.Path.{_≡_, ap, _∙_}
 use native.Mathlib.Omega.{arith}
-use lib.IntN.{ℤ}
 use lib.ListN.{drop}
-use mir.Facts.{toZ-ofZ}
 use mir.Syntax.{w32}
 use mir.Val.{SFits}
 use Prim.Native.Nat.{ℕ}
 use borrow.Author.Needs.{needs}
+use Rattle.integers.proofs.Z.{up32, from32}
 use Rattle.sheet_spec.specs.Fields.{i32, decoded}
 use Rattle.machine_spec.specs.declared.Law.the-variants.{Span}
 use Rattle.decision_spec.specs.declared.QuestionKind.{QuestionKind}
@@ -34,7 +33,7 @@ returns at-allowance =
     let greatest-fits : SFits w32 (at-greatest .get-i322 .result) = search needs in
     let greatest-is : at-greatest .get-i322 .result ≡ greatestOf g =
     at-greatest .get-i322 .ensures ∙ ap (λ (at : ℕ). decoded i32 (drop at g)) (at-place .greatest-at .ensures ∙ ap (λ (k : QuestionKind). greatestAt k) (s .pre .0)) in
-    λ t. record { allowance = at-allowance .four .ensures t; law = Span ((toZ-ofZ least-fits ∙ at-least .get-i32 .ensures) t) ((toZ-ofZ greatest-fits ∙ greatest-is) t) }
+    λ t. record { allowance = at-allowance .four .ensures t; law = Span ((from32 least-fits ∙ at-least .get-i32 .ensures) t) ((from32 greatest-fits ∙ greatest-is) t) }
 
 pub head-spec : {M : Type 1} → statement M
-head-spec = tie.close (tie.spec get-i32-requires (λ c κs. search needs) (λ c κs. search needs) four-requires returns)
+head-spec = tie.close (tie.spec get-i32-requires (λ c. search (needs, up32)) (λ c κs. search needs) (λ c κs. search needs) (λ c. search (needs, up32)) four-requires returns)

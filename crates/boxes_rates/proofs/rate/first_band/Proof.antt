@@ -18,10 +18,10 @@ use Rattle.boxes_rates.proofs.rate.first_band.Statement.{statement}
 use Rattle.boxes_rates.proofs.rate.first_band.Tie as tie
 
 abbrev Inv-loop : tie.InvT-loop
-Inv-loop sheet end low at₀ at = BandFrom sheet (toZ w64 low) at
+Inv-loop sheet last low at₀ at = BandFrom sheet (toZ w64 low) at
 
 abbrev μ-loop : tie.MeasureT-loop
-μ-loop sheet end low at₀ at = end - at
+μ-loop sheet last low at₀ at = last - at
 
 loop-holds : tie.Need-loop-holds Inv-loop μ-loop
 loop-holds at-start = record { band = 0; place = refl; among = omega (arith, at-start .pre .0 .bands-low); before = λ k h. absurd (omega arith) }
@@ -34,7 +34,7 @@ module _ (at-loop : tie.At-loop Inv-loop μ-loop) where
   abbrev v : List ℤ
   v = at-start .args .sheet .now
 
-  ends : at-start .args .end ≡ bandSlot (bands v)
+  ends : at-start .args .top + bandSize ≡ bandSlot (bands v)
   ends = at-start .pre .1
 
   next-place : at-loop .loop .at + bandSize ≡ bandSlot (at-loop .loop .inv .band + 1)
@@ -46,14 +46,14 @@ module _ (at-loop : tie.At-loop Inv-loop μ-loop) where
 
 -- the next band starts at or below `low`
 module _ (in-turn : tie.Then1 Inv-loop μ-loop) where
-  abbrev at-test : tie.After-starts-by Inv-loop μ-loop
+  abbrev at-test : tie.After-next-starts-by Inv-loop μ-loop
   at-test = in-turn .before
 
   abbrev turn-loop : tie.At-loop Inv-loop μ-loop
   turn-loop = at-test .before
 
   starts : (turn-loop .loop .inv .band + 1 < bands (v turn-loop)) × (edge (v turn-loop) (turn-loop .loop .inv .band + 1) ≤ℤ at-start turn-loop .args .low)
-  starts = starts-yes (v turn-loop) _ _ (next-place turn-loop) (ends turn-loop) (sym (rw (toZ-ofZ (at-start turn-loop .fits .low)) at (at-test .starts-by .ensures)) ∙ in-turn .if1 .taken)
+  starts = starts-yes (v turn-loop) _ _ _ (turn-loop .loop .inv .place) (ends turn-loop) (sym (rw (toZ-ofZ (at-start turn-loop .fits .low)) at (at-test .next-starts-by .ensures)) ∙ in-turn .if1 .taken)
 
 loop-less : tie.Need-loop-less Inv-loop μ-loop
 loop-less in-turn =
@@ -79,7 +79,7 @@ returns at-return =
     let low-is = toZ-ofZ (at-start l .fits .low) in
     record {
       from = rw low-is at inv;
-      next = starts-no (v l) _ _ (next-place l) (ends l) (sym (rw low-is at (at-test .starts-by .ensures)) ∙ at-return .if1 .left);
+      next = starts-no (v l) _ _ _ (inv .place) (ends l) (sym (rw low-is at (at-test .next-starts-by .ensures)) ∙ at-return .if1 .left);
     }
 
 pub first-band-spec : {M : Type 1} → statement M
@@ -89,7 +89,6 @@ first-band-spec =
     Inv-loop
     μ-loop
     loop-holds
-    (λ at-loop. omega (arith, near at-loop))
     (λ at-loop κs. omega (arith, ends at-loop, at-start at-loop .pre .0 .bands-high))
     (λ in-turn. omega (arith, near (turn-loop in-turn)))
     loop-less

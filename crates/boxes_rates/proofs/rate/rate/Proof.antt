@@ -1,10 +1,11 @@
--- `rate` gives the outermost over all bands, each over the part of the box that lies in it, and puts the two sides that are cut back.
+-- `rate` gives the outermost over all bands, each over the part of the box that lies in it, and puts the two sides that are cut back. It is
+-- done where the outermost is the cap.
 -- Invariant: the band at the slot is met; the outermost is that of the bands before it; the box is cut to it but for its upper side.
 -- Measure: the slots left. Assumes nothing.
 use mathlib.Core.Path.{_≡_, sym, ap, _∙_}
-use mathlib.Core.Bool.{Bool, true, false}
+use mathlib.Core.Bool.{Bool, true, false, not}
 use mathlib.Core.List.{List}
-use Prim.Native.Nat.{ℕ, _+_, _-_, _≤_, _<_}
+use Prim.Native.Nat.{ℕ, _+_, _*_, _-_, _≤_, _<_}
 use native.Mathlib.Nat.{zero-add}
 use native.Mathlib.Omega.{arith}
 use lib.IntN.{ℤ, pos, _+ℤ_, _-ℤ_}
@@ -16,7 +17,8 @@ use mir.Val.{SFits, toZ, ofZ}
 use borrow.Author.Needs.{needs}
 use Rattle.integers.specs.Bound.{Bound}
 use Rattle.integers.proofs.Z.{ints, sum as plus, sub, told, up32, bound-of, bound-sub, bound-lit, fits64}
-use Rattle.sheet_spec.specs.Slots.{_!_, N, bandSize, bandSlot, slots, bands, bandVar, cap, edge}
+use Rattle.sheet_spec.specs.Slots.{_!_, N, capSlot, bandSize, bandSlot, slots, bands, bandVar, cap, edge}
+use Rattle.sheet_spec.specs.Limits.{maxCap}
 use Rattle.sheet_spec.specs.Box.{lo, hi}
 use Rattle.machine_spec.specs.Machine.{Machine, machine, rowOf, change}
 use Rattle.machine_spec.specs.Rate.{outer, outermost, cutToBand, part, rowOver, neutral, bandRate, rate}
@@ -29,7 +31,7 @@ use Rattle.machine_spec.proofs.Ranges.{sized-less, sized-as, sized-part, above-
 use Rattle.machine_spec.proofs.Sound.{outermost-between}
 use Rattle.boxes_rates.specs.Limits.{BandAsked, RowRated, RateAsked}
 use Rattle.boxes_rates.specs.Plant.{FirstBand}
-use Rattle.boxes_rates.proofs.Parts.{starts-yes, starts-no, first-starts, first-met, next-met, unmet-before, unmet-behind, share-met, unmet-stays, Cutting, cutting-starts, cutting-part, cutting-on, cutting-ends}
+use Rattle.boxes_rates.proofs.Parts.{starts-yes, starts-no, first-starts, first-met, next-met, unmet-before, unmet-behind, share-met, unmet-stays, limit-stays, Cutting, cutting-starts, cutting-part, cutting-on, cutting-undone, cutting-ends}
 use Rattle.boxes_rates.proofs.Rates.{outermost-more}
 use Rattle.boxes_rates.proofs.rate.rate.Statement.{statement}
 use Rattle.boxes_rates.proofs.rate.rate.Tie as tie
@@ -44,11 +46,11 @@ record Invariant (m : Machine) (B : List ℤ) (up : Bool) (i : ℕ) (O : List �
   so-far : z ≡ outermost up (neutral up (cap (m .sheet) i)) band (bandRate up m B i)
 
 abbrev Inv-loop : tie.InvT-loop
-Inv-loop up plant sheet over₀ i lower upper low high slot end outermost₀ band₀ over outermost band =
+Inv-loop up plant sheet over₀ i lower upper low high slot cap₀ last outermost₀ band₀ over outermost band =
     Invariant (machine sheet (plant .law)) over₀ up i over (toZ w64 outermost) band
 
 abbrev μ-loop : tie.MeasureT-loop
-μ-loop up plant sheet over₀ i lower upper low high slot end outermost₀ band₀ over outermost band = end - band
+μ-loop up plant sheet over₀ i lower upper low high slot cap₀ last outermost₀ band₀ over outermost band = last - band
 
 -- what is asked, as it is used
 module _ (at-start : tie.Start Inv-loop μ-loop) where
@@ -77,13 +79,22 @@ module _ (at-start : tie.Start Inv-loop μ-loop) where
   low-enough : edge v 0 ≤ℤ lo B (bandVar v)
   low-enough = above-first (asked .plant .sheet) (asked .sides .near)
 
-  ends : bandSlot (at-start .args .plant .bands) ≡ bandSlot (bands v)
-  ends = ap bandSlot (asked .plant .bands)
+  ends : bandSlot 0 + (at-start .args .plant .bands - 1) * bandSize + bandSize ≡ bandSlot (bands v)
+  ends = omega (arith, asked .plant .bands, asked .plant .sheet .bands-low)
+
+-- the variable's cap, as it is read
+module _ (at-cap : tie.After-cap Inv-loop μ-loop) where
+  abbrev capped : tie.Start Inv-loop μ-loop
+  capped = at-cap .before .before .before
+
+  cap-is : toZ w64 (ofZ w64 (toZ w32 (ofZ w32 (v capped ! capSlot (capped .args .i))))) ≡ cap (v capped) (capped .args .i)
+  cap-is = wide _ (at-cap .cap .given)
+
+  cap-small : Bound (toZ w64 (ofZ w64 (toZ w32 (ofZ w32 (v capped ! capSlot (capped .args .i)))))) maxCap
+  cap-small = rw cap-is (cap-near (asked capped .plant .sheet) (capped .args .i) (asked capped .var))
 
 neutral-requires : tie.Need-neutral-requires Inv-loop μ-loop
-neutral-requires at-cap κs =
-    let at-start = at-cap .before .before .before .before in
-    simp (wide, at-cap .neutral-arg .given) (cap-near (asked at-start .plant .sheet) (at-start .args .i) (asked at-start .var))
+neutral-requires known κs = cap-small (known .before)
 
 first-band-requires : tie.Need-first-band-requires Inv-loop μ-loop
 first-band-requires at-neutral κs =
@@ -121,8 +132,8 @@ loop-holds at-first =
       so-far =
           toZ-ofZ neutral-fits
           ∙ (at-neutral .neutral .ensures
-          ∙ simp (wide, at-neutral .before .neutral-arg .given)
-          (sym (rw (zero-add (first .from .band)) at (unmet-stays (M at-start) (B at-start) (at-start .args .up) (at-start .args .i) (cap-low (asked at-start .plant .sheet) (at-start .args .i) (asked at-start .var)) 0 (first .from .band)
+          ∙ ap (neutral (at-start .args .up)) (cap-is (at-neutral .before .before))
+          ∙ (sym (rw (zero-add (first .from .band)) at (unmet-stays (M at-start) (B at-start) (at-start .args .up) (at-start .args .i) (cap-low (asked at-start .plant .sheet) (at-start .args .i) (asked at-start .var)) 0 (first .from .band)
           (λ j h. rw (zero-add j) (unmet-before first j h))))));
     }
 
@@ -183,14 +194,14 @@ module _ (at-loop : tie.At-loop Inv-loop μ-loop) where
 
 -- the next band is met too
 module _ (in-turn : tie.Then1 Inv-loop μ-loop) where
-  abbrev at-test : tie.After-starts-by Inv-loop μ-loop
+  abbrev at-test : tie.After-next-starts-by Inv-loop μ-loop
   at-test = in-turn .before
 
   abbrev turn : tie.At-loop Inv-loop μ-loop
   turn = at-test .before
 
   starts : (k turn + 1 < bands (v (entry turn))) × (edge (v (entry turn)) (k turn + 1) ≤ℤ hi (B (entry turn)) (bandVar (v (entry turn))))
-  starts = starts-yes (v (entry turn)) _ _ (next-place turn) (ends (entry turn)) (sym (rw (high-is (at-high turn)) at (at-test .starts-by .ensures)) ∙ in-turn .if1 .taken)
+  starts = starts-yes (v (entry turn)) _ _ _ (turn .loop .inv .place) (ends (entry turn)) (sym (rw (high-is (at-high turn)) at (at-test .next-starts-by .ensures)) ∙ in-turn .if1 .taken)
 
 -- its edge is read
 module _ (at-edge : tie.After-last Inv-loop μ-loop) where
@@ -234,15 +245,50 @@ module _ (at-edge : tie.After-last Inv-loop μ-loop) where
 row-rate-requires : tie.Need-row-rate-requires Inv-loop μ-loop
 row-rate-requires at-arg κs = row-asked (here (at-arg .before)) (end-is (at-arg .before))
 
+-- the row of the band is taken in, and no further one may be needed
+module _ (at-row : tie.After-row-rate Inv-loop μ-loop) where
+  abbrev edged : tie.After-last Inv-loop μ-loop
+  edged = at-row .before .before
+
+  abbrev there : tie.At-loop Inv-loop μ-loop
+  there = here edged
+
+  abbrev cap-read : tie.After-cap Inv-loop μ-loop
+  cap-read = there .before .before .before .before
+
+neutral-requires-2 : tie.Need-neutral-requires-2 Inv-loop μ-loop
+neutral-requires-2 at-row κs = cap-small (cap-read at-row)
+
+-- the outermost is the cap
+returns : tie.Need-returns Inv-loop μ-loop
+unfolding rate
+returns capped-here =
+    let at-limit = capped-here .before in
+    let at-row = at-limit .before in
+    let l = there at-row in
+    let at-start = entry l in
+    let a = at-start .args in
+    let low = cap-low (asked at-start .plant .sheet) (a .i) (asked at-start .var) in
+    let row-fits : SFits w64 (at-row .row-rate .result) = search needs in
+    let limit-fits : SFits w64 (at-limit .neutral2 .result) = search needs in
+    let is-limit : at-row .row-rate .result ≡ neutral (not (a .up)) (cap (v at-start) (a .i)) =
+    sym (toZ-ofZ row-fits) ∙ ap (toZ w64) (capped-here .if2 .taken) ∙ toZ-ofZ limit-fits ∙ at-limit .neutral2 .ensures ∙ ap (neutral (not (a .up))) (cap-is (cap-read at-row)) in
+    let so-far = rated l (end-is (edged at-row)) (at-row .row-rate .ensures) in
+    let all : k l + 1 + (bands (v at-start) - (k l + 1)) ≡ bands (v at-start) = omega (arith, l .loop .inv .among) in (
+      toZ-ofZ row-fits ∙ (is-limit ∙ sym (rw all at (limit-stays (M at-start) (B at-start) (a .up) (a .i) low (k l + 1) (bands (v at-start) - (k l + 1)) (sym so-far ∙ is-limit)))),
+      cutting-undone (M at-start) (k l) (B at-start) (var-is at-start) (room at-start) (part-is l (end-is (edged at-row))) (low-is (at-high l)) (high-is (at-high l)),
+    )
+
 loop-less : tie.Need-loop-less Inv-loop μ-loop
-loop-less at-row =
-    let at-edge = at-row .before .before in
+loop-less below =
+    let at-edge = edged (below .before .before) in
     let l = here at-edge in
     omega (arith, starts (in-turn at-edge) .0, l .loop .inv .place, asked (entry l) .plant .bands)
 
 loop-again : tie.Need-loop-again Inv-loop μ-loop
-loop-again at-row =
-    let at-edge = at-row .before .before in
+loop-again below =
+    let at-row = below .before .before in
+    let at-edge = edged at-row in
     let l = here at-edge in
     let at-start = entry l in
     let wf = asked at-start .plant .sheet in
@@ -259,14 +305,14 @@ loop-again at-row =
 
 -- no further band is met
 module _ (at-last : tie.Else1 Inv-loop μ-loop) where
-  abbrev test : tie.After-starts-by Inv-loop μ-loop
+  abbrev test : tie.After-next-starts-by Inv-loop μ-loop
   test = at-last .before
 
   abbrev last : tie.At-loop Inv-loop μ-loop
   last = test .before
 
   none-next : k last + 1 < bands (v (entry last)) → hi (B (entry last)) (bandVar (v (entry last))) <ℤ edge (v (entry last)) (k last + 1)
-  none-next = starts-no (v (entry last)) _ _ (next-place last) (ends (entry last)) (sym (rw (high-is (at-high last)) at (test .starts-by .ensures)) ∙ at-last .if1 .left)
+  none-next = starts-no (v (entry last)) _ _ _ (last .loop .inv .place) (ends (entry last)) (sym (rw (high-is (at-high last)) at (test .next-starts-by .ensures)) ∙ at-last .if1 .left)
 
   -- the upper side that is put back is the part's
   last-is : toZ w64 (ofZ w64 (B (entry last) ! (entry last .args .plant .var + N))) ≡ cutToBand true (M (entry last)) (k last) (hi (B (entry last)) (bandVar (v (entry last))))
@@ -275,9 +321,9 @@ module _ (at-last : tie.Else1 Inv-loop μ-loop) where
 row-rate-requires-2 : tie.Need-row-rate-requires-2 Inv-loop μ-loop
 row-rate-requires-2 at-arg κs = row-asked (last (at-arg .before)) (last-is (at-arg .before))
 
-returns : tie.Need-returns Inv-loop μ-loop
+returns-2 : tie.Need-returns-2 Inv-loop μ-loop
 unfolding rate
-returns at-row =
+returns-2 at-row =
     let at-last = at-row .before .before in
     let l = last at-last in
     let at-start = entry l in
@@ -305,13 +351,13 @@ rate-spec =
     (λ c. search needs)
     (λ c. search needs)
     (λ c. search needs)
-    (λ c. search needs)
-    (λ c. search needs)
     (λ c. search (needs, up32))
+    (λ c. let s = start (c .before .before) in omega (arith, asked s .plant .bands, asked s .plant .sheet .bands-low))
+    (λ c. search needs)
+    (λ c. search needs)
     neutral-requires
     first-band-requires
     loop-holds
-    (λ at-loop. omega (arith, near at-loop))
     (λ at-loop κs. omega (arith, ends (entry at-loop), asked (entry at-loop) .plant .sheet .bands-high))
     (λ in-turn. omega (arith, near (turn in-turn)))
     (λ in-turn. omega (arith, near (turn in-turn)))
@@ -321,9 +367,15 @@ rate-spec =
     (λ at-edge. omega (arith, room (entry (here at-edge))))
     (λ at-edge. omega (arith, room (entry (here at-edge))))
     row-rate-requires
-    (λ at-row. let at-edge = at-row .before .before in rw (one-more at-edge) (edge-fits at-edge))
-    (λ at-row. omega (arith, room (entry (here (at-row .before .before)))))
-    (λ at-row. omega (arith, room (entry (here (at-row .before .before)))))
+    neutral-requires-2
+    (λ capped-here. omega (arith, room (entry (there (capped-here .before .before)))))
+    (λ capped-here. omega (arith, room (entry (there (capped-here .before .before)))))
+    (λ capped-here. omega (arith, room (entry (there (capped-here .before .before)))))
+    (λ capped-here. omega (arith, room (entry (there (capped-here .before .before)))))
+    returns
+    (λ below. let at-edge = edged (below .before .before) in rw (one-more at-edge) (edge-fits at-edge))
+    (λ below. omega (arith, room (entry (there (below .before .before)))))
+    (λ below. omega (arith, room (entry (there (below .before .before)))))
     loop-less
     loop-again
     (λ at-last. omega (arith, room (entry (last at-last))))
@@ -331,4 +383,4 @@ rate-spec =
     row-rate-requires-2
     (λ at-row. omega (arith, room (entry (last (at-row .before .before)))))
     (λ at-row. omega (arith, room (entry (last (at-row .before .before)))))
-    returns)
+    returns-2)

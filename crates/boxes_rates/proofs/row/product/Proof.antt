@@ -12,13 +12,10 @@ use Rattle.boxes_rates.proofs.row.product.Tie as tie
 
 module _ (at-start : tie.Start) where
   near : Bound (at-start .args .coefficient *ℤ at-start .args .command) termLimit
-  near = bound-mul (bound-of (at-start .fits .coefficient)) (bound-of (at-start .fits .command))
+  near = bound-mul (bound-of (at-start .fits .coefficient)) (at-start .pre)
 
   coefficient-fits : SFits w64 (at-start .args .coefficient)
   coefficient-fits = up32 (at-start .fits .coefficient)
-
-  command-fits : SFits w64 (at-start .args .command)
-  command-fits = up32 (at-start .fits .command)
 
   product-fits : SFits w64 (at-start .args .coefficient *ℤ at-start .args .command)
   product-fits = fits64 near tt
@@ -26,18 +23,15 @@ module _ (at-start : tie.Start) where
 cast-result : tie.Need-cast-result
 cast-result at-start = simp (toZ-ofZ, at-start .fits .coefficient) (coefficient-fits at-start)
 
-cast-result-2 : tie.Need-cast-result-2
-cast-result-2 at-start = simp (toZ-ofZ, at-start .fits .command) (command-fits at-start)
-
 mul-result : tie.Need-mul-result
 mul-result at-start =
     let fits = at-start .fits in
-    simp (toZ-ofZ, fits .coefficient, fits .command, coefficient-fits at-start, command-fits at-start) (product-fits at-start)
+    simp (toZ-ofZ, fits .coefficient, fits .command, coefficient-fits at-start) (product-fits at-start)
 
 returns : tie.Need-returns
 returns at-start =
     let fits = at-start .fits in
-    simp (toZ-ofZ, fits .coefficient, fits .command, coefficient-fits at-start, command-fits at-start, product-fits at-start) (refl, near at-start)
+    simp (toZ-ofZ, fits .coefficient, fits .command, coefficient-fits at-start, product-fits at-start) (refl, near at-start)
 
 pub product-spec : {M : Type 1} → statement M
-product-spec = tie.close (tie.spec cast-result cast-result-2 mul-result returns)
+product-spec = tie.close (tie.spec cast-result mul-result returns)
