@@ -3,13 +3,13 @@
 // only where the cap does not clamp). The definitions are in integers/specs/Division, machine_spec/specs/Machine and
 // machine_spec/specs/Rate, the law that makes comparisons of the clamp in machine_spec/specs/Clamped.
 ghost use mathlib.Core.Path.{_≡_};
-ghost use mathlib.Core.Bool.{_&&_};
+ghost use mathlib.Core.Bool.{true, not, _&&_};
 ghost use lib.IntN.{natAbs, negℤ, _*ℤ_};
 ghost use lib.Signed.{leZ, _<ℤ_};
 ghost use Rattle.integers.specs.Order.{minZ, maxZ};
 ghost use Rattle.integers.specs.Division.{ceilDiv, floorDiv};
 ghost use Rattle.machine_spec.specs.Machine.{clamp};
-ghost use Rattle.machine_spec.specs.Rate.{outer};
+ghost use Rattle.machine_spec.specs.Rate.{neutral, outer};
 ghost use Rattle.boxes_arithmetic.specs.Limits.{CapAsked, DivisionAsked, QuotientAsked};
 ghost use Rattle.boxes_arithmetic.specs.Outward.{noFurther, outwardDiv};
 
@@ -51,29 +51,47 @@ pub fn ceil_div(cap: i64, dividend: i64, divisor: i64) -> i64
     -floor_div(cap, -dividend, divisor)
 }
 
+// The outermost change so far, and whether it is known to be the cap, beyond which no change goes.
+pub struct Outermost {
+    pub change: i64,
+    pub capped: bool,
+}
+
 // The quotient, rounded down and clamped, of a dividend below divisor·cap.
-fn clamped_floor(cap: i64, dividend: i64, divisor: i64) -> i64
+fn clamped_floor(cap: i64, dividend: i64, divisor: i64) -> Outermost
     requires { ⌜ CapAsked cap divisor × (dividend <ℤ (divisor *ℤ cap)) ⌝ }
-    ensures { λ r. ⌜ r ≡ clamp cap (floorDiv dividend (natAbs divisor)) ⌝ }
+    ensures { λ r. ⌜ (r .change ≡ clamp cap (floorDiv dividend (natAbs divisor))) × (r .capped ≡ true → r .change ≡ negℤ cap) ⌝ }
 {
     let least = -(divisor * cap);
     if least < dividend {
-        floor_div(cap, dividend, divisor)
+        Outermost {
+            change: floor_div(cap, dividend, divisor),
+            capped: false,
+        }
     } else {
-        -cap
+        Outermost {
+            change: -cap,
+            capped: true,
+        }
     }
 }
 
 // The quotient, rounded up and clamped, of a dividend above −divisor·cap.
-fn clamped_ceil(cap: i64, dividend: i64, divisor: i64) -> i64
+fn clamped_ceil(cap: i64, dividend: i64, divisor: i64) -> Outermost
     requires { ⌜ CapAsked cap divisor × (negℤ (divisor *ℤ cap) <ℤ dividend) ⌝ }
-    ensures { λ r. ⌜ r ≡ clamp cap (ceilDiv dividend (natAbs divisor)) ⌝ }
+    ensures { λ r. ⌜ (r .change ≡ clamp cap (ceilDiv dividend (natAbs divisor))) × (r .capped ≡ true → r .change ≡ cap) ⌝ }
 {
     let most = divisor * cap;
     if dividend < most {
-        ceil_div(cap, dividend, divisor)
+        Outermost {
+            change: ceil_div(cap, dividend, divisor),
+            capped: false,
+        }
     } else {
-        cap
+        Outermost {
+            change: cap,
+            capped: true,
+        }
     }
 }
 
@@ -86,12 +104,15 @@ fn no_further(up: bool, z: i64, x: i64) -> bool
 
 // The outer one of the outermost so far and of the quotient, rounded outward and clamped by the cap. A dividend is divided only if it is
 // strictly between −divisor·cap and divisor·cap, and its quotient further out than the outermost so far.
-pub fn outer_quotient(up: bool, cap: i64, dividend: i64, divisor: i64, outermost: i64) -> i64
+pub fn outer_quotient(up: bool, cap: i64, dividend: i64, divisor: i64, outermost: i64) -> Outermost
     requires { ⌜ QuotientAsked cap divisor outermost ⌝ }
-    ensures { λ r. ⌜ r ≡ outer up outermost (clamp cap (outwardDiv up dividend (natAbs divisor))) ⌝ }
+    ensures { λ r. ⌜ (r .change ≡ outer up outermost (clamp cap (outwardDiv up dividend (natAbs divisor)))) × (r .capped ≡ true → r .change ≡ neutral (not up) cap) ⌝ }
 {
     if no_further(up, outermost * divisor, dividend) {
-        return outermost;
+        return Outermost {
+            change: outermost,
+            capped: false,
+        };
     }
     // The outermost so far lies within the cap: so an upper face's dividend is above −divisor·cap, a lower face's below divisor·cap.
     if up {

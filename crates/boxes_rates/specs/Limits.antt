@@ -1,6 +1,6 @@
 -- How far the numbers go that the code is given, what it asks of its caller, and what it promises.
 use mathlib.Core.Path.{_≡_}
-use mathlib.Core.Bool.{Bool, true, false, cond}
+use mathlib.Core.Bool.{Bool, true, false, cond, not}
 use mathlib.Core.List.{List}
 use Prim.Native.Nat.{ℕ, _+_, _*_, _≤_, _<_}
 use lib.IntN.{ℤ, pos, negℤ, _*ℤ_}
@@ -14,7 +14,8 @@ use Rattle.machine_spec.specs.Box.{side, Near, Ordered, Sized, within}
 use Rattle.machine_spec.specs.declared.Law.{Law}
 use Rattle.machine_spec.specs.Accepted.{Lawful}
 use Rattle.machine_spec.specs.Machine.{Machine, rowOf, change}
-use Rattle.machine_spec.specs.Rate.{bound, offeredOver, outer, rowOver}
+use Rattle.machine_spec.specs.Rate.{bound, neutral, offeredOver, outer, rowOver}
+use Rattle.boxes_arithmetic.specs.declared.Outermost.{Outermost}
 use Rattle.boxes_arithmetic.specs.Limits.{Capped, limit, word}
 use Rattle.boxes_rates.specs.declared.Plant.{Plant}
 use Rattle.boxes_rates.specs.Plant.{Describes}
@@ -90,9 +91,10 @@ pub record BandAsked (p : Plant) (v B : List ℤ) (i at : ℕ) (z : ℤ) : Type 
   pub among : band < bands v
   pub between : Between (negℤ (cap v i)) (cap v i) z
 
--- x is the outer one of z and of that change in the band k at the slot
-pub record RowRated (up : Bool) (m : Machine) (B : List ℤ) (i at : ℕ) (z x : ℤ) : Type 0 where
-  pub same : (k : ℕ) → at ≡ bandSlot k → x ≡ outer up z (change up (cap (m .sheet) i) (rowOf m k i) (rowOver up m B i k))
+-- r is the outer one of z and of that change in the band k at the slot, and where it says so it is the cap, beyond which nothing goes
+pub record RowRated (up : Bool) (m : Machine) (B : List ℤ) (i at : ℕ) (z : ℤ) (r : Outermost) : Type 0 where
+  pub same : (k : ℕ) → at ≡ bandSlot k → r .change ≡ outer up z (change up (cap (m .sheet) i) (rowOf m k i) (rowOver up m B i k))
+  pub limit : r .capped ≡ true → r .change ≡ neutral (not up) (cap (m .sheet) i)
 
 -- ---- a rate over a box
 

@@ -14,6 +14,7 @@ use crate::row::bound;
 use crate::row::further;
 use crate::row::product;
 use crate::row::span_term;
+use boxes_arithmetic::Outermost;
 use boxes_arithmetic::max;
 use boxes_arithmetic::min;
 use boxes_arithmetic::outer;
@@ -92,7 +93,7 @@ fn row_rate(
     i: usize,
     band: usize,
     outermost: i64,
-) -> i64
+) -> Outermost
     requires { ⌜ BandAsked plant (now sheet) (now over) i band outermost ⌝ }
     ensures { λ r. ⌜ RowRated up (machine (now (sheet .entry)) (plant .law)) (now (over .entry)) i band outermost r ⌝ }
 {
@@ -116,18 +117,18 @@ fn rate(up: bool, plant: Plant, sheet: &[i32; SLOTS], over: &mut [i64; BOX_SIZE]
     let low = over[lower];
     let high = over[upper];
     let slot = FIRST_CAP + i;
-    let cap = sheet[slot] as i64;
     let top = FIRST_BAND + (plant.bands - 1) * BAND_SIZE;
-    let mut outermost = neutral(up, cap);
+    let mut outermost = neutral(up, sheet[slot] as i64);
     let mut band = first_band(sheet, top, low);
     // while the next band is met too
     while next_starts_by(sheet, top, band, high) {
         let next = band + BAND_SIZE;
         let last = (sheet[next] as i64) - 1;
         over[upper] = last;
-        outermost = row_rate(up, plant, sheet, over, i, band, outermost);
+        let rated = row_rate(up, plant, sheet, over, i, band, outermost);
+        outermost = rated.change;
         // no change goes beyond the cap
-        if outermost == neutral(!up, cap) {
+        if rated.capped {
             over[upper] = high;
             over[lower] = low;
             return outermost;
@@ -137,9 +138,9 @@ fn rate(up: bool, plant: Plant, sheet: &[i32; SLOTS], over: &mut [i64; BOX_SIZE]
     }
     // the last part ends with the box
     over[upper] = high;
-    outermost = row_rate(up, plant, sheet, over, i, band, outermost);
+    let rated = row_rate(up, plant, sheet, over, i, band, outermost);
     over[lower] = low;
-    outermost
+    rated.change
 }
 
 // The place of the side that a face's neighborhood cuts: the other face's.

@@ -2,6 +2,7 @@
 // allowed change that comes of it. A face is `false` for a lower and `true` for an upper one. The definitions are in
 // machine_spec/specs/Machine and machine_spec/specs/Rate.
 ghost use mathlib.Core.Path.{_≡_};
+ghost use mathlib.Core.Bool.{true, not};
 ghost use Prim.Native.Nat.{_*_, _<_};
 ghost use lib.IntN.{_*ℤ_};
 ghost use lib.Signed.{_≤ℤ_};
@@ -9,9 +10,10 @@ ghost use Rattle.integers.specs.Bound.{Bound};
 ghost use Rattle.sheet_spec.specs.Slots as slots;
 ghost use Rattle.sheet_spec.specs.Box.{lo, hi};
 ghost use Rattle.machine_spec.specs.Machine.{change};
-ghost use Rattle.machine_spec.specs.Rate.{outer, weighted};
+ghost use Rattle.machine_spec.specs.Rate.{neutral, outer, weighted};
 ghost use Rattle.boxes_arithmetic.specs.Limits.{limit, word};
 ghost use Rattle.boxes_rates.specs.Limits.{ChangeAsked, RowAsked, RowBounded, TermAsked, outerEnd, outerPlace, termLimit};
+use boxes_arithmetic::Outermost;
 use boxes_arithmetic::outer_quotient;
 use sheet_spec::slots::BOX_SIZE;
 use sheet_spec::slots::N;
@@ -111,9 +113,9 @@ pub fn further(
     row: usize,
     number: i64,
     outermost: i64,
-) -> i64
+) -> Outermost
     requires { ⌜ ChangeAsked cap (now sheet) row number outermost ⌝ }
-    ensures { λ r. ⌜ r ≡ outer up outermost (change up cap (slots.rowAt (now (sheet .entry)) row) number) ⌝ }
+    ensures { λ r. ⌜ (r .change ≡ outer up outermost (change up cap (slots.rowAt (now (sheet .entry)) row) number)) × (r .capped ≡ true → r .change ≡ neutral (not up) cap) ⌝ }
 {
     let spread_slot = row + ROW_D;
     let divisor_slot = row + ROW_Q;

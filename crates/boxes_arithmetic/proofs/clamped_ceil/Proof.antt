@@ -1,6 +1,7 @@
 -- `clamped_ceil` compares the dividend with divisor·cap: at or above it the clamped ceiling is the cap, below it the ceiling. Assumes
 -- nothing.
-use mathlib.Core.Path.{_≡_, _∙_}
+use mathlib.Core.Path.{_∙_}
+use mathlib.Core.Bool.{false≢true}
 use mir.Facts.{toZ-ofZ}
 use mir.Syntax.{w64}
 use mir.Val.{SFits}
@@ -55,9 +56,11 @@ returns : tie.Need-returns
 returns at-return =
     let at-then = at-return .before in
     let fits = at-then .before .fits in
-    let quotient-fits : SFits w64 (at-return .ceil-div .result) = search needs in
-    rw (compared (at-then .before) .between (division at-then .above) (division at-then .below))
-    (toZ-ofZ quotient-fits ∙ (at-return .ceil-div .ensures ∙ simp (toZ-ofZ, fits .dividend, fits .divisor)))
+    let quotient-fits : SFits w64 (at-return .ceil-div .result) = search needs in (
+      rw (compared (at-then .before) .between (division at-then .above) (division at-then .below))
+          (toZ-ofZ quotient-fits ∙ (at-return .ceil-div .ensures ∙ simp (toZ-ofZ, fits .dividend, fits .divisor))),
+      λ e. absurd (false≢true e),
+    )
 
 -- the cap
 returns-2 : tie.Need-returns-2
@@ -65,7 +68,7 @@ returns-2 at-else =
     let at-start = at-else .before in
     let fits = at-start .fits in
     let high = simp (toZ-ofZ, fits .dividend, fits .divisor, fits .cap, most-fits at-start) at (at-else .if1 .left) in
-    rw (compared at-start .high (lt-false _ _ high)) (toZ-ofZ (fits .cap))
+    (rw (compared at-start .high (lt-false _ _ high)) (toZ-ofZ (fits .cap)), λ e. toZ-ofZ (fits .cap))
 
 pub clamped-ceil-spec : {M : Type 1} → statement M
 clamped-ceil-spec = tie.close (tie.spec mul-most ceil-div-requires returns returns-2)

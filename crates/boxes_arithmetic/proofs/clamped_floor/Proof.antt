@@ -1,5 +1,6 @@
 -- `clamped_floor` compares the dividend with −divisor·cap: at or below it the clamped floor is −cap, above it the floor. Assumes nothing.
-use mathlib.Core.Path.{_≡_, _∙_}
+use mathlib.Core.Path.{_∙_}
+use mathlib.Core.Bool.{false≢true}
 use mir.Facts.{toZ-ofZ}
 use mir.Syntax.{w64}
 use mir.Val.{SFits}
@@ -59,7 +60,7 @@ floor-div-requires at-then κs =
     let fits = at-then .before .fits in
     simp (toZ-ofZ, fits .cap, fits .dividend, fits .divisor) (division at-then)
 
-sub-result : tie.Need-sub-result
+sub-result : tie.Need-sub-t9
 sub-result at-else = simp (toZ-ofZ, at-else .before .fits .cap) (simp flat (omega (ints, cap-bound (asked (at-else .before)) .at-most)))
 
 -- the quotient
@@ -67,9 +68,11 @@ returns : tie.Need-returns
 returns at-return =
     let at-then = at-return .before in
     let fits = at-then .before .fits in
-    let quotient-fits : SFits w64 (at-return .floor-div .result) = search needs in
-    rw (compared (at-then .before) .between (division at-then .above) (division at-then .below))
-    (toZ-ofZ quotient-fits ∙ (at-return .floor-div .ensures ∙ simp (toZ-ofZ, fits .dividend, fits .divisor)))
+    let quotient-fits : SFits w64 (at-return .floor-div .result) = search needs in (
+      rw (compared (at-then .before) .between (division at-then .above) (division at-then .below))
+          (toZ-ofZ quotient-fits ∙ (at-return .floor-div .ensures ∙ simp (toZ-ofZ, fits .dividend, fits .divisor))),
+      λ e. absurd (false≢true e),
+    )
 
 -- −cap
 returns-2 : tie.Need-returns-2
@@ -77,7 +80,7 @@ returns-2 at-else =
     let at-start = at-else .before in
     let fits = at-start .fits in
     let low = simp (toZ-ofZ, fits .dividend, fits .divisor, fits .cap, most-fits at-start, zero-less, least-fits at-start) at (at-else .if1 .left) in
-    rw (compared at-start .low (lt-false _ _ low)) (simp (toZ-ofZ, fits .cap, zero-less, neg-fits at-start))
+    (rw (compared at-start .low (lt-false _ _ low)) (simp (toZ-ofZ, fits .cap, zero-less, neg-fits at-start)), λ e. simp (toZ-ofZ, fits .cap, zero-less, neg-fits at-start))
 
 pub clamped-floor-spec : {M : Type 1} → statement M
 clamped-floor-spec = tie.close (tie.spec mul-least sub-least floor-div-requires sub-result returns returns-2)

@@ -1,15 +1,15 @@
 -- `outer_quotient` gives the outermost so far where the dividend is no further out than that times the divisor, and the clamped quotient
 -- elsewhere. Assumes nothing.
 use mathlib.Core.Path.{_≡_, sym, ap, _∙_, subst}
-use mathlib.Core.Bool.{Bool, false}
+use mathlib.Core.Bool.{Bool, false, not, false≢true}
 use mir.Facts.{toZ-ofZ}
 use mir.Syntax.{w64}
 use mir.Val.{SFits}
-use lib.IntN.{ℤ, natAbs, _*ℤ_}
+use lib.IntN.{ℤ, negℤ, natAbs, _*ℤ_}
 use borrow.Author.Needs.{needs}
 use Rattle.integers.proofs.Z.{le-false, bound-mul, fits64}
 use Rattle.machine_spec.specs.Machine.{clamp}
-use Rattle.machine_spec.specs.Rate.{outer}
+use Rattle.machine_spec.specs.Rate.{neutral, outer}
 use Rattle.boxes_arithmetic.specs.Limits.{CapAsked, Capped}
 use Rattle.boxes_arithmetic.specs.Outward.{noFurther, outwardDiv}
 use Rattle.boxes_arithmetic.proofs.Bounds.{between-bound}
@@ -50,9 +50,11 @@ said at-test =
 returns : tie.Need-returns
 returns at-return =
     let at-start = at-return .before .before in
-    let a = at-start .args in
-    toZ-ofZ (at-start .fits .outermost)
-    ∙ outer-stays (a .up) (a .cap) (z at-start) (x at-start) (q at-start) (capped at-start) (at-start .pre .divisor .low) (sym (said (at-return .before)) ∙ at-return .if1 .taken)
+    let a = at-start .args in (
+      toZ-ofZ (at-start .fits .outermost)
+          ∙ outer-stays (a .up) (a .cap) (z at-start) (x at-start) (q at-start) (capped at-start) (at-start .pre .divisor .low) (sym (said (at-return .before)) ∙ at-return .if1 .taken),
+      λ e. absurd (false≢true e),
+    )
 
 -- the dividend is further out
 further : (at-else : tie.Else1) → let at-start = at-else .before .before in noFurther (at-start .args .up) (z at-start *ℤ q at-start) (x at-start) ≡ false
@@ -87,31 +89,31 @@ answer at-else =
 
 -- an upper face
 returns-2 : tie.Need-returns-2
-unfolding outwardDiv
+unfolding outwardDiv neutral
 returns-2 at-return =
     let upper = at-return .before in
     let at-start = upper .before .before .before in
     let a = at-start .args in
-    let fits = at-start .fits in
-    let ceil-fits : SFits w64 (at-return .clamped-ceil .result) = search needs in
-    toZ-ofZ ceil-fits
-    ∙ (at-return .clamped-ceil .ensures
-    ∙ simp (toZ-ofZ, fits .cap, fits .dividend, fits .divisor)
-    (ap (λ (b : Bool). clamp (a .cap) (outwardDiv b (a .dividend) (natAbs (a .divisor)))) (sym (upper .if2 .taken)) ∙ answer (upper .before)))
+    let fits = at-start .fits in (
+      at-return .clamped-ceil .ensures .0
+          ∙ simp (toZ-ofZ, fits .cap, fits .dividend, fits .divisor)
+          (ap (λ (b : Bool). clamp (a .cap) (outwardDiv b (a .dividend) (natAbs (a .divisor)))) (sym (upper .if2 .taken)) ∙ answer (upper .before)),
+      λ e. at-return .clamped-ceil .ensures .1 e ∙ toZ-ofZ (fits .cap) ∙ ap (λ (b : Bool). neutral (not b) (a .cap)) (sym (upper .if2 .taken)),
+    )
 
 -- a lower face
 returns-3 : tie.Need-returns-3
-unfolding outwardDiv
+unfolding outwardDiv neutral
 returns-3 at-return =
     let lower = at-return .before in
     let at-start = lower .before .before .before in
     let a = at-start .args in
-    let fits = at-start .fits in
-    let floor-fits : SFits w64 (at-return .clamped-floor .result) = search needs in
-    toZ-ofZ floor-fits
-    ∙ (at-return .clamped-floor .ensures
-    ∙ simp (toZ-ofZ, fits .cap, fits .dividend, fits .divisor)
-    (ap (λ (b : Bool). clamp (a .cap) (outwardDiv b (a .dividend) (natAbs (a .divisor)))) (sym (lower .if2 .left)) ∙ answer (lower .before)))
+    let fits = at-start .fits in (
+      at-return .clamped-floor .ensures .0
+          ∙ simp (toZ-ofZ, fits .cap, fits .dividend, fits .divisor)
+          (ap (λ (b : Bool). clamp (a .cap) (outwardDiv b (a .dividend) (natAbs (a .divisor)))) (sym (lower .if2 .left)) ∙ answer (lower .before)),
+      λ e. at-return .clamped-floor .ensures .1 e ∙ ap negℤ (toZ-ofZ (fits .cap)) ∙ ap (λ (b : Bool). neutral (not b) (a .cap)) (sym (lower .if2 .left)),
+    )
 
 pub outer-quotient-spec : {M : Type 1} → statement M
 outer-quotient-spec = tie.close (tie.spec mul-no-further (λ c κs. search needs) returns clamped-ceil-requires clamped-floor-requires returns-2 returns-3)

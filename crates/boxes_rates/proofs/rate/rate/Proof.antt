@@ -18,10 +18,10 @@ use borrow.Author.Needs.{needs}
 use Rattle.integers.specs.Bound.{Bound}
 use Rattle.integers.proofs.Z.{ints, sum as plus, sub, told, up32, bound-of, bound-sub, bound-lit, fits64}
 use Rattle.sheet_spec.specs.Slots.{_!_, N, capSlot, bandSize, bandSlot, slots, bands, bandVar, cap, edge}
-use Rattle.sheet_spec.specs.Limits.{maxCap}
 use Rattle.sheet_spec.specs.Box.{lo, hi}
 use Rattle.machine_spec.specs.Machine.{Machine, machine, rowOf, change}
 use Rattle.machine_spec.specs.Rate.{outer, outermost, cutToBand, part, rowOver, neutral, bandRate, rate}
+use Rattle.boxes_arithmetic.specs.declared.Outermost.{Outermost}
 use Rattle.boxes_arithmetic.specs.Limits.{word}
 use Rattle.boxes_arithmetic.proofs.Bounds.{wide}
 use Rattle.machine_spec.proofs.Bands.{Meets, meets-show}
@@ -46,11 +46,11 @@ record Invariant (m : Machine) (B : List ℤ) (up : Bool) (i : ℕ) (O : List �
   so-far : z ≡ outermost up (neutral up (cap (m .sheet) i)) band (bandRate up m B i)
 
 abbrev Inv-loop : tie.InvT-loop
-Inv-loop up plant sheet over₀ i lower upper low high slot cap₀ last outermost₀ band₀ over outermost band =
+Inv-loop up plant sheet over₀ i lower upper low high slot last outermost₀ band₀ over outermost band =
     Invariant (machine sheet (plant .law)) over₀ up i over (toZ w64 outermost) band
 
 abbrev μ-loop : tie.MeasureT-loop
-μ-loop up plant sheet over₀ i lower upper low high slot cap₀ last outermost₀ band₀ over outermost band = last - band
+μ-loop up plant sheet over₀ i lower upper low high slot last outermost₀ band₀ over outermost band = last - band
 
 -- what is asked, as it is used
 module _ (at-start : tie.Start Inv-loop μ-loop) where
@@ -83,18 +83,15 @@ module _ (at-start : tie.Start Inv-loop μ-loop) where
   ends = omega (arith, asked .plant .bands, asked .plant .sheet .bands-low)
 
 -- the variable's cap, as it is read
-module _ (at-cap : tie.After-cap Inv-loop μ-loop) where
+module _ (at-cap : tie.After-neutral-arg Inv-loop μ-loop) where
   abbrev capped : tie.Start Inv-loop μ-loop
-  capped = at-cap .before .before .before
+  capped = at-cap .before .before .before .before
 
   cap-is : toZ w64 (ofZ w64 (toZ w32 (ofZ w32 (v capped ! capSlot (capped .args .i))))) ≡ cap (v capped) (capped .args .i)
-  cap-is = wide _ (at-cap .cap .given)
-
-  cap-small : Bound (toZ w64 (ofZ w64 (toZ w32 (ofZ w32 (v capped ! capSlot (capped .args .i)))))) maxCap
-  cap-small = rw cap-is (cap-near (asked capped .plant .sheet) (capped .args .i) (asked capped .var))
+  cap-is = wide _ (at-cap .neutral-arg .given)
 
 neutral-requires : tie.Need-neutral-requires Inv-loop μ-loop
-neutral-requires known κs = cap-small (known .before)
+neutral-requires at-cap κs = let s = capped at-cap in rw (cap-is at-cap) (cap-near (asked s .plant .sheet) (s .args .i) (asked s .var))
 
 first-band-requires : tie.Need-first-band-requires Inv-loop μ-loop
 first-band-requires at-neutral κs =
@@ -132,7 +129,7 @@ loop-holds at-first =
       so-far =
           toZ-ofZ neutral-fits
           ∙ (at-neutral .neutral .ensures
-          ∙ ap (neutral (at-start .args .up)) (cap-is (at-neutral .before .before))
+          ∙ ap (neutral (at-start .args .up)) (cap-is (at-neutral .before))
           ∙ (sym (rw (zero-add (first .from .band)) at (unmet-stays (M at-start) (B at-start) (at-start .args .up) (at-start .args .i) (cap-low (asked at-start .plant .sheet) (at-start .args .i) (asked at-start .var)) 0 (first .from .band)
           (λ j h. rw (zero-add j) (unmet-before first j h))))));
     }
@@ -182,8 +179,8 @@ module _ (at-loop : tie.At-loop Inv-loop μ-loop) where
           between = rw (at-loop .loop .inv .so-far) (outermost-between (entry .args .up) (M entry) (B entry) (entry .args .i) k (cap-low wf (entry .args .i) (asked entry .var)));
         }
 
-    rated : {r : ℤ} → RowRated (entry .args .up) (M entry) (set (at-loop .loop .over) (entry .args .plant .var + N) x) (entry .args .i) (at-loop .loop .band) z r
-        → r ≡ outermost (entry .args .up) (neutral (entry .args .up) (cap (v entry) (entry .args .i))) (k + 1) (bandRate (entry .args .up) (M entry) (B entry) (entry .args .i))
+    rated : {r : Outermost} → RowRated (entry .args .up) (M entry) (set (at-loop .loop .over) (entry .args .plant .var + N) x) (entry .args .i) (at-loop .loop .band) z r
+        → r .change ≡ outermost (entry .args .up) (neutral (entry .args .up) (cap (v entry) (entry .args .i))) (k + 1) (bandRate (entry .args .up) (M entry) (B entry) (entry .args .i))
     rated d =
         let up = entry .args .up in
         let i = entry .args .i in
@@ -253,26 +250,17 @@ module _ (at-row : tie.After-row-rate Inv-loop μ-loop) where
   abbrev there : tie.At-loop Inv-loop μ-loop
   there = here edged
 
-  abbrev cap-read : tie.After-cap Inv-loop μ-loop
-  cap-read = there .before .before .before .before
-
-neutral-requires-2 : tie.Need-neutral-requires-2 Inv-loop μ-loop
-neutral-requires-2 at-row κs = cap-small (cap-read at-row)
-
 -- the outermost is the cap
 returns : tie.Need-returns Inv-loop μ-loop
 unfolding rate
 returns capped-here =
-    let at-limit = capped-here .before in
-    let at-row = at-limit .before in
+    let at-row = capped-here .before .before in
     let l = there at-row in
     let at-start = entry l in
     let a = at-start .args in
     let low = cap-low (asked at-start .plant .sheet) (a .i) (asked at-start .var) in
-    let row-fits : SFits w64 (at-row .row-rate .result) = search needs in
-    let limit-fits : SFits w64 (at-limit .neutral2 .result) = search needs in
-    let is-limit : at-row .row-rate .result ≡ neutral (not (a .up)) (cap (v at-start) (a .i)) =
-    sym (toZ-ofZ row-fits) ∙ ap (toZ w64) (capped-here .if2 .taken) ∙ toZ-ofZ limit-fits ∙ at-limit .neutral2 .ensures ∙ ap (neutral (not (a .up))) (cap-is (cap-read at-row)) in
+    let row-fits : SFits w64 (at-row .row-rate .result .change) = search needs in
+    let is-limit : at-row .row-rate .result .change ≡ neutral (not (a .up)) (cap (v at-start) (a .i)) = at-row .row-rate .ensures .limit (capped-here .if2 .taken) in
     let so-far = rated l (end-is (edged at-row)) (at-row .row-rate .ensures) in
     let all : k l + 1 + (bands (v at-start) - (k l + 1)) ≡ bands (v at-start) = omega (arith, l .loop .inv .among) in (
       toZ-ofZ row-fits ∙ (is-limit ∙ sym (rw all at (limit-stays (M at-start) (B at-start) (a .up) (a .i) low (k l + 1) (bands (v at-start) - (k l + 1)) (sym so-far ∙ is-limit)))),
@@ -293,7 +281,7 @@ loop-again below =
     let at-start = entry l in
     let wf = asked at-start .plant .sheet in
     let next = starts (in-turn at-edge) in
-    let row-fits : SFits w64 (at-row .row-rate .result) = search needs in
+    let row-fits : SFits w64 (at-row .row-rate .result .change) = search needs in
     record {
       band = k l + 1;
       place = next-place l;
@@ -323,12 +311,13 @@ row-rate-requires-2 at-arg κs = row-asked (last (at-arg .before)) (last-is (at-
 
 returns-2 : tie.Need-returns-2 Inv-loop μ-loop
 unfolding rate
-returns-2 at-row =
+returns-2 at-return =
+    let at-row = at-return .before in
     let at-last = at-row .before .before in
     let l = last at-last in
     let at-start = entry l in
     let wf = asked at-start .plant .sheet in
-    let row-fits : SFits w64 (at-row .row-rate2 .result) = search needs in
+    let row-fits : SFits w64 (at-row .row-rate2 .result .change) = search needs in
     let all : k l + 1 + (bands (v at-start) - (k l + 1)) ≡ bands (v at-start) = omega (arith, l .loop .inv .among) in (
       toZ-ofZ row-fits
           ∙ (rated l (last-is at-last) (at-row .row-rate2 .ensures)
@@ -349,12 +338,12 @@ rate-spec =
     (λ at-low. omega (arith, room (at-low .before)))
     (λ at-low. omega (arith, room (at-low .before)))
     (λ c. search needs)
+    (λ c. let s = start (c .before) in omega (arith, asked s .plant .bands, asked s .plant .sheet .bands-low))
+    (λ c. search needs)
+    (λ c. search needs)
     (λ c. search needs)
     (λ c. search needs)
     (λ c. search (needs, up32))
-    (λ c. let s = start (c .before .before) in omega (arith, asked s .plant .bands, asked s .plant .sheet .bands-low))
-    (λ c. search needs)
-    (λ c. search needs)
     neutral-requires
     first-band-requires
     loop-holds
@@ -367,7 +356,6 @@ rate-spec =
     (λ at-edge. omega (arith, room (entry (here at-edge))))
     (λ at-edge. omega (arith, room (entry (here at-edge))))
     row-rate-requires
-    neutral-requires-2
     (λ capped-here. omega (arith, room (entry (there (capped-here .before .before)))))
     (λ capped-here. omega (arith, room (entry (there (capped-here .before .before)))))
     (λ capped-here. omega (arith, room (entry (there (capped-here .before .before)))))

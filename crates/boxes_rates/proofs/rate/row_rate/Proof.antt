@@ -7,8 +7,6 @@ use Prim.Native.Nat.{ℕ, _+_, _*_, _≤_}
 use native.Mathlib.Omega.{arith}
 use lib.IntN.{ℤ, pos}
 use mir.Facts.{toZ-ofZ}
-use mir.Syntax.{w64}
-use mir.Val.{SFits}
 use borrow.Author.Needs.{needs}
 use Rattle.integers.proofs.Z.{up32, fits64}
 use Rattle.sheet_spec.specs.Limits.{maxDivisor}
@@ -76,7 +74,6 @@ returns at-return =
     let a = at-start .args in
     let term = at-term .command-term .ensures in
     let bounded = at-bound .bound .ensures in
-    let further-fits : SFits w64 (at-return .further .result) = search needs in
     let B = a .over .now in
     record {
       same = λ k p.
@@ -85,10 +82,10 @@ returns at-return =
           let number-is =
           bounded .same least greatest (toZ-ofZ (fits64 (term .near) tt) ∙ term .same k p B)
           ∙ ap (λ (n : ℕ). bound (a .up) n (rowAt (v at-start) (a .band + firstRow + a .i * rowSize)) B least greatest) (asked at-start .plant .n) in
-          toZ-ofZ further-fits
-          ∙ (at-return .further .ensures
+          (at-return .further .ensures .0
           ∙ rw (toZ-ofZ (fits64 (bounded .near) tt), number-is) (simp (wide, at-cap .further-arg .given, toZ-ofZ, at-start .fits .outermost)
           (ap (λ (r : Row). outer (a .up) (a .outermost) (change (a .up) (cap (v at-start) (a .i)) r (bound (a .up) (vars (v at-start)) r B least greatest))) (row-is at-start k p))));
+      limit = λ e. at-return .further .ensures .1 e ∙ simp (wide, at-cap .further-arg .given);
     }
 
 pub row-rate-spec : {M : Type 1} → statement M

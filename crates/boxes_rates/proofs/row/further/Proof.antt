@@ -81,11 +81,11 @@ unfolding change outwardDiv
 returns at-outer =
     let upper = at-outer .before in
     let at-divisor = upper .before in
-    let fits = at-start at-divisor .fits in
-    let answer-fits : SFits w64 (at-outer .outer-quotient .result) = search needs in
-    toZ-ofZ answer-fits
-    ∙ (at-outer .outer-quotient .ensures
-    ∙ rw (upper .if1 .taken) (simp (toZ-ofZ, fits .cap, fits .outermost, fits .number, spread-is at-divisor, divisor-is at-divisor, above-fits at-divisor)))
+    let fits = at-start at-divisor .fits in (
+      at-outer .outer-quotient .ensures .0
+          ∙ rw (upper .if1 .taken) (simp (toZ-ofZ, fits .cap, fits .outermost, fits .number, spread-is at-divisor, divisor-is at-divisor, above-fits at-divisor)),
+      λ e. at-outer .outer-quotient .ensures .1 e ∙ simp (toZ-ofZ, fits .cap),
+    )
 
 -- a lower face
 returns-2 : tie.Need-returns-2
@@ -93,11 +93,11 @@ unfolding change outwardDiv
 returns-2 at-outer =
     let lower = at-outer .before in
     let at-divisor = lower .before in
-    let fits = at-start at-divisor .fits in
-    let answer-fits : SFits w64 (at-outer .outer-quotient2 .result) = search needs in
-    toZ-ofZ answer-fits
-    ∙ (at-outer .outer-quotient2 .ensures
-    ∙ rw (lower .if1 .left) (simp (toZ-ofZ, fits .cap, fits .outermost, fits .number, spread-is at-divisor, divisor-is at-divisor, below-fits at-divisor)))
+    let fits = at-start at-divisor .fits in (
+      at-outer .outer-quotient2 .ensures .0
+          ∙ rw (lower .if1 .left) (simp (toZ-ofZ, fits .cap, fits .outermost, fits .number, spread-is at-divisor, divisor-is at-divisor, below-fits at-divisor)),
+      λ e. at-outer .outer-quotient2 .ensures .1 e ∙ simp (toZ-ofZ, fits .cap),
+    )
 
 pub further-spec : {M : Type 1} → statement M
 further-spec =
