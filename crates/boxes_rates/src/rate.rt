@@ -105,8 +105,8 @@ fn row_rate(
     further(up, sheet[slot] as i64, sheet, row, number, outermost)
 }
 
-// The least or the greatest allowed change of variable i over the box, band by band from the first that it meets to the last. The
-// part of the box that lies in a band is made in `over`, which is then as it was.
+// The least or the greatest allowed change of variable i over the box, band by band from the first that it meets to the last, or to
+// one at which it is the cap. The part of the box that lies in a band is made in `over`, which is then as it was.
 fn rate(up: bool, plant: Plant, sheet: &[i32; SLOTS], over: &mut [i64; BOX_SIZE], i: usize) -> i64
     requires { ⌜ RateAsked plant (now sheet) (now over) i ⌝ }
     ensures { λ r. ⌜ r ≡ rate up (machine (now (sheet .entry)) (plant .law)) (now (over .entry)) i ⌝ }

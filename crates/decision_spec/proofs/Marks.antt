@@ -1,19 +1,20 @@
--- What a question's mark says: where the fields start, and that a question with an unknown one is refused. Assumes nothing.
+-- What a question's mark says: where the fields start, how many bytes the next question takes, and that one with an unknown mark is refused.
+-- Assumes nothing.
 use mathlib.Core.Path.{_≡_, refl}
-use mathlib.Core.Bool.{false}
+use mathlib.Core.Bool.{true, false}
 use mathlib.Core.List.{List}
-use Prim.Native.Nat.{ℕ, _≤_, _<_}
+use Prim.Native.Nat.{ℕ, _≤_, _<_, min}
 use native.Mathlib.Nat.{lt-of-lt-of-le}
 use native.Mathlib.Omega.{arith}
 use lib.IntN.{ℤ}
-use lib.ListN.{getD, take}
+use lib.ListN.{getD, length, take}
 use lib.Seq.{getD-take}
 use Rattle.sheet_spec.specs.Sizes.{letters}
 use Rattle.sheet_spec.specs.Refusals.{Cause, number, unlessRefused, firstOf}
 use Rattle.sheet_spec.specs.Sheet.{refusal, values}
 use Rattle.decision_spec.specs.declared.QuestionKind.{QuestionKind}
 use Rattle.decision_spec.specs.declared.QuestionKind.the-variants.{Single, Ranged, Unknown}
-use Rattle.decision_spec.specs.Question.{kindOf, known, commandAt, greatestAt, formRefusal, headRefusal, questionRefusal}
+use Rattle.decision_spec.specs.Question.{kindOf, known, commandAt, greatestAt, questionLength, nextLength, formRefusal, headRefusal, questionRefusal}
 use Rattle.decision_spec.specs.Decision.{refused, decide}
 
 -- ---- where the greatest command starts
@@ -39,6 +40,19 @@ kind-part g held h = rw (letter 0 (omega arith), letter 1 (omega arith)) refl
   where
     letter : (i : ℕ) → i < letters → getD (take held g) i 0 ≡ getD g i 0
     letter i k = getD-take held g i 0 (lt-of-lt-of-le k h)
+
+-- ---- the next question
+
+module _ (n : ℕ) (g : List ℕ) where
+  -- a known mark takes its own length, or all that is left
+  pub next-own : known (kindOf g) ≡ true → nextLength n g ≡ min (questionLength (kindOf g) n) (length g)
+  unfolding nextLength
+  next-own e = rw e refl
+
+  -- an unknown one takes all
+  pub next-all : known (kindOf g) ≡ false → nextLength n g ≡ length g
+  unfolding nextLength
+  next-all e = rw e refl
 
 -- ---- an unknown mark
 

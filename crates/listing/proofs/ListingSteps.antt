@@ -17,14 +17,14 @@ use Rattle.decision_spec.specs.declared.QuestionKind.{QuestionKind}
 use Rattle.decision_spec.specs.Question.{kindOf, known, nextLength}
 use Rattle.decision_spec.specs.Decision.{Reply, refused, checkRecovery, decide, isKeep}
 use Rattle.decision_spec.specs.Listing.{digits, newline, _␣_, decisionWord, replyText, sheetLine, questionLine, questionLines, listing}
-use Rattle.decision_spec.proofs.Marks.{kind-part, unknown-decided}
+use Rattle.decision_spec.proofs.Marks.{kind-part, next-all, unknown-decided}
 use Rattle.listing.specs.declared.Progress.{Progress}
 use Rattle.listing.specs.declared.Listed.{Listed}
 use Rattle.listing.specs.Limits.{longestQuestion}
 use Rattle.listing.specs.Listed.{ListedAs}
 use Rattle.listing.specs.ListingSteps.{ListingStep, sheetStep, questionStep, stepLines, allLines, SameStep, StepOnPart, StepsAreListing}
 use Rattle.listing.proofs.LongFile.{listing-cut}
-use Rattle.listing.proofs.NextLength.{next-all, next-some, next-most, next-part}
+use Rattle.listing.proofs.NextLength.{next-some, next-most, next-part}
 
 -- ---- one step
 

@@ -2,24 +2,15 @@
 use mathlib.Core.Path.{_≡_, refl}
 use mathlib.Core.Bool.{Bool, true, false}
 use mathlib.Core.List.{List, _∷_}
-use Prim.Native.Nat.{ℕ, _≤_, _<_, min}
+use Prim.Native.Nat.{ℕ, _≤_, _<_}
 use native.Mathlib.Omega.{arith}
-use lib.ListN.{length, take, length-take}
+use lib.ListN.{take, length-take}
 use Rattle.sheet_spec.specs.Slots.{vars}
 use Rattle.sheet_spec.specs.Sheet.{values}
-use Rattle.decision_spec.specs.Question.{kindOf, known, questionLength, nextLength}
-use Rattle.decision_spec.proofs.Marks.{greatest-to, kind-part}
+use Rattle.decision_spec.specs.Question.{kindOf, known, nextLength}
+use Rattle.decision_spec.proofs.Marks.{greatest-to, kind-part, next-own, next-all}
 use Rattle.listing.specs.Limits.{longestQuestion}
 use Rattle.listing.proofs.Vars.{vars-in-range}
-
--- an unknown mark takes all
-pub next-all : (n : ℕ) (g : List ℕ) → known (kindOf g) ≡ false → nextLength n g ≡ length g
-unfolding nextLength
-next-all n g e = rw e refl
-
-next-own : (n : ℕ) (g : List ℕ) → known (kindOf g) ≡ true → nextLength n g ≡ min (questionLength (kindOf g) n) (length g)
-unfolding nextLength
-next-own n g e = rw e refl
 
 -- at least one, if there are any
 pub next-some : (n x : ℕ) (g : List ℕ) → 0 < nextLength n (x ∷ g)

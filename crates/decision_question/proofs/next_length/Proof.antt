@@ -1,6 +1,5 @@
 -- `next_length` gives as many bytes as the mark says, or all that are left. Assumes nothing.
-use mathlib.Core.Path.{_≡_, refl, sym, ap, _∙_}
-use mathlib.Core.Bool.{true, false}
+use mathlib.Core.Path.{_≡_, sym, ap, _∙_}
 use mathlib.Core.List.{List}
 use Prim.Native.Nat.{ℕ, _+_, _*_, min}
 use native.Mathlib.Nat.{le-refl}
@@ -10,20 +9,9 @@ use borrow.Author.Needs.{needs}
 use borrow.Author.Tests.{not-true, not-false}
 use Rattle.decision_spec.specs.declared.QuestionKind.{QuestionKind}
 use Rattle.decision_spec.specs.Question.{kindOf, known, sidesAt, questionLength, nextLength}
-use Rattle.decision_spec.proofs.Marks.{greatest-to}
+use Rattle.decision_spec.proofs.Marks.{greatest-to, next-own, next-all}
 use Rattle.decision_question.proofs.next_length.Statement.{statement}
 use Rattle.decision_question.proofs.next_length.Tie as tie
-
-module _ (n : ℕ) (g : List ℕ) where
-  -- an unknown mark
-  takes-all : known (kindOf g) ≡ false → nextLength n g ≡ length g
-  unfolding nextLength
-  takes-all e = rw e refl
-
-  -- a known one
-  takes-own : known (kindOf g) ≡ true → nextLength n g ≡ min (questionLength (kindOf g) n) (length g)
-  unfolding nextLength
-  takes-own e = rw e refl
 
 module _ (at-known : tie.After-is-known) where
   abbrev at-start : tie.Start
@@ -40,7 +28,7 @@ module _ (at-sides : tie.After-sides-at) where
   marked = at-sides .before .before
 
   own : nextLength (at-start marked .args .n) (g marked) ≡ min (questionLength (kindOf (g marked)) (at-start marked .args .n)) (length (g marked))
-  own = takes-own (at-start marked .args .n) (g marked) (sym (known-is marked) ∙ not-false _ (at-sides .before .if1 .left))
+  own = next-own (at-start marked .args .n) (g marked) (sym (known-is marked) ∙ not-false _ (at-sides .before .if1 .left))
 
   size-is : at-sides .sides-at .result + 8 * at-start marked .args .n ≡ questionLength (kindOf (g marked)) (at-start marked .args .n)
   size-is = ap (λ (at : ℕ). at + 8 * at-start marked .args .n) (at-sides .sides-at .ensures ∙ ap (λ (k : QuestionKind). sidesAt k) (marked .before .kind .ensures))
@@ -48,7 +36,7 @@ module _ (at-sides : tie.After-sides-at) where
 returns : tie.Need-returns
 returns c =
     let s = at-start (c .before) in
-    (sym (takes-all (s .args .n) (g (c .before)) (sym (known-is (c .before)) ∙ not-true _ (c .if1 .taken))), le-refl _)
+    (sym (next-all (s .args .n) (g (c .before)) (sym (known-is (c .before)) ∙ not-true _ (c .if1 .taken))), le-refl _)
 
 add-size : tie.Need-add-size
 add-size c = omega (arith, c .sides-at .ensures, greatest-to (marked c .before .kind .result), at-start (marked c) .pre)
