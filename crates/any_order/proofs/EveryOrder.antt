@@ -12,11 +12,12 @@ use mir.Syntax.{w32}
 use mir.Val.{SFits}
 use Rattle.integers.proofs.Z.{ints}
 use Rattle.sheet_spec.specs.Limits.{maxBoxes, maxRecoverySide, maxUnsafeSide}
-use Rattle.sheet_spec.specs.Slots.{_!_, N, boxSize, slots, varsSlot, bandsSlot, boxesSlot, bandVarSlot, δSlot, αSlot, ρSlot, leastSlot, greatestSlot, capSlot, bandSize, leastInBand, greatestInBand, bandSlot, recoverySlot, unsafeSlot, vars, bands, boxes, row, unsafeBox}
+use Rattle.sheet_spec.specs.Slots.{_!_, N, boxSize, slots, varsSlot, bandsSlot, boxesSlot, bandVarSlot, δSlot, αSlot, ρSlot, leastSlot, greatestSlot, capSlot, bandSize, leastInBand, greatestInBand, bandSlot, lawSlot, divisorSlot, recoverySlot, unsafeSlot, vars, bands, boxes, kindBy, bandKind, feedback, row, unsafeBox}
 use Rattle.sheet_spec.specs.Box.{SameSides}
-use Rattle.sheet_spec.specs.Valid.{Between, ValidRow, ValidBox, ValidNumbers}
+use Rattle.sheet_spec.specs.Valid.{Between, ValidLaw, ValidRow, ValidBox, ValidNumbers}
 use Rattle.sheet_spec.specs.Layout.{first, groups, fields, fieldCount}
 use Rattle.sheet_spec.specs.File.{shape, Small, records, recordAt, fieldsAt, fieldCountAt}
+use Rattle.sheet_spec.specs.declared.BandKind.the-variants.{Feedback}
 use Rattle.sheet_spec.specs.declared.Shape.{Shape}
 use Rattle.sheet_spec.specs.declared.Record.the-variants.{Head, Band, Recovery}
 use Rattle.sheet_spec.proofs.Streams.{first-low, first-after, groups-at, lt-or-le}
@@ -142,6 +143,18 @@ module _ {v : List ℤ} (wf : ValidNumbers v) (w : List ℤ) (below : (i : ℕ) 
         q = between _ (omega (arith, wf .bands-high, wf .vars-high)) (r .q);
       }
 
+  same-kind : bandKind w ≡ bandKind v
+  same-kind = ap kindBy (below (divisorSlot (lawSlot 0)) (omega arith))
+
+  law-kept : bandKind v ≡ Feedback → (k : ℕ) → k < bands v → ValidLaw (vars v) (feedback w k)
+  law-kept e k h =
+      let l = wf .laws e k h in
+      record {
+        a = λ j i. between _ (omega (arith, wf .bands-high, wf .vars-high)) (l .a j i);
+        c = between _ (omega (arith, wf .bands-high, wf .vars-high)) (l .c);
+        q = between _ (omega (arith, wf .bands-high, wf .vars-high)) (l .q);
+      }
+
   recovery-kept : ValidBox (vars v) (pos maxRecoverySide) w recoverySlot
   recovery-kept =
       box-kept (vars v) (λ i h. below (recoverySlot + i) (omega (arith, wf .vars-high))) (λ i h. below (recoverySlot + i + N) (omega (arith, wf .vars-high))) (wf .recovery)
@@ -177,6 +190,7 @@ module _ {v : List ℤ} (wf : ValidNumbers v) (w : List ℤ) (below : (i : ℕ) 
         omega (ints, in-band k leastInBand h (omega arith), in-band k greatestInBand h (omega arith), wf .safety k h);
     safety-low = λ k l. (let h : k < bands v = omega (arith, same-bands) in omega (ints, below leastSlot (omega arith), in-band k leastInBand h (omega arith), wf .safety-low k h));
     safety-high = λ k l. (let h : k < bands v = omega (arith, same-bands) in omega (ints, below greatestSlot (omega arith), in-band k greatestInBand h (omega arith), wf .safety-high k h));
+    laws = λ e k h. subst (λ (n : ℕ). ValidLaw n (feedback w k)) (sym same-vars) (law-kept (sym same-kind ∙ e) k (omega (arith, same-bands)));
     rows = λ k i h g. subst (λ (n : ℕ). ValidRow n (row w k i)) (sym same-vars) (row-kept k i (omega (arith, same-bands)) (omega (arith, same-vars)));
     recovery = subst (λ (n : ℕ). ValidBox n (pos maxRecoverySide) w recoverySlot) (sym same-vars) recovery-kept;
     unsafe = λ j l. subst (λ (n : ℕ). ValidBox n (pos maxUnsafeSide) w (unsafeSlot j)) (sym same-vars) (unsafe j (omega (arith, same-boxes)));
@@ -190,7 +204,7 @@ before-boxes s small =
     let room : s .vars ≤ N = omega (arith, small .vars) in
     record-cases s (λ r x. isUnsafe x ≡ false → (j : ℕ) → j < fieldCount (s .vars) x → fields (s .vars) x j .slot < unsafeSlot 0)
     (λ e j c. omega (arith, spread-record (s .vars) room Head .high j c))
-    (λ k d e j c. omega (arith, spread-record (s .vars) room (Band k) .high j c, small .bands))
+    (λ k d e j c. omega (arith, spread-record (s .vars) room (Band (s .kind) k) .high j c, small .bands))
     (λ k d e j c. absurd (differ refl e))
     (λ e j c. spread-record (s .vars) room Recovery .high j c)
 
@@ -205,6 +219,7 @@ every-order σ v wf p =
       numbers = numbers-kept wf w (arranged-below (p .origin) v) (arranged-length (p .origin) v) (arranged-fits (p .origin) v wf)
           (λ j l. valid-box (p .origin) v room (at j l) (wf .unsafe (p .origin j) (p .origin-inside j l)));
       reordered = record {
+        kind = sym (same-kind wf w (arranged-below (p .origin) v));
         same = λ r l e j c. sym (arranged-below (p .origin) v _ (before-boxes (shape v) small r l e j c));
         permutation = p;
         moved = λ j l.

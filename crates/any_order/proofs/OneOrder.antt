@@ -91,4 +91,4 @@ pub one-order : OneOrder
 unfolding bytesOf
 one-order σ v w a b o =
     let e = same-everywhere a b o in
-    (record { same = λ r l j k. e .at r l .at j k }, coded-all-same v w (shape v) (records (shape v)) e ∙ ap (λ (s : Shape). codedAll s w (records s)) (shape-is o))
+    (record { kind = o .kind; same = λ r l j k. e .at r l .at j k }, coded-all-same v w (shape v) (records (shape v)) e ∙ ap (λ (s : Shape). codedAll s w (records s)) (shape-is o))

@@ -1,4 +1,4 @@
--- What rates read: of a sheet its counts, caps, edges, safety ranges and rows, of a box the sides of the sheet's variables. So they are the
+-- What rates read: of a sheet its counts, caps, edges, safety ranges, laws and rows, of a box the sides of the sheet's variables. So they are the
 -- same for two sheets that agree in these, over two boxes that agree in those. Assumes nothing.
 use mathlib.Core.Path.{_≡_, refl, sym, ap, ap₂, _∙_, subst}
 use mathlib.Core.Bool.{Bool, true, false, cond, _&&_, _||_}
@@ -12,14 +12,16 @@ use lib.Signed.{leZ, ltZ}
 use borrow.Author.Tests.{leb-false}
 use Rattle.integers.specs.Order.{minZ, maxZ}
 use Rattle.integers.specs.Division.{floorDiv, ceilDiv}
-use Rattle.sheet_spec.specs.Slots.{N, Row, vars, bands, bandVar, edge, row}
+use Rattle.sheet_spec.specs.Slots.{N, FeedbackLaw, Row, vars, bands, bandVar, edge, bandKind, feedback, row}
 use Rattle.sheet_spec.specs.Slots as sheet
 use Rattle.sheet_spec.specs.Box.{lo, hi}
+use Rattle.sheet_spec.specs.declared.BandKind.{BandKind}
+use Rattle.sheet_spec.specs.declared.BandKind.the-variants.{Fixed, Feedback}
 use Rattle.machine_spec.specs.declared.Law.{Law}
 use Rattle.machine_spec.specs.declared.Law.the-variants.{Baseline, Span}
 use Rattle.machine_spec.specs.Box.{sum, boxOf, side}
-use Rattle.machine_spec.specs.Machine.{machine, cap, bandMeets, safetyEnd, spanEnd, clamp, change}
-use Rattle.machine_spec.specs.Rate.{outer, outermost, weighted, bound, bandMet, cutToBand, part, offeredOver, rowOver, neutral, bandRate, rate, neighborhood, faceRate, rates}
+use Rattle.machine_spec.specs.Machine.{machine, cap, bandMeets, safetyEnd, outwardDiv, clampTo, baselineEnd, clamp, change}
+use Rattle.machine_spec.specs.Rate.{outer, outermost, weighted, lawOver, bound, bandMet, cutToBand, part, offeredOver, rowOver, neutral, bandRate, rate, neighborhood, faceRate, rates}
 use Rattle.machine_spec.proofs.Box.{set-both, set-two, sides-same}
 
 -- ---- boxes
@@ -59,6 +61,11 @@ pub record AlikeRows (n : ℕ) (r s : Row) : Type 0 where
   pub d : r .d ≡ s .d
   pub q : r .q ≡ s .q
 
+pub record AlikeLaws (n : ℕ) (r s : FeedbackLaw) : Type 0 where
+  pub a : (j : ℕ) → j < n → r .a j ≡ s .a j
+  pub c : r .c ≡ s .c
+  pub q : r .q ≡ s .q
+
 -- v and w agree in what their machines are made of
 pub record AlikeSheets (v w : List ℤ) : Type 0 where
   pub room : vars v ≤ N
@@ -69,6 +76,8 @@ pub record AlikeSheets (v w : List ℤ) : Type 0 where
   pub caps : (i : ℕ) → i < vars v → sheet.cap v i ≡ sheet.cap w i
   pub edges : (k : ℕ) → k < bands v → edge v k ≡ edge w k
   pub safety : (up : Bool) (k : ℕ) → k < bands v → safetyEnd up v k ≡ safetyEnd up w k
+  pub kind : bandKind v ≡ bandKind w
+  pub laws : bandKind v ≡ Feedback → (k : ℕ) → k < bands v → AlikeLaws (vars v) (feedback v k) (feedback w k)
   pub rows : (k i : ℕ) → k < bands v → i < vars v → AlikeRows (vars v) (row v k i) (row w k i)
 
 -- ---- for each i below n
@@ -86,19 +95,25 @@ unfolding outermost
 outermost-same up zero f g e h = e
 outermost-same up (suc n) f g e h = ap₂ (outer up) (outermost-same up n f g e (λ k l. h k (omega arith))) (h n (omega arith))
 
+weighted-same : (up : Bool) {n : ℕ} {a b : ℕ → ℤ} {A B : List ℤ} → ((j : ℕ) → j < n → a j ≡ b j) → AlikeBoxes n A B → weighted up n a A ≡ weighted up n b B
+unfolding weighted
+weighted-same up {n} e b =
+    sum-same n _ _ (λ j l. ap₂ (outer up) (ap₂ (λ (x y : ℤ). x *ℤ y) (e j l) (b .at false j l)) (ap₂ (λ (x y : ℤ). x *ℤ y) (e j l) (b .at true j l)))
+
+-- ---- a law that follows the state
+
+law-over-same : (up : Bool) {n : ℕ} {r s : FeedbackLaw} {A B : List ℤ} → AlikeLaws n r s → AlikeBoxes n A B → lawOver up n r A ≡ lawOver up n s B
+unfolding lawOver
+law-over-same up e b = ap₂ (λ (x y : ℤ). x +ℤ y) (weighted-same up (e .a) b) (e .c)
+
 -- ---- a row
 
 module _ {n : ℕ} {r s : Row} (e : AlikeRows n r s) where
-  weighted-same : (up : Bool) {A B : List ℤ} → AlikeBoxes n A B → weighted up n r A ≡ weighted up n s B
-  unfolding weighted
-  weighted-same up b =
-      sum-same n _ _ (λ j l. ap₂ (outer up) (ap₂ (λ (x y : ℤ). x *ℤ y) (e .a j l) (b .at false j l)) (ap₂ (λ (x y : ℤ). x *ℤ y) (e .a j l) (b .at true j l)))
-
   bound-same : (up : Bool) {A B : List ℤ} {u u′ z z′ : ℤ} → AlikeBoxes n A B → u ≡ u′ → z ≡ z′ → bound up n r A u z ≡ bound up n s B u′ z′
   unfolding bound
   bound-same up b f g =
       ap₂ (λ (x y : ℤ). x +ℤ y)
-      (ap₂ (λ (x y : ℤ). x +ℤ y) (weighted-same up b) (ap₂ (outer up) (ap₂ (λ (x y : ℤ). x *ℤ y) (e .b) f) (ap₂ (λ (x y : ℤ). x *ℤ y) (e .b) g)))
+      (ap₂ (λ (x y : ℤ). x +ℤ y) (weighted-same up (e .a) b) (ap₂ (outer up) (ap₂ (λ (x y : ℤ). x *ℤ y) (e .b) f) (ap₂ (λ (x y : ℤ). x *ℤ y) (e .b) g)))
       (e .c)
 
   change-same : (up : Bool) {c c′ x x′ : ℤ} → c ≡ c′ → x ≡ x′ → change up c r x ≡ change up c′ s x′
@@ -137,12 +152,24 @@ module _ {v w : List ℤ} (s : AlikeSheets v w) (l : Law) where
         ap (λ (x : ℤ). cond (leb (bands v) (k + 1)) x (minZ x (edge v (k + 1) -ℤ pos 1))) e ∙ end-edges v w (bands v) (s .edges) k h y
         ∙ ap (λ (n : ℕ). cond (leb n (k + 1)) y (minZ y (edge w (k + 1) -ℤ pos 1))) (s .bands-same)
 
-    offered-same : (up : Bool) (A B : List ℤ) → offeredOver up (machine v l) k A ≡ offeredOver up (machine w l) k B
+    -- the plain law's ends
+    end-same : (up : Bool) {A B : List ℤ} → AlikeBoxes (vars v) A B → (b : BandKind) → bandKind v ≡ b
+        → baselineEnd b up v k (lawOver up (vars v) (feedback v k) A) ≡ baselineEnd b up w k (lawOver up (vars w) (feedback w k) B)
+    unfolding baselineEnd
+    end-same up e Fixed t = s .safety up k h
+    end-same up {A} {B} e Feedback t =
+        let law = s .laws t k h in
+        let x = law-over-same up law e ∙ ap (λ (n : ℕ). lawOver up n (feedback w k) B) (s .vars-same) in
+        let z = ap₂ (λ (x q : ℤ). outwardDiv up x (natAbs q)) x (law .q) in
+        ap₂ (λ (l z : ℤ). clampTo l (safetyEnd true v k) z) (s .safety false k h) z
+        ∙ ap (λ (g : ℤ). clampTo (safetyEnd false w k) g (outwardDiv up (lawOver up (vars w) (feedback w k) B) (natAbs (feedback w k .q)))) (s .safety true k h)
+
+    offered-same : (up : Bool) {A B : List ℤ} → AlikeBoxes (vars v) A B → offeredOver up (machine v l) k A ≡ offeredOver up (machine w l) k B
     unfolding offeredOver
-    offered-same up A B = by l
+    offered-same up {A} {B} e = by l
       where
-        by : (l : Law) → _≡_ {A = ℤ} (elim l [ Baseline ↦ safetyEnd up v k | Span a b ↦ spanEnd up a b ]) (elim l [ Baseline ↦ safetyEnd up w k | Span a b ↦ spanEnd up a b ])
-        by Baseline = s .safety up k h
+        by : (l : Law) → offeredOver up (machine v l) k A ≡ offeredOver up (machine w l) k B
+        by Baseline = end-same up e (bandKind v) refl ∙ ap (λ (b : BandKind). baselineEnd b up w k (lawOver up (vars w) (feedback w k) B)) (s .kind)
         by (Span a b) = refl
 
     part-same : {A B : List ℤ} → AlikeBoxes (vars v) A B → AlikeBoxes (vars v) (part (machine v l) k A) (part (machine w l) k B)
@@ -166,7 +193,7 @@ module _ {v w : List ℤ} (s : AlikeSheets v w) (l : Law) where
 
     row-over-same : (up : Bool) {A B : List ℤ} (i : ℕ) → i < vars v → AlikeBoxes (vars v) A B → rowOver up (machine v l) A i k ≡ rowOver up (machine w l) B i k
     row-over-same up {A} {B} i g e =
-        bound-same (s .rows k i h g) up e (offered-same false A B) (offered-same true A B)
+        bound-same (s .rows k i h g) up e (offered-same false e) (offered-same true e)
         ∙ ap (λ (n : ℕ). bound up n (row w k i) B (offeredOver false (machine w l) k B) (offeredOver true (machine w l) k B)) (s .vars-same)
 
     met-same : {A B : List ℤ} → AlikeBoxes (vars v) A B → bandMet (machine v l) k A ≡ bandMet (machine w l) k B

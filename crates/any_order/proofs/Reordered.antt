@@ -5,7 +5,7 @@ use mathlib.Core.List.{List}
 use Prim.Native.Nat.{ℕ, _+_, _<_}
 use native.Mathlib.Omega.{arith}
 use lib.IntN.{ℤ, natAbs}
-use Rattle.sheet_spec.specs.Slots.{_!_, headSize, varsSlot, bandsSlot, boxesSlot, recoverySlot, vars, boxes, recoveryBox, unsafeBox}
+use Rattle.sheet_spec.specs.Slots.{_!_, headSize, varsSlot, bandsSlot, boxesSlot, recoverySlot, vars, boxes, bandKind, recoveryBox, unsafeBox}
 use Rattle.sheet_spec.specs.Limits.{maxRecoverySide}
 use Rattle.sheet_spec.specs.declared.Record.{Record}
 use Rattle.sheet_spec.specs.declared.Shape.{Shape}
@@ -35,7 +35,7 @@ module _ {σ : ℕ → ℕ} {v w : List ℤ} (o : Reordered σ v w) where
   unfolding fields
   same-head = same-record 0 (omega arith) (head-at s) refl
 
-  pub same-band : (k : ℕ) → k < s .bands → Each (Equal v w) (bandFields (s .vars) k) (bandCount (s .vars))
+  pub same-band : (k : ℕ) → k < s .bands → Each (Equal v w) (bandFields (s .vars) (s .kind) k) (bandCount (s .vars) (s .kind))
   unfolding fields
   same-band k l = same-record (1 + k) (omega arith) (band-at s k l) refl
 
@@ -57,7 +57,7 @@ module _ {σ : ℕ → ℕ} {v w : List ℤ} (o : Reordered σ v w) where
   boxes-same = same-count boxesSlot (omega arith)
 
   pub shape-is : shape v ≡ shape w
-  shape-is = shape-same v w (same-number varsSlot (omega arith)) (same-number bandsSlot (omega arith)) (same-number boxesSlot (omega arith))
+  shape-is = shape-same v w (bandKind w) (same-number varsSlot (omega arith)) (same-number bandsSlot (omega arith)) (same-number boxesSlot (omega arith)) (o .kind)
 
   -- ---- the recovery box
 

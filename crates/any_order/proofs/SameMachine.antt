@@ -5,28 +5,39 @@ use mathlib.Core.List.{List}
 use Prim.Native.Nat.{ℕ, _<_}
 use native.Mathlib.Omega.{arith}
 use lib.IntN.{ℤ}
-use Rattle.sheet_spec.specs.Slots.{_!_, bandsSlot, bandVarSlot, edgeInBand, leastInBand, greatestInBand, bInRest, cInRest, dInRest, qInRest, restSize, recoverySlot, vars, bands, edge, row, recoveryBox}
-use Rattle.sheet_spec.specs.Layout.{_▸_, rowRest, rowFields, bandFields}
+use Rattle.sheet_spec.specs.Slots.{_!_, bandsSlot, bandVarSlot, edgeInBand, leastInBand, greatestInBand, bInRest, cInRest, dInRest, qInRest, restSize, constantInLaw, divisorInLaw, lawRestSize, lawSlot, recoverySlot, vars, bands, edge, bandKind, feedback, row, recoveryBox}
+use Rattle.sheet_spec.specs.Layout.{_▸_, lawRest, lawFields, rowRest, rowFields, bandFields, lawCount}
 use Rattle.sheet_spec.specs.Valid.{ValidNumbers}
 use Rattle.sheet_spec.proofs.Box.{box-length}
-use Rattle.sheet_spec.proofs.Streams.{each-low, each-high}
-use Rattle.sheet_spec.proofs.Records.{each-cap, each-row}
+use Rattle.sheet_spec.proofs.Streams.{Each, each-low, each-high}
+use Rattle.sheet_spec.proofs.Records.{each-cap, each-law, each-row}
 use Rattle.sheet_spec.proofs.Places.{edge-slot}
+use Rattle.sheet_spec.proofs.Same.{Equal}
+use Rattle.sheet_spec.specs.declared.BandKind.{BandKind}
+use Rattle.sheet_spec.specs.declared.BandKind.the-variants.{Feedback}
 use Rattle.machine_spec.specs.Box.{side}
 use Rattle.machine_spec.specs.Machine.{safetyEnd}
 use Rattle.machine_spec.proofs.Facts.{room}
 use Rattle.any_order.specs.Reordered.{Reordered}
 use Rattle.any_order.proofs.Reordered.{same-head, same-count, vars-same, same-band, recovery-sides}
-use Rattle.any_order.proofs.Rates.{AlikeBoxes, AlikeRows, AlikeSheets}
+use Rattle.any_order.proofs.Rates.{AlikeBoxes, AlikeLaws, AlikeRows, AlikeSheets}
 
 module _ {σ : ℕ → ℕ} {v w : List ℤ} (o : Reordered σ v w) where
   rows-alike : (k i : ℕ) → k < bands v → i < vars v → AlikeRows (vars v) (row v k i) (row w k i)
   unfolding rowFields rowRest _▸_
   rows-alike k i h g =
-      let e = each-row (vars v) k (same-band o k h) i g in
+      let e = each-row (vars v) (bandKind v) k (same-band o k h) i g in
       let a = each-low (vars v) restSize _ _ e in
       let b = each-high (vars v) restSize _ _ e in
       record { a = a .at; b = b .at bInRest (omega arith); c = b .at cInRest (omega arith); d = b .at dInRest (omega arith); q = b .at qInRest (omega arith) }
+
+  laws-alike : bandKind v ≡ Feedback → (k : ℕ) → k < bands v → AlikeLaws (vars v) (feedback v k) (feedback w k)
+  unfolding lawFields lawRest _▸_
+  laws-alike t k h =
+      let e = subst (λ (b : BandKind). Each (Equal v w) (lawFields (vars v) (lawSlot k)) (lawCount b (vars v))) t (each-law (vars v) (bandKind v) k (same-band o k h)) in
+      let a = each-low (vars v) lawRestSize _ _ e in
+      let b = each-high (vars v) lawRestSize _ _ e in
+      record { a = a .at; c = b .at constantInLaw (omega arith); q = b .at divisorInLaw (omega arith) }
 
   edges-alike : (k : ℕ) → k < bands v → edge v k ≡ edge w k
   unfolding bandFields _▸_
@@ -47,6 +58,8 @@ module _ {σ : ℕ → ℕ} {v w : List ℤ} (o : Reordered σ v w) where
     caps = each-cap (vars v) (same-head o) .at;
     edges = edges-alike;
     safety = safety-alike;
+    kind = o .kind;
+    laws = laws-alike;
     rows = rows-alike;
   }
 

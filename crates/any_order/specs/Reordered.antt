@@ -4,7 +4,7 @@ use mathlib.Core.Bool.{Bool, true, false}
 use mathlib.Core.List.{List}
 use Prim.Native.Nat.{ℕ, _<_}
 use lib.IntN.{ℤ}
-use Rattle.sheet_spec.specs.Slots.{_!_, vars, boxes, unsafeBox}
+use Rattle.sheet_spec.specs.Slots.{_!_, vars, boxes, bandKind, unsafeBox}
 use Rattle.sheet_spec.specs.Box.{SameSides}
 use Rattle.sheet_spec.specs.declared.Record.{Record}
 use Rattle.sheet_spec.specs.declared.Record.the-variants.{Head, Band, Unsafe, Recovery}
@@ -21,12 +21,13 @@ pub record Permutation (n : ℕ) (σ : ℕ → ℕ) : Type 0 where
 -- the record is a no-go box
 abbrev pub isUnsafe : Record → Bool
 isUnsafe Head = false
-isUnsafe (Band k) = false
+isUnsafe (Band b k) = false
 isUnsafe (Unsafe j) = true
 isUnsafe Recovery = false
 
--- v and w agree in every number up to their counts but the no-go boxes, and box j of v is box σ j of w
+-- v and w agree in the kind of their bands and in every number up to their counts but the no-go boxes, and box j of v is box σ j of w
 pub record Reordered (σ : ℕ → ℕ) (v w : List ℤ) : Type 0 where
+  pub kind : bandKind v ≡ bandKind w
   pub same : (r : ℕ) → r < records (shape v) → isUnsafe (recordAt (shape v) r) ≡ false → (j : ℕ) → j < fieldCountAt (shape v) r
       → v ! fieldsAt (shape v) r j .slot ≡ w ! fieldsAt (shape v) r j .slot
   pub permutation : Permutation (boxes v) σ

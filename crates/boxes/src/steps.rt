@@ -16,6 +16,7 @@ use boxes_step::Budget;
 use boxes_step::StepResult;
 use boxes_step::step;
 use machine_spec::Law;
+use sheet_encoding::records::band_kind;
 use sheet_spec::slots::BAND_VAR;
 use sheet_spec::slots::BANDS;
 use sheet_spec::slots::BOX_SIZE;
@@ -34,6 +35,7 @@ pub fn plant(sheet: &[i32; SLOTS], law: Law) -> Plant
         n: n,
         bands: bands,
         var: var,
+        kind: band_kind(sheet),
         law: law,
     }
 }

@@ -4,7 +4,7 @@ use mathlib.Core.Bool.{Bool, true, false}
 use Prim.Native.Nat.{ℕ, suc, _+_, _*_, _/_, _<_}
 use native.Mathlib.Omega.{arith}
 use native.Mathlib.Nat.{div-le-self}
-use lib.Dec.{T}
+use lib.Dec.{T, lit≤}
 use lib.IntN.{ℤ, pos, negsuc, negℤ, natAbs, _+ℤ_, _-ℤ_, _*ℤ_}
 use lib.Signed.{nonNeg, yes-nonNeg, _≤ℤ_, _<ℤ_}
 use mir.Syntax.{w32}
@@ -12,32 +12,22 @@ use mir.Val.{Fits}
 use Rattle.integers.specs.Bound.{Bound}
 use Rattle.integers.specs.Order.{minZ}
 use Rattle.integers.specs.Division.{floorDiv}
-use Rattle.integers.proofs.Z.{ints, flat, le-true, le-false, neg, mul-mono, mul-neg, min-is, max-is, bound-in, bound-mul}
+use Rattle.integers.proofs.Z.{ints, flat, sub, le-true, le-false, neg, mul-mono, mul-neg, min-is, max-is, bound-in, bound-less, bound-neg, bound-mul}
 use Rattle.integers.proofs.Rounding.{Close, floor-moved, floor-close, ceil-close, close-most, close-least}
-use Rattle.sheet_spec.specs.Limits.{maxCap, maxDivisor}
+use Rattle.sheet_spec.specs.Limits.{maxCap, maxCommand, maxDivisor}
 use Rattle.sheet_spec.specs.Valid.{Between}
-use Rattle.machine_spec.specs.Machine.{clamp}
+use Rattle.machine_spec.specs.Machine.{clamp, outwardDiv}
 use Rattle.machine_spec.specs.Rate.{outer}
-use Rattle.boxes_arithmetic.specs.Limits.{CapAsked, Capped, DivisionAsked}
-use Rattle.boxes_arithmetic.specs.Outward.{noFurther, outwardDiv}
+use Rattle.boxes_arithmetic.specs.Limits.{AboveAsked, CapAsked, Capped, DivisionAsked}
+use Rattle.boxes_arithmetic.specs.Outward.{noFurther}
 
 -- ---- what 32 bits hold without a sign
 
--- a sheet's divisor times its cap
-abbrev pub mostLimit : ℕ
-mostLimit = maxDivisor * maxCap
+-- what a dividend may be above its base times the divisor
+abbrev pub widest : ℕ
+widest = maxDivisor * (2 * maxCommand)
 
-module _ {cap q : ℤ} (asked : CapAsked cap q) where
-  pub cap-bound : Bound cap maxCap
-  cap-bound = bound-in (omega (ints, asked .room .low, neg (pos maxCap))) (asked .room .high)
-
-  pub divisor-bound : Bound q maxDivisor
-  divisor-bound = bound-in (omega (ints, asked .divisor .low, neg (pos maxDivisor))) (asked .divisor .high)
-
-  pub most-bound : Bound (q *ℤ cap) mostLimit
-  most-bound = bound-mul divisor-bound cap-bound
-
-pub unsigned : (z : ℤ) → pos 0 ≤ℤ z → Bound z (mostLimit + mostLimit) → T (nonNeg z) × Fits w32 (natAbs z)
+pub unsigned : (z : ℤ) → pos 0 ≤ℤ z → Bound z widest → T (nonNeg z) × Fits w32 (natAbs z)
 unsigned (pos n) h k = (yes-nonNeg h, record { fits = omega (arith, k .at-most) })
 unsigned (negsuc n) h k = absurd (h .le)
 
@@ -49,7 +39,50 @@ pub quotient-bound : {z : ℤ} {B : ℕ} (q : ℕ) → Bound z B → Bound (pos 
 quotient-bound {z = pos n} q h = record { at-most = omega (arith, div-le-self n q, h .at-most) }
 quotient-bound {z = negsuc n} q h = record { at-most = omega (arith, div-le-self (suc n) q, h .at-most) }
 
--- ---- a dividend x that the cap does not clamp, and x + q·cap, which is not negative
+pub divisor-bound : {q : ℤ} → Between (pos 1) (pos maxDivisor) q → Bound q maxDivisor
+divisor-bound d = bound-in (omega (ints, d .low, neg (pos maxDivisor))) (d .high)
+
+-- ---- a dividend x above q·base
+
+module _ {base x q : ℤ} (asked : AboveAsked base x q) where
+  pub base-bound : Bound (q *ℤ base) (maxDivisor * maxCommand)
+  base-bound = bound-mul (divisor-bound (asked .divisor)) (asked .near)
+
+  pub moved-low : pos 0 ≤ℤ (x -ℤ q *ℤ base)
+  moved-low = simp flat (omega (ints, simp flat at (asked .above)))
+
+  pub moved-bound : Bound (x -ℤ q *ℤ base) widest
+  moved-bound = bound-in (omega (ints, moved-low, neg (pos widest))) (asked .below)
+
+floored : (z : ℤ) (q : ℕ) → pos 0 ≤ℤ z → pos (natAbs z / q) ≡ floorDiv z q
+unfolding floorDiv
+floored (pos n) q h = refl
+floored (negsuc n) q h = absurd (h .le)
+
+-- the code's quotient of x − q·base, moved back
+pub moved-back : (base x q : ℤ) → pos 1 ≤ℤ q → pos 0 ≤ℤ (x -ℤ q *ℤ base) → pos (natAbs (x -ℤ q *ℤ base) / natAbs q) +ℤ base ≡ floorDiv x (natAbs q)
+moved-back base x (negsuc b) h k = absurd (h .le)
+moved-back base x (pos b) h k =
+    let e : x +ℤ pos b *ℤ negℤ base ≡ x -ℤ pos b *ℤ base = simp flat (omega ints) in
+    rw (floored (x -ℤ pos b *ℤ base) b k) (simp flat (omega (ints, simp flat at (rw e at (floor-moved x (negℤ base) b (omega ints))))))
+
+-- ---- a sheet's divisor times its cap
+
+abbrev pub mostLimit : ℕ
+mostLimit = maxDivisor * maxCap
+
+module _ {cap q : ℤ} (asked : CapAsked cap q) where
+  pub cap-bound : Bound cap maxCap
+  cap-bound = bound-in (omega (ints, asked .room .low, neg (pos maxCap))) (asked .room .high)
+
+  pub most-bound : Bound (q *ℤ cap) mostLimit
+  most-bound = bound-mul (divisor-bound (asked .divisor)) cap-bound
+
+  -- −cap times the divisor
+  pub least-is : q *ℤ negℤ cap ≡ negℤ (q *ℤ cap)
+  least-is = mul-neg q cap
+
+-- ---- a dividend x that the cap does not clamp
 
 module _ {cap x q : ℤ} (asked : DivisionAsked cap x q) where
   pub dividend-bound : Bound x mostLimit
@@ -57,8 +90,16 @@ module _ {cap x q : ℤ} (asked : DivisionAsked cap x q) where
       let most = most-bound (asked .sheet) in
       bound-in (omega (ints, asked .above, most .at-most, neg (q *ℤ cap), neg (pos mostLimit))) (omega (ints, asked .below, most .at-most))
 
-  pub moved-low : pos 0 ≤ℤ (x +ℤ q *ℤ cap)
-  moved-low = simp flat (omega (ints, simp flat at (asked .above)))
+  -- it is above q·(−cap)
+  pub above-cap : AboveAsked (negℤ cap) x q
+  above-cap =
+      let most = most-bound (asked .sheet) in
+      record {
+        near = bound-less (bound-neg (cap-bound (asked .sheet))) (lit≤ tt);
+        divisor = asked .sheet .divisor;
+        above = rw (least-is (asked .sheet)) (asked .above);
+        below = rw (least-is (asked .sheet)) (omega (ints, sub x (negℤ (q *ℤ cap)), asked .below, most .at-most, neg (q *ℤ cap)));
+      }
 
   -- the negative of x
   pub negative : DivisionAsked cap (negℤ x) q
@@ -67,16 +108,6 @@ module _ {cap x q : ℤ} (asked : DivisionAsked cap x q) where
     above = omega (ints, asked .below, neg x, neg (q *ℤ cap));
     below = omega (ints, asked .above, neg x, neg (q *ℤ cap));
   }
-
-floored : (z : ℤ) (q : ℕ) → pos 0 ≤ℤ z → pos (natAbs z / q) ≡ floorDiv z q
-unfolding floorDiv
-floored (pos n) q h = refl
-floored (negsuc n) q h = absurd (h .le)
-
--- the code's quotient of x + q·cap, moved back
-pub moved-back : (cap x q : ℤ) → pos 1 ≤ℤ q → pos 0 ≤ℤ (x +ℤ q *ℤ cap) → pos (natAbs (x +ℤ q *ℤ cap) / natAbs q) -ℤ cap ≡ floorDiv x (natAbs q)
-moved-back cap x (negsuc b) h k = absurd (h .le)
-moved-back cap x (pos b) h k = rw (floored (x +ℤ pos b *ℤ cap) b k) (sym (floor-moved x cap b (omega ints)))
 
 -- ---- quotients of either face
 

@@ -1,6 +1,6 @@
 // The arithmetic of a box's faces: the lesser, the greater and the outer one of two numbers, and signed numbers divided by
 // positive ones, rounded outward and clamped (document 01, "The machine on a sheet"; document 02, paper 6: compared first, and divided
-// only where the cap does not clamp). The definitions are in integers/specs/Division, machine_spec/specs/Machine and
+// only where nothing is clamped): a change to its cap, a command of the plain law to the safety range. The definitions are in integers/specs/Division, machine_spec/specs/Machine and
 // machine_spec/specs/Rate, the law that makes comparisons of the clamp in machine_spec/specs/Clamped.
 ghost use mathlib.Core.Path.{_≡_};
 ghost use mathlib.Core.Bool.{true, not, _&&_};
@@ -8,10 +8,10 @@ ghost use lib.IntN.{natAbs, negℤ, _*ℤ_};
 ghost use lib.Signed.{leZ, _<ℤ_};
 ghost use Rattle.integers.specs.Order.{minZ, maxZ};
 ghost use Rattle.integers.specs.Division.{ceilDiv, floorDiv};
-ghost use Rattle.machine_spec.specs.Machine.{clamp};
+ghost use Rattle.machine_spec.specs.Machine.{clamp, clampTo, outwardDiv};
 ghost use Rattle.machine_spec.specs.Rate.{neutral, outer};
-ghost use Rattle.boxes_arithmetic.specs.Limits.{CapAsked, DivisionAsked, QuotientAsked};
-ghost use Rattle.boxes_arithmetic.specs.Outward.{noFurther, outwardDiv};
+ghost use Rattle.boxes_arithmetic.specs.Limits.{AboveAsked, CapAsked, CommandAsked, DivisionAsked, QuotientAsked};
+ghost use Rattle.boxes_arithmetic.specs.Outward.{noFurther};
 
 pub fn min(a: i64, b: i64) -> i64
     ensures { λ r. ⌜ r ≡ minZ a b ⌝ }
@@ -32,15 +32,22 @@ pub fn outer(up: bool, a: i64, b: i64) -> i64
     if up { max(a, b) } else { min(a, b) }
 }
 
-// The quotient, rounded down, of a dividend strictly between −divisor·cap and divisor·cap. Moved up by divisor·cap it is above zero, so
-// nothing negative is divided, and 32 bits hold it.
+// The quotient, rounded down, of a dividend that is above divisor·base. What it is above that, 32 bits hold: so nothing negative is divided.
+fn quotient_above(base: i64, dividend: i64, divisor: i64) -> i64
+    requires { ⌜ AboveAsked base dividend divisor ⌝ }
+    ensures { λ z. ⌜ z ≡ floorDiv dividend (natAbs divisor) ⌝ }
+{
+    let moved = dividend - divisor * base;
+    let quotient = (moved as u32) / (divisor as u32);
+    (quotient as i64) + base
+}
+
+// The quotient, rounded down, of a dividend strictly between −divisor·cap and divisor·cap.
 pub fn floor_div(cap: i64, dividend: i64, divisor: i64) -> i64
     requires { ⌜ DivisionAsked cap dividend divisor ⌝ }
     ensures { λ r. ⌜ r ≡ floorDiv dividend (natAbs divisor) ⌝ }
 {
-    let moved = dividend + divisor * cap;
-    let quotient = (moved as u32) / (divisor as u32);
-    (quotient as i64) - cap
+    quotient_above(-cap, dividend, divisor)
 }
 
 // The quotient, rounded up, of a dividend strictly between −divisor·cap and divisor·cap: its negative is rounded down.
@@ -119,6 +126,26 @@ pub fn outer_quotient(up: bool, cap: i64, dividend: i64, divisor: i64, outermost
         clamped_ceil(cap, dividend, divisor)
     } else {
         clamped_floor(cap, dividend, divisor)
+    }
+}
+
+// The quotient, rounded outward and clamped to the commands from `least` to `greatest`. A dividend is divided only if it is strictly between
+// divisor·least and divisor·greatest.
+pub fn clamped_command(up: bool, least: i64, greatest: i64, dividend: i64, divisor: i64) -> i64
+    requires { ⌜ CommandAsked least greatest divisor ⌝ }
+    ensures { λ r. ⌜ r ≡ clampTo least greatest (outwardDiv up dividend (natAbs divisor)) ⌝ }
+{
+    if dividend <= divisor * least {
+        return least;
+    }
+    if divisor * greatest <= dividend {
+        return greatest;
+    }
+    if up {
+        // the negative is rounded down
+        -quotient_above(-greatest, -dividend, divisor)
+    } else {
+        quotient_above(least, dividend, divisor)
     }
 }
 

@@ -3,3 +3,4 @@ pub mod Parts
 pub mod Rates
 mod RowNumbers
 pub mod Terms
+pub mod Ends

@@ -7,14 +7,14 @@ use lib.IntN.{ℤ, pos, negℤ, _*ℤ_}
 use lib.Signed.{ltZ, _≤ℤ_}
 use Rattle.integers.specs.Bound.{Bound}
 use Rattle.sheet_spec.specs.Limits.{maxTicks, maxCap, maxDivisor, maxEdge}
-use Rattle.sheet_spec.specs.Slots.{N, rowSize, bandSlot, slots, vars, bands, cap, Row, rowAt}
+use Rattle.sheet_spec.specs.Slots.{N, rowSize, bandSlot, slots, vars, bands, cap, bandKind, feedback, Row, rowAt}
 use Rattle.sheet_spec.specs.Box.{lo, hi}
 use Rattle.sheet_spec.specs.Valid.{Between, ValidNumbers}
 use Rattle.machine_spec.specs.Box.{side, Near, Ordered, Sized, within}
-use Rattle.machine_spec.specs.declared.Law.{Law}
-use Rattle.machine_spec.specs.Accepted.{Lawful}
-use Rattle.machine_spec.specs.Machine.{Machine, rowOf, change}
-use Rattle.machine_spec.specs.Rate.{bound, neutral, offeredOver, outer, rowOver}
+use Rattle.sheet_spec.specs.declared.BandKind.{BandKind}
+use Rattle.sheet_spec.specs.declared.BandKind.the-variants.{Feedback}
+use Rattle.machine_spec.specs.Machine.{Machine, rowOf, baselineEnd, change}
+use Rattle.machine_spec.specs.Rate.{bound, lawOver, neutral, offeredOver, outer, rowOver}
 use Rattle.boxes_arithmetic.specs.declared.Outermost.{Outermost}
 use Rattle.boxes_arithmetic.specs.Limits.{Capped, limit, word}
 use Rattle.boxes_rates.specs.declared.Plant.{Plant}
@@ -55,19 +55,54 @@ pub record RowAsked (n row : ℕ) (B : List ℤ) : Type 0 where
   pub place : row + rowSize ≤ slots
   pub sides : Sized n limit B
 
--- the commands that the law l offers in the band at a slot can be bounded, for the row at a slot
-pub record CommandsAsked (v : List ℤ) (l : Law) (row at : ℕ) : Type 0 where
-  pub sheet : ValidNumbers v
-  pub law : Lawful v l
-  pub room : row + rowSize ≤ slots
+-- ---- the commands that a law offers
+
+-- the slot `at` is that of one of the bands
+pub record BandAt (v : List ℤ) (at : ℕ) : Type 0 where
   pub band : ℕ
   pub place : at ≡ bandSlot band
   pub among : band < bands v
 
--- t is the outer one of b·u over the commands u that the law offers in the band k at a slot, over any box
-pub record CommandTerm (up : Bool) (m : Machine) (r : Row) (at : ℕ) (t : ℤ) : Type 0 where
-  pub same : (k : ℕ) → at ≡ bandSlot k → (B : List ℤ) → t ≡ outer up (r .b *ℤ offeredOver false m k B) (r .b *ℤ offeredOver true m k B)
+-- the commands of the safety range of the band at a slot can be read
+pub record SafetyAsked (v : List ℤ) (at : ℕ) : Type 0 where
+  pub sheet : ValidNumbers v
+  pub slot : BandAt v at
+
+-- the commands over the box B of the plain law that follows the state can be bounded, in the band at a slot
+pub record FeedbackAsked (n : ℕ) (v B : List ℤ) (at : ℕ) : Type 0 where
+  pub sheet : ValidNumbers v
+  pub kind : bandKind v ≡ Feedback
+  pub n-is : n ≡ vars v
+  pub sides : Sized (vars v) limit B
+  pub slot : BandAt v at
+
+-- an end of the plain law's commands in band k over the box B, for bands of a kind
+abbrev pub endOver : BandKind → Bool → List ℤ → ℕ → List ℤ → ℤ
+endOver b up v k B = baselineEnd b up v k (lawOver up (vars v) (feedback v k) B)
+
+-- z is such an end of the law that follows the state, in the band k at a slot
+pub record FeedbackEnd (up : Bool) (v : List ℤ) (at : ℕ) (B : List ℤ) (z : ℤ) : Type 0 where
+  pub same : (k : ℕ) → at ≡ bandSlot k → z ≡ endOver Feedback up v k B
+  pub near : Bound z word
+
+-- t is the outer one of the products of c with the plain law's commands in the band k at a slot, over the box B
+pub record BaselineTerm (b : BandKind) (up : Bool) (v : List ℤ) (c : ℤ) (at : ℕ) (B : List ℤ) (t : ℤ) : Type 0 where
+  pub same : (k : ℕ) → at ≡ bandSlot k → t ≡ outer up (c *ℤ endOver b false v k B) (c *ℤ endOver b true v k B)
   pub near : Bound t termLimit
+
+-- the commands that the plant's law offers over the box B in the band at a slot can be bounded, for the row at a slot
+pub record CommandsAsked (p : Plant) (v B : List ℤ) (row at : ℕ) : Type 0 where
+  pub plant : Describes p v
+  pub room : row + rowSize ≤ slots
+  pub sides : Sized (vars v) limit B
+  pub slot : BandAt v at
+
+-- t is the outer one of b·u over the commands u that the law offers in the band k at a slot, over the box B
+pub record CommandTerm (up : Bool) (m : Machine) (r : Row) (at : ℕ) (B : List ℤ) (t : ℤ) : Type 0 where
+  pub same : (k : ℕ) → at ≡ bandSlot k → t ≡ outer up (r .b *ℤ offeredOver false m k B) (r .b *ℤ offeredOver true m k B)
+  pub near : Bound t termLimit
+
+-- ---- the allowed change by a row
 
 -- x is the row's N bounded over the box B and over the commands whose outer term is t
 pub record RowBounded (up : Bool) (n : ℕ) (r : Row) (B : List ℤ) (t x : ℤ) : Type 0 where
@@ -86,9 +121,7 @@ pub record BandAsked (p : Plant) (v B : List ℤ) (i at : ℕ) (z : ℤ) : Type 
   pub plant : Describes p v
   pub var : i < vars v
   pub sides : Sized (vars v) limit B
-  pub band : ℕ
-  pub place : at ≡ bandSlot band
-  pub among : band < bands v
+  pub slot : BandAt v at
   pub between : Between (negℤ (cap v i)) (cap v i) z
 
 -- r is the outer one of z and of that change in the band k at the slot, and where it says so it is the cap, beyond which nothing goes

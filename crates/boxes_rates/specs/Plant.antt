@@ -6,7 +6,7 @@ use Prim.Native.Nat.{ℕ, _+_, _<_}
 use lib.Dec.{leb}
 use lib.IntN.{ℤ}
 use lib.Signed.{leZ, _≤ℤ_, _<ℤ_}
-use Rattle.sheet_spec.specs.Slots.{_!_, N, bandSize, bandSlot, vars, bands, bandVar, edge}
+use Rattle.sheet_spec.specs.Slots.{_!_, N, bandSize, bandSlot, vars, bands, bandVar, bandKind, edge}
 use Rattle.sheet_spec.specs.Valid.{ValidNumbers}
 use Rattle.machine_spec.specs.Accepted.{Lawful}
 use Rattle.boxes_rates.specs.declared.Plant.{Plant}
@@ -18,6 +18,7 @@ pub record Describes (p : Plant) (v : List ℤ) : Type 0 where
   pub n : p .n ≡ vars v
   pub bands : p .bands ≡ bands v
   pub var : p .var ≡ bandVar v
+  pub kind : p .kind ≡ bandKind v
 
 -- ---- bands, by the slots of their edges
 

@@ -7,28 +7,22 @@ ghost use Rattle.sheet_spec.specs.Slots as slots;
 ghost use Rattle.sheet_spec.specs.Valid.{ValidNumbers};
 ghost use Rattle.machine_spec.specs.Machine.{machine};
 ghost use Rattle.machine_spec.specs.Rate.{faceRate, neighborhood, neutral, rate, rates};
-ghost use Rattle.boxes_rates.specs.Limits.{BandAsked, CommandTerm, CommandsAsked, NarrowAsked, RateAsked, RatesAsked, RowRated};
+ghost use Rattle.boxes_rates.specs.Limits.{BandAsked, NarrowAsked, RateAsked, RatesAsked, RowRated};
 ghost use Rattle.boxes_rates.specs.Plant.{FirstBand, cutAt, nextStartsBy};
 use crate::Plant;
+use crate::commands::command_term;
 use crate::row::bound;
 use crate::row::further;
-use crate::row::product;
-use crate::row::span_term;
 use boxes_arithmetic::Outermost;
 use boxes_arithmetic::max;
 use boxes_arithmetic::min;
-use boxes_arithmetic::outer;
-use machine_spec::Law;
 use sheet_spec::slots::BAND_SIZE;
 use sheet_spec::slots::BOX_SIZE;
 use sheet_spec::slots::FIRST_BAND;
 use sheet_spec::slots::FIRST_CAP;
 use sheet_spec::slots::FIRST_ROW;
 use sheet_spec::slots::N;
-use sheet_spec::slots::ROW_B;
 use sheet_spec::slots::ROW_SIZE;
-use sheet_spec::slots::SAFETY_GREATEST;
-use sheet_spec::slots::SAFETY_LEAST;
 use sheet_spec::slots::SLOTS;
 
 // A band follows the one at the slot `at`, which is not the last band's slot `top`, and starts at or below x.
@@ -63,27 +57,6 @@ fn neutral(up: bool, cap: i64) -> i64
     if up { -cap } else { cap }
 }
 
-// The outer one of b·u over the commands u that the law offers in the band at the slot `band`, where b is that of the row at a slot.
-fn command_term(up: bool, law: Law, sheet: &[i32; SLOTS], row: usize, band: usize) -> i64
-    requires { ⌜ CommandsAsked (now sheet) law row band ⌝ }
-    ensures { λ r. ⌜ CommandTerm up (machine (now (sheet .entry)) law) (slots.rowAt (now (sheet .entry)) row) band r ⌝ }
-{
-    let slot = row + ROW_B;
-    let coefficient = sheet[slot];
-    match law {
-        Law::Baseline => {
-            let least = band + SAFETY_LEAST;
-            let greatest = band + SAFETY_GREATEST;
-            outer(
-                up,
-                product(coefficient, sheet[least] as i64),
-                product(coefficient, sheet[greatest] as i64),
-            )
-        }
-        Law::Span { least, greatest } => span_term(up, coefficient, least, greatest),
-    }
-}
-
 // The outer one of the outermost so far and of the allowed change of variable i over the box, by the row of the band at the slot `band`.
 fn row_rate(
     up: bool,
@@ -98,8 +71,7 @@ fn row_rate(
     ensures { λ r. ⌜ RowRated up (machine (now (sheet .entry)) (plant .law)) (now (over .entry)) i band outermost r ⌝ }
 {
     let row = band + FIRST_ROW + i * ROW_SIZE;
-    let law = plant.law;
-    let term = command_term(up, law, sheet, row, band);
+    let term = command_term(up, plant, sheet, row, band, over);
     let number = bound(up, plant.n, sheet, row, over, term);
     let slot = FIRST_CAP + i;
     further(up, sheet[slot] as i64, sheet, row, number, outermost)

@@ -3,10 +3,11 @@
 // machine_spec/specs/Machine and machine_spec/specs/Rate.
 ghost use mathlib.Core.Path.{_≡_};
 ghost use mathlib.Core.Bool.{true, not};
-ghost use Prim.Native.Nat.{_*_, _<_};
+ghost use Prim.Native.Nat.{_+_, _*_, _<_};
 ghost use lib.IntN.{_*ℤ_};
 ghost use lib.Signed.{_≤ℤ_};
 ghost use Rattle.integers.specs.Bound.{Bound};
+ghost use Rattle.sheet_spec.specs.Slots.{_!_};
 ghost use Rattle.sheet_spec.specs.Slots as slots;
 ghost use Rattle.sheet_spec.specs.Box.{lo, hi};
 ghost use Rattle.machine_spec.specs.Machine.{change};
@@ -43,10 +44,10 @@ fn term(up: bool, coefficient: i32, over: &[i64; BOX_SIZE], j: usize) -> i64
     (coefficient as i64) * over[place]
 }
 
-// Σ aj·xj over the box, by the coefficients of the row at a slot.
-fn weighted(up: bool, n: usize, sheet: &[i32; SLOTS], row: usize, over: &[i64; BOX_SIZE]) -> i64
+// Σ aj·xj over the box, by the coefficients of the row or of the law at a slot.
+pub fn weighted(up: bool, n: usize, sheet: &[i32; SLOTS], row: usize, over: &[i64; BOX_SIZE]) -> i64
     requires { ⌜ RowAsked n row (now over) ⌝ }
-    ensures { λ r. ⌜ r ≡ weighted up n (slots.rowAt (now (sheet .entry)) row) (now (over .entry)) ⌝ }
+    ensures { λ r. ⌜ r ≡ weighted up n (λ j. now (sheet .entry) ! (row + j)) (now (over .entry)) ⌝ }
     ensures { λ r. ⌜ Bound r (slots.N * (word * limit)) ⌝ }
 {
     let mut sum: i64 = 0;

@@ -1,8 +1,11 @@
-// Runs the checks of document 01 on the reader and the writer of sheets that are run and not proved.
+// Runs the checks of documents 01 and 02 on the reader and the writer of sheets that are run and not proved.
 // Each writes a line: what is checked, and the answer.
-ghost use Prim.Native.Nat.{_≤_, _<_};
+ghost use Prim.Native.Nat.{_<_};
 
+mod feedback;
 mod sheet_a;
+mod sheet_f;
+mod six;
 
 use sheet_a::*;
 
@@ -39,11 +42,9 @@ fn verdict(label: &[u8], same: bool) {
     }
 }
 
-// Reads the first bytes of a file.
-fn part(label: &[u8], f: [u8; PADDED], count: usize)
-    requires { ⌜ count ≤ 71 ⌝ }
-{
-    let read = sheet::read(&f[0..count]);
+// Reads a file.
+fn reading(label: &[u8], f: &[u8]) {
+    let read = sheet::read(f);
     answer(label, read.refusal);
 }
 
@@ -52,28 +53,28 @@ fn changed(label: &[u8], at: usize, byte: u8)
     requires { ⌜ at < 71 ⌝ }
 {
     let f = with(file(), at, byte);
-    part(label, f, LENGTH);
+    reading(label, &f[0..LENGTH]);
 }
 
 fn sums_of_ticks() {
     let f = with(file(), ALPHA_FIRST, 3);
     let most = with(f, ALPHA, 228);
-    part(b"sum of ticks 1000", most, LENGTH);
+    reading(b"sum of ticks 1000", &most[0..LENGTH]);
     let more = with(f, ALPHA, 229);
-    part(b"sum of ticks 1001", more, LENGTH);
+    reading(b"sum of ticks 1001", &more[0..LENGTH]);
 }
 
 fn lengths() {
     let f = file();
-    part(b"19 bytes", f, 19);
-    part(b"69 bytes", f, LENGTH - 1);
-    part(b"70 bytes", f, LENGTH);
-    part(b"71 bytes", f, PADDED);
+    reading(b"19 bytes", &f[0..19]);
+    reading(b"69 bytes", &f[0..LENGTH - 1]);
+    reading(b"70 bytes", &f[0..LENGTH]);
+    reading(b"71 bytes", &f[0..PADDED]);
 }
 
 fn refusals_of_head() {
     changed(b"head's mark", HEAD_MARK, b'T');
-    changed(b"variables 5", VARS, 5);
+    changed(b"variables 7", VARS, 7);
     changed(b"delta 0", DELTA, 0);
     changed(b"greatest command 65561", GREATEST_SECOND, 1);
     changed(b"bands 2", BANDS, 2);
@@ -121,4 +122,6 @@ fn main() {
     refusals_of_head();
     refusals_of_records();
     writing();
+    feedback::checks();
+    six::checks();
 }

@@ -13,32 +13,38 @@ use lib.Seq.{take-all, take-take, take-nil, getD-take}
 use borrow.Author.Tests.{le-leb}
 use Rattle.sheet_spec.specs.Slots.{headSize}
 use Rattle.sheet_spec.specs.Fields.{Field, bytesIn, numberOf, decoded, offset, filled, bad}
+use Rattle.sheet_spec.specs.Sizes.{lawBytes}
+use Rattle.sheet_spec.specs.declared.BandKind.{BandKind}
+use Rattle.sheet_spec.specs.declared.BandKind.the-variants.{Fixed, Feedback}
 use Rattle.sheet_spec.specs.declared.Shape.{Shape}
 use Rattle.sheet_spec.specs.declared.Record.the-variants.{Head}
 use Rattle.sheet_spec.specs.Layout.{headFields}
 use Rattle.sheet_spec.specs.File.{Small, records, recordStart, marked}
 use Rattle.sheet_spec.specs.Refusals.{unlessRefused}
 use Rattle.sheet_spec.specs.Sheet.{headOf, shapeOf, refusal, values, zeros}
-use Rattle.sheet_spec.proofs.Tests.{bad-ranges}
 use Rattle.sheet_spec.proofs.Streams.{lt-or-le}
-use Rattle.sheet_spec.proofs.Ranges.{small}
+use Rattle.sheet_spec.proofs.Accepted.{head-named}
 use Rattle.sheet_spec.proofs.Length.{cap-offset, file-length}
 use Rattle.sheet_spec.proofs.Answers.{refused-beginning, refused-head, refused-size}
 use Rattle.decision_spec.specs.Decision.{Reply, recoveryOf, checkRecovery, isKeep}
 use Rattle.decision_spec.specs.Listing.{_␣_, newline, sheetWord, checkWord, replyText, sheetLine, questionLines, listing}
 use Rattle.listing.specs.Limits.{longestSheet}
 
--- the length grows with the counts
-grows : {n m b c g k : ℕ} → n ≤ m → b ≤ c → g ≤ k
-    → 20 + 2 * n + b * (14 + n * (2 * n + 12)) + (2 + 8 * n) * (g + 1) ≤ 20 + 2 * m + c * (14 + m * (2 * m + 12)) + (2 + 8 * m) * (k + 1)
-grows {n} {m} {b} {c} {g} {k} p q r =
+-- the length grows with the counts, and a law adds to it
+law-grows : {n m : ℕ} (b : BandKind) → n ≤ m → lawBytes b n ≤ lawBytes Feedback m
+law-grows Fixed l = omega arith
+law-grows Feedback l = omega arith
+
+grows : {n m x y b c g k : ℕ} → n ≤ m → x ≤ y → b ≤ c → g ≤ k
+    → 20 + 2 * n + b * (14 + x + n * (2 * n + 12)) + (2 + 8 * n) * (g + 1) ≤ 20 + 2 * m + c * (14 + y + m * (2 * m + 12)) + (2 + 8 * m) * (k + 1)
+grows {n} {m} {x} {y} {b} {c} {g} {k} p l q r =
     let row : n * (2 * n + 12) ≤ m * (2 * m + 12) = mul-le-mul p (omega arith) in
-    let band : b * (14 + n * (2 * n + 12)) ≤ c * (14 + m * (2 * m + 12)) = mul-le-mul q (omega arith) in
+    let band : b * (14 + x + n * (2 * n + 12)) ≤ c * (14 + y + m * (2 * m + 12)) = mul-le-mul q (omega arith) in
     let side : (2 + 8 * n) * (g + 1) ≤ (2 + 8 * m) * (k + 1) = mul-le-mul (omega arith) (omega arith) in
     omega arith
 
 fits : (s : Shape) → Small s → recordStart s (records s) ≤ longestSheet
-fits s m = rw file-length (grows (m .vars) (m .bands) (m .boxes))
+fits s m = rw file-length (grows (m .vars) (law-grows (s .kind) (m .vars)) (m .bands) (m .boxes))
 
 -- how a file that is longer is refused
 abbrev tooLong : Bool → List ℤ → ℕ
@@ -54,7 +60,7 @@ refused f l = go (marked f 0 Head) refl (bad headFields (headOf f) headSize) ref
     go : (b : Bool) → marked f 0 Head ≡ b → (c : ℕ) → bad headFields (headOf f) headSize ≡ c → tooLong b (headOf f) ≡ refusal f
     go false e c q = refused-beginning f (begins false e)
     go true e zero q =
-        let m = small (headOf f) (bad-ranges headFields (headOf f) headSize q) in
+        let m = head-named f q .0 in
         rw (q, tooLong) (refused-size f (begins true e) (sym q) (λ z. let x : ⊥ = omega (arith, z, fits (shapeOf f) m) in x))
     go true e (suc c) q = rw (q, tooLong) (refused-head f (begins true e) (suc c) (sym q) (λ z. let x : ⊥ = omega arith in x))
 

@@ -13,7 +13,7 @@ use Rattle.integers.specs.Order.{minZ}
 use Rattle.integers.specs.Division.{floorDiv, ceilDiv}
 use Rattle.integers.proofs.Z.{ints, flat, le-true, min-is, max-is}
 use Rattle.integers.proofs.Division.{floor-hi, ceil-lo}
-use Rattle.sheet_spec.specs.Slots.{N, rowAt}
+use Rattle.sheet_spec.specs.Slots.{N, lawSize, rowAt}
 use Rattle.machine_spec.specs.declared.Law.the-variants.{Baseline, Span}
 use Rattle.machine_spec.specs.Machine.{Machine, machine, rowOf, offeredAt, clamp, numerator, change, Allowed, Tick}
 use Rattle.machine_spec.proofs.Everything.{everything}
@@ -24,7 +24,7 @@ row = replicate N (pos 0) ++ (pos 1 ∷ pos 0 ∷ pos 0 ∷ pos 1 ∷ [])
 
 abbrev v : List ℤ
 v = (pos 2 ∷ pos 1 ∷ pos 1 ∷ pos 0 ∷ pos 4 ∷ pos 4 ∷ pos 4 ∷ pos 0 ∷ pos 1 ∷ pos 5 ∷ pos 5 ∷ replicate (N - 2) (pos 0))
-    ++ (negsuc 1999999 ∷ pos 0 ∷ pos 1 ∷ row ++ row)
+    ++ (negsuc 1999999 ∷ pos 0 ∷ pos 1 ∷ replicate lawSize (pos 0) ++ (row ++ row))
 
 abbrev m : Machine
 m = machine v Baseline

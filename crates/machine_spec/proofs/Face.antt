@@ -13,7 +13,7 @@ use Rattle.integers.proofs.Z.{ints, flat, min-is, max-is, prod, span-lo, span-h
 use Rattle.integers.proofs.Division.{floor-mono, ceil-mono}
 use Rattle.sheet_spec.specs.Slots.{N, Row}
 use Rattle.machine_spec.specs.Box.{sum}
-use Rattle.machine_spec.specs.Machine.{clamp, change}
+use Rattle.machine_spec.specs.Machine.{clampTo, clamp, outwardDiv, change}
 use Rattle.machine_spec.specs.Rate.{outer, outermost}
 
 abbrev pub Order : Bool → ℤ → ℤ → Type 0
@@ -128,9 +128,18 @@ span true a l h x u v = record { order = span-hi a l h x u v }
 
 -- ---- the outermost change goes out with the numerator
 
+pub clamp-to-mono : (l h : ℤ) {y z : ℤ} → y ≤ℤ z → clampTo l h y ≤ℤ clampTo l h z
+clamp-to-mono l h {y} {z} o = omega (ints, max-is l (minZ y h), max-is l (minZ z h), min-is y h, min-is z h)
+
 pub clamp-mono : (cap : ℤ) {y z : ℤ} → y ≤ℤ z → clamp cap y ≤ℤ clamp cap z
 unfolding clamp
-clamp-mono cap {y} {z} h = omega (ints, max-is (negℤ cap) (minZ y cap), max-is (negℤ cap) (minZ z cap), min-is y cap, min-is z cap)
+clamp-mono cap = clamp-to-mono (negℤ cap) cap
+
+-- a quotient that is rounded outward goes out with its dividend
+pub outward-mono : (up : Bool) (x y : ℤ) (q : ℕ) → 0 < q → Beyond up x y → Beyond up (outwardDiv up x q) (outwardDiv up y q)
+unfolding outwardDiv
+outward-mono false x y q p h = record { order = floor-mono x y q p (h .order) }
+outward-mono true x y q p h = record { order = ceil-mono y x q p (h .order) }
 
 pub change-mono : (up : Bool) (cap : ℤ) (r : Row) (M N : ℤ) → 0 < natAbs (r .q) → Beyond up M N → Beyond up (change up cap r M) (change up cap r N)
 unfolding change

@@ -11,9 +11,14 @@ use lib.Signed.{_≤ℤ_}
 use Rattle.integers.specs.Bound.{Bound}
 use Rattle.integers.proofs.Z.{ints, bound-in}
 use Rattle.sheet_spec.specs.Limits.{maxCap}
-use Rattle.sheet_spec.specs.Slots.{N, vars, bands, cap, row}
+use Rattle.sheet_spec.specs.Slots.{N, vars, bands, cap, bandKind, feedback, row}
 use Rattle.sheet_spec.specs.Valid.{ValidNumbers}
+use Rattle.sheet_spec.specs.declared.BandKind.the-variants.{Feedback}
 use Rattle.sheet_spec.proofs.Box.{differ}
+
+positive : (q : ℤ) → pos 1 ≤ℤ q → 0 < natAbs q
+positive (pos n) h = omega ints
+positive (negsuc n) h = absurd (h .le)
 
 module _ {v : List ℤ} (wf : ValidNumbers v) where
   -- there is room for the variables
@@ -28,10 +33,9 @@ module _ {v : List ℤ} (wf : ValidNumbers v) where
 
   pub divisor : (k i : ℕ) → k < bands v → i < vars v → 0 < natAbs (row v k i .q)
   divisor k i h g = positive (row v k i .q) (wf .rows k i h g .q .low)
-    where
-      positive : (q : ℤ) → pos 1 ≤ℤ q → 0 < natAbs q
-      positive (pos n) h = omega ints
-      positive (negsuc n) h = absurd (h .le)
+
+  pub law-divisor : bandKind v ≡ Feedback → (k : ℕ) → k < bands v → 0 < natAbs (feedback v k .q)
+  law-divisor e k h = positive (feedback v k .q) (wf .laws e k h .q .low)
 
 -- a variable that is left, where a loop has taken as many turns as there is room for: there is none
 pub none-past-room : {n i : ℕ} → n ≤ N → i < n → leb (suc i) N ≡ false → ⊥

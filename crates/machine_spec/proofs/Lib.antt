@@ -8,6 +8,7 @@ pub mod Neighborhood
 pub mod Bands
 pub mod Facts
 pub mod Part
+pub mod Weighted
 pub mod Offers
 pub mod Sound
 pub mod Progress

@@ -6,7 +6,7 @@ use mathlib.Core.List.{List}
 use Prim.Native.Nat.{ℕ, zero, suc, _<_}
 use native.Mathlib.Omega.{arith}
 use lib.Dec.{T}
-use lib.IntN.{ℤ, _*ℤ_}
+use lib.IntN.{ℤ}
 use lib.ListN.{length}
 use lib.Signed.{_≤ℤ_}
 use Rattle.integers.proofs.Z.{ints}
@@ -14,10 +14,11 @@ use Rattle.sheet_spec.specs.Slots.{_!_, Row}
 use Rattle.machine_spec.specs.Box.{Ordered, In}
 use Rattle.machine_spec.specs.Machine.{Machine, varsOf, bandsOf, bandVarOf, cap, rowOf}
 use Rattle.machine_spec.specs.Accepted.{Accepted}
-use Rattle.machine_spec.specs.Rate.{outer, outermost, weighted, bound, bandMet, part, rowOver, bandRate, rate}
-use Rattle.machine_spec.proofs.Face.{Beyond, beyond-refl, beyond-sum, sum-beyond, outer-in, outer-mono, span, change-mono}
+use Rattle.machine_spec.specs.Rate.{outermost, bound, bandMet, part, rowOver, bandRate, rate}
+use Rattle.machine_spec.proofs.Face.{Beyond, beyond-refl, beyond-sum, outer-mono, change-mono}
 use Rattle.machine_spec.proofs.Inside.{Inside}
 use Rattle.machine_spec.proofs.Facts.{cap-low, divisor}
+use Rattle.machine_spec.proofs.Weighted.{wider-span, weighted-wider}
 use Rattle.machine_spec.proofs.Offers.{over-wider, over-ordered}
 use Rattle.machine_spec.proofs.Bands.{Band, meets-read, meets-show, meets-wider}
 use Rattle.machine_spec.proofs.Part.{part-within, part-ordered, part-inside}
@@ -31,14 +32,10 @@ unfolding outermost
 outermost-mono {up} z zero f g h = beyond-refl up z
 outermost-mono z (suc n) f g h = outer-mono (outermost-mono z n f g (λ i k. h i (omega arith))) (h n (omega arith))
 
-wider-span : (up : Bool) (a : ℤ) {l h l′ h′ : ℤ} → l ≤ℤ h → l′ ≤ℤ l → h ≤ℤ h′ → Beyond up (outer up (a *ℤ l′) (a *ℤ h′)) (outer up (a *ℤ l) (a *ℤ h))
-wider-span up a {l} {h} {l′} {h′} g i j = outer-in up _ _ _ (span up a l′ h′ l i (omega ints)) (span up a l′ h′ h (omega ints) j)
-
 -- over a wider box and more commands
 bound-mono : (up : Bool) (n : ℕ) (r : Row) (A B : List ℤ) {u w u′ w′ : ℤ} → Ordered n A → Inside n A B → u ≤ℤ w → u′ ≤ℤ u → w ≤ℤ w′ → Beyond up (bound up n r B u′ w′) (bound up n r A u w)
-unfolding bound weighted
-bound-mono up n r A B o s g i j =
-    beyond-sum (beyond-sum (sum-beyond n _ _ (λ q h. wider-span up (r .a q) (o .at q h) (s .at false q h .order) (s .at true q h .order))) (wider-span up (r .b) g i j)) (beyond-refl up (r .c))
+unfolding bound
+bound-mono up n r A B o s g i j = beyond-sum (beyond-sum (weighted-wider up n (r .a) A B o s) (wider-span up (r .b) g i j)) (beyond-refl up (r .c))
 
 cond-beyond : {up : Bool} (t t′ : Bool) {x y z : ℤ} → (T t → T t′) → (T t → Beyond up y x) → Beyond up y z → Beyond up (cond t′ y z) (cond t x z)
 cond-beyond true true f g h = g tt
@@ -58,7 +55,7 @@ module _ {m : Machine} (wf : Accepted m) {A B : List ℤ} (l : length A ≡ leng
       let u = part-ordered m (wf .sheet) k o t in
       let w = part-inside m (wf .sheet) k l s in
       change-mono up (cap m i) (rowOf m k i) _ _ (divisor (wf .sheet) k i g h)
-      (bound-mono up (varsOf m) (rowOf m k i) (part m k A) (part m k B) u w (over-ordered wf k g _ u) (over-wider m k _ _ u w false .order) (over-wider m k _ _ u w true .order)))
+      (bound-mono up (varsOf m) (rowOf m k i) (part m k A) (part m k B) u w (over-ordered wf k g _ u) (over-wider (wf .sheet) k g (m .law) _ _ u w false .order) (over-wider (wf .sheet) k g (m .law) _ _ u w true .order)))
       (beyond-neutral (change-between up (cap m i) (rowOf m k i) _ (cap-low (wf .sheet) i h)) up)
 
   pub rate-mono : (up : Bool) (i : ℕ) → i < varsOf m → Beyond up (rate up m B i) (rate up m A i)
@@ -71,7 +68,7 @@ pub part-tightens : {m : Machine} → Accepted m → (B : List ℤ) (up : Bool) 
 part-tightens {m} wf B up i k g o t =
     let u = part-ordered m (wf .sheet) k o t in
     let w = part-within m (wf .sheet) k B in
-    bound-mono up (varsOf m) (rowOf m k i) (part m k B) B u w (over-ordered wf k g _ u) (over-wider m k _ _ u w false .order) (over-wider m k _ _ u w true .order)
+    bound-mono up (varsOf m) (rowOf m k i) (part m k B) B u w (over-ordered wf k g _ u) (over-wider (wf .sheet) k g (m .law) _ _ u w false .order) (over-wider (wf .sheet) k g (m .law) _ _ u w true .order)
 
 -- ---- rates over two boxes that share a state
 

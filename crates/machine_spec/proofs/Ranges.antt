@@ -10,14 +10,14 @@ use lib.Signed.{_≤ℤ_}
 use Rattle.integers.specs.Bound.{Bound}
 use Rattle.integers.proofs.Z.{ints, neg, bound-in, bound-less, bound-sum, bound-sub, bound-mul}
 use Rattle.sheet_spec.specs.Limits.{maxCommand, maxCap, maxEdge, maxCoefficient, maxConstant}
-use Rattle.sheet_spec.specs.Slots.{_!_, N, boxSize, Row, vars, bandVar, cap, edge}
+use Rattle.sheet_spec.specs.Slots.{_!_, N, boxSize, FeedbackLaw, Row, vars, bandVar, cap, edge}
 use Rattle.sheet_spec.specs.Box.{lo}
-use Rattle.sheet_spec.specs.Valid.{Between, ValidRow, ValidNumbers}
+use Rattle.sheet_spec.specs.Valid.{Between, ValidLaw, ValidRow, ValidNumbers}
 use Rattle.machine_spec.specs.Box.{side, Near, Ordered, Sized, sum, trim, hull, moved}
 use Rattle.machine_spec.specs.declared.Law.{Law}
 use Rattle.machine_spec.specs.Machine.{Machine, machine, varsOf, bandsOf}
 use Rattle.machine_spec.specs.Accepted.{Accepted}
-use Rattle.machine_spec.specs.Rate.{weighted, bound, rowOver, rate, rates, faceRate}
+use Rattle.machine_spec.specs.Rate.{weighted, lawOver, bound, rowOver, rate, rates, faceRate}
 use Rattle.machine_spec.proofs.Face.{outer-one}
 use Rattle.machine_spec.proofs.Inside.{hull-side, moved-side, trim-side, rates-side, Inside}
 use Rattle.machine_spec.proofs.Neighborhood.{inward}
@@ -114,12 +114,23 @@ sum-bound (suc n) f h = bound-less (bound-sum (sum-bound n f (λ i k. h i (omega
 in-range : {b : ℕ} {z : ℤ} → Between (negℤ (pos b)) (pos b) z → Bound z b
 in-range h = bound-in (h .low) (h .high)
 
+-- Σ aj·xj over a box
+weighted-near : {n b : ℕ} {a : ℕ → ℤ} {B : List ℤ} → ((j : ℕ) → j < n → Between (negℤ (pos maxCoefficient)) (pos maxCoefficient) (a j)) → Near n b B → (up : Bool)
+    → Bound (weighted up n a B) (n * (maxCoefficient * b))
+unfolding weighted
+weighted-near {n} {b} f k up =
+    sum-bound n _ (λ j l. let a = in-range (f j l) in outer-one (λ z. Bound z (maxCoefficient * b)) up (bound-mul a (k .at false j l)) (bound-mul a (k .at true j l)))
+
+-- the sum of a law that follows the state
+pub law-near : {n b : ℕ} {l : FeedbackLaw} {B : List ℤ} → ValidLaw n l → Near n b B → (up : Bool) → Bound (lawOver up n l B) (n * (maxCoefficient * b) + maxConstant)
+unfolding lawOver
+law-near wf k up = bound-sum (weighted-near (wf .a) k up) (in-range (wf .c))
+
 row-near : {n b : ℕ} {r : Row} {B : List ℤ} (u w : ℤ) → ValidRow n r → Near n b B → Bound u maxCommand → Bound w maxCommand → (up : Bool)
     → Bound (bound up n r B u w) (n * (maxCoefficient * b) + maxCoefficient * maxCommand + maxConstant)
-unfolding bound weighted
+unfolding bound
 row-near {n} {b} {r} {B} u w wf k h g up =
-    bound-sum (bound-sum
-    (sum-bound n _ (λ j l. let a = in-range (wf .a j l) in outer-one (λ z. Bound z (maxCoefficient * b)) up (bound-mul a (k .at false j l)) (bound-mul a (k .at true j l))))
+    bound-sum (bound-sum (weighted-near (wf .a) k up)
     (let c = in-range (wf .b) in outer-one (λ z. Bound z (maxCoefficient * maxCommand)) up (bound-mul c h) (bound-mul c g))) (in-range (wf .c))
 
 -- the number of band j's row for variable i

@@ -13,9 +13,10 @@ use Rattle.sheet_spec.specs.Slots.{_!_, Row}
 use Rattle.sheet_spec.specs.Valid.{Between, ValidNumbers}
 use Rattle.machine_spec.specs.Box.{In}
 use Rattle.machine_spec.specs.Machine.{Machine, varsOf, bandsOf, bandVarOf, cap, rowOf, clamp, numerator, change, Tick}
-use Rattle.machine_spec.specs.Rate.{outer, outermost, weighted, bound, bandMet, part, offeredOver, neutral, bandRate, rate}
-use Rattle.machine_spec.proofs.Face.{Beyond, beyond-refl, beyond-trans, beyond-sum, sum-beyond, span, change-mono, cond-one, cond-yes, outermost-one, outermost-at}
+use Rattle.machine_spec.specs.Rate.{outer, outermost, bound, bandMet, part, offeredOver, neutral, bandRate, rate}
+use Rattle.machine_spec.proofs.Face.{Beyond, beyond-refl, beyond-trans, beyond-sum, span, change-mono, cond-one, cond-yes, outermost-one, outermost-at}
 use Rattle.machine_spec.proofs.Facts.{cap-low, divisor}
+use Rattle.machine_spec.proofs.Weighted.{weighted-holds}
 use Rattle.machine_spec.proofs.Offers.{offered-between}
 use Rattle.machine_spec.proofs.Bands.{meets-read, meets-show, meets-wider}
 use Rattle.machine_spec.proofs.Part.{part-holds}
@@ -23,9 +24,9 @@ use Rattle.machine_spec.proofs.Part.{part-holds}
 -- ---- a row over a box that holds the state, and over commands that hold the one used
 
 pub bound-holds : (up : Bool) (n : ℕ) (r : Row) (B x : List ℤ) (u v w : ℤ) → In n B x → u ≤ℤ v → v ≤ℤ w → Beyond up (bound up n r B u w) (numerator n r x v)
-unfolding bound weighted numerator
+unfolding bound numerator
 bound-holds up n r B x u v w b h k =
-    beyond-sum (beyond-sum (sum-beyond n _ _ (λ j l. span up (r .a j) _ _ (x ! j) (b .low j l) (b .high j l))) (span up (r .b) u w v h k)) (beyond-refl up (r .c))
+    beyond-sum (beyond-sum (weighted-holds up n (r .a) B x b) (span up (r .b) u w v h k)) (beyond-refl up (r .c))
 
 -- what band k's share in the rates over B is worked out over holds the state x and the command u
 pub record InPart (m : Machine) (B : List ℤ) (k : ℕ) (x : List ℤ) (u : ℤ) : Type 0 where
@@ -37,7 +38,7 @@ pub tick-in-part : {m : Machine} {x y : List ℤ} (B : List ℤ) → ValidNumber
 tick-in-part {m} {x} B wf b t = let s = part-holds m wf (t .band) B x b (t .holds) in record {
   meets = meets-show (meets-wider (b .low (bandVarOf m) (wf .var)) (b .high (bandVarOf m) (wf .var)) (meets-read (t .holds)));
   state = s;
-  command = offered-between m (t .band) (part m (t .band) B) x s (t .offered);
+  command = offered-between wf (t .band) (t .among) (m .law) (part m (t .band) B) x s (t .offered);
 }
 
 -- ---- the rates

@@ -9,9 +9,11 @@ use lib.Signed.{leZ, ltZ, _≤ℤ_}
 use lib.ListN.{length}
 use Rattle.integers.specs.Order.{minZ, maxZ}
 use Rattle.integers.specs.Division.{floorDiv, ceilDiv}
-use Rattle.sheet_spec.specs.Slots.{_!_, Row, vars, bands, bandVar, row}
+use Rattle.sheet_spec.specs.Slots.{_!_, FeedbackLaw, Row, vars, bands, bandVar, bandKind, feedback, row}
 use Rattle.sheet_spec.specs.Slots as sheet
 use Rattle.sheet_spec.specs.Valid.{Between}
+use Rattle.sheet_spec.specs.declared.BandKind.{BandKind}
+use Rattle.sheet_spec.specs.declared.BandKind.the-variants.{Fixed, Feedback}
 use Rattle.machine_spec.specs.declared.Law.{Law}
 use Rattle.machine_spec.specs.declared.Law.the-variants.{Baseline, Span}
 use Rattle.machine_spec.specs.Box.{sum}
@@ -51,12 +53,37 @@ bandMeets v bands k l h = leZ (sheet.edge v k) h && (leb bands (k + 1) || ltZ l 
 abbrev pub bandHolds : Machine → ℕ → List ℤ → Bool
 bandHolds m k x = bandMeets (m .sheet) (bandsOf m) k (x ! bandVarOf m) (x ! bandVarOf m)
 
+-- ---- numbers at a state
+
+-- Σ aj·xj
+abbrev pub combination : ℕ → (ℕ → ℤ) → List ℤ → ℤ
+combination n a x = sum n (λ j. a j *ℤ x ! j)
+
+-- z, clamped to the range from l to h
+abbrev pub clampTo : ℤ → ℤ → ℤ → ℤ
+clampTo l h z = maxZ l (minZ z h)
+
+-- the quotient x / q, rounded down for a lower end or face (`false`), up for an upper one (`true`)
+unfoldable pub outwardDiv : Bool → ℤ → ℕ → ℤ
+outwardDiv false x q = floorDiv x q
+outwardDiv true x q = ceilDiv x q
+
 -- ---- what a law offers
 
 -- the least (`false`) and the greatest (`true`) command of band k's safety range
 abbrev pub safetyEnd : Bool → List ℤ → ℕ → ℤ
 safetyEnd false v k = sheet.safetyLeast v k
 safetyEnd true v k = sheet.safetyGreatest v k
+
+-- the sum of a law that follows the state (document 02, paper 9): Σ aj·xj + c
+unfoldable pub lawSum : ℕ → FeedbackLaw → List ℤ → ℤ
+lawSum n l x = combination n (l .a) x +ℤ l .c
+
+-- the least and the greatest command of band k's plain law, where s is the sum of its law. Without such a law they do not move: they are those of
+-- the safety range. With it they are s / q, rounded outward and clamped to the safety range
+unfoldable pub baselineEnd : BandKind → Bool → List ℤ → ℕ → ℤ → ℤ
+baselineEnd Fixed up v k s = safetyEnd up v k
+baselineEnd Feedback up v k s = clampTo (sheet.safetyLeast v k) (sheet.safetyGreatest v k) (outwardDiv up s (natAbs (feedback v k .q)))
 
 -- the least and the greatest of the commands from l to h
 abbrev pub spanEnd : Bool → ℤ → ℤ → ℤ
@@ -67,10 +94,12 @@ spanEnd true l h = h
 abbrev pub oneCommand : ℤ → Law
 oneCommand u = Span u u
 
--- the least and the greatest command that the law offers in band k at the state x: under the plain law those of the safety range, in a
+-- the least and the greatest command that the law offers in band k at the state x: under the plain law those of the band at this state, in a
 -- span its own, whatever the band (document 02, paper 4)
 unfoldable pub offeredAt : Bool → Machine → ℕ → List ℤ → ℤ
-offeredAt up m k x = elim (m .law) [ Baseline ↦ safetyEnd up (m .sheet) k | Span l h ↦ spanEnd up l h ]
+offeredAt up m k x =
+    let v = m .sheet in
+    elim (m .law) [ Baseline ↦ baselineEnd (bandKind v) up v k (lawSum (vars v) (feedback v k) x) | Span l h ↦ spanEnd up l h ]
 
 -- the law offers the command u there
 abbrev pub Offered : Machine → ℕ → List ℤ → ℤ → Type 0
@@ -79,11 +108,11 @@ Offered m k x u = Between (offeredAt false m k x) (offeredAt true m k x) u
 -- ---- the allowed change
 
 unfoldable pub clamp : ℤ → ℤ → ℤ
-clamp cap z = maxZ (negℤ cap) (minZ z cap)
+clamp cap z = clampTo (negℤ cap) cap z
 
 -- N = Σ aj·xj + b·u + c
 unfoldable pub numerator : ℕ → Row → List ℤ → ℤ → ℤ
-numerator n r x u = sum n (λ j. r .a j *ℤ x ! j) +ℤ r .b *ℤ u +ℤ r .c
+numerator n r x u = combination n (r .a) x +ℤ r .b *ℤ u +ℤ r .c
 
 -- the least (for a lower face, `false`) and the greatest (upper, `true`) allowed change where N is the row's number
 unfoldable pub change : Bool → ℤ → Row → ℤ → ℤ

@@ -7,11 +7,11 @@ use lib.Dec.{leb}
 use lib.IntN.{ℤ, pos, negℤ, _+ℤ_, _-ℤ_, _*ℤ_}
 use lib.ListN.{set}
 use Rattle.integers.specs.Order.{minZ, maxZ}
-use Rattle.sheet_spec.specs.Slots.{N, Row, edge}
+use Rattle.sheet_spec.specs.Slots.{N, FeedbackLaw, Row, vars, edge, bandKind, feedback}
 use Rattle.sheet_spec.specs.Box.{lo, hi}
 use Rattle.machine_spec.specs.declared.Law.the-variants.{Baseline, Span}
 use Rattle.machine_spec.specs.Box.{sum, boxOf}
-use Rattle.machine_spec.specs.Machine.{Machine, varsOf, bandsOf, bandVarOf, cap, rowOf, bandMeets, safetyEnd, spanEnd, change}
+use Rattle.machine_spec.specs.Machine.{Machine, varsOf, bandsOf, bandVarOf, cap, rowOf, bandMeets, baselineEnd, spanEnd, change}
 
 -- ---- rates over a box
 
@@ -26,12 +26,16 @@ outermost up z zero f = z
 outermost up z (suc n) f = outer up (outermost up z n f) (f n)
 
 -- Σ aj·xj over the box, side by side
-unfoldable pub weighted : Bool → ℕ → Row → List ℤ → ℤ
-weighted up n r B = sum n (λ j. outer up (r .a j *ℤ lo B j) (r .a j *ℤ hi B j))
+unfoldable pub weighted : Bool → ℕ → (ℕ → ℤ) → List ℤ → ℤ
+weighted up n a B = sum n (λ j. outer up (a j *ℤ lo B j) (a j *ℤ hi B j))
+
+-- the sum of a law that follows the state, bounded over a box
+unfoldable pub lawOver : Bool → ℕ → FeedbackLaw → List ℤ → ℤ
+lawOver up n l B = weighted up n (l .a) B +ℤ l .c
 
 -- a row's number N bounded over a box and over the commands from u to v
 unfoldable pub bound : Bool → ℕ → Row → List ℤ → ℤ → ℤ → ℤ
-bound up n r B u v = weighted up n r B +ℤ outer up (r .b *ℤ u) (r .b *ℤ v) +ℤ r .c
+bound up n r B u v = weighted up n (r .a) B +ℤ outer up (r .b *ℤ u) (r .b *ℤ v) +ℤ r .c
 
 -- band k has a state of the box
 abbrev pub bandMet : Machine → ℕ → List ℤ → Bool
@@ -47,9 +51,12 @@ unfoldable pub part : Machine → ℕ → List ℤ → List ℤ
 part m k B =
     set (set B (bandVarOf m) (cutToBand false m k (lo B (bandVarOf m)))) (bandVarOf m + N) (cutToBand true m k (hi B (bandVarOf m)))
 
--- bounds of the least and of the greatest command that the law offers in band k, over the states of a box
+-- bounds of the least and of the greatest command that the law offers in band k, over the states of a box: of the plain law the least one comes of
+-- the least of its law's sum over the box, the greatest of the greatest, rounded and clamped as at a state (document 02, paper 9)
 unfoldable pub offeredOver : Bool → Machine → ℕ → List ℤ → ℤ
-offeredOver up m k B = elim (m .law) [ Baseline ↦ safetyEnd up (m .sheet) k | Span l h ↦ spanEnd up l h ]
+offeredOver up m k B =
+    let v = m .sheet in
+    elim (m .law) [ Baseline ↦ baselineEnd (bandKind v) up v k (lawOver up (vars v) (feedback v k) B) | Span l h ↦ spanEnd up l h ]
 
 -- the number N of band k's row for variable i, bounded over a box and over the commands that the law offers there
 abbrev pub rowOver : Bool → Machine → List ℤ → ℕ → ℕ → ℤ

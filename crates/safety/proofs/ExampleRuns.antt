@@ -1,6 +1,7 @@
--- There are runs: one on sheet A, one on a sheet of two variables and two bands where α is no multiple of δ, and one on sheet A in which a
--- kept span's command changes at every tick. Assumes nothing.
+-- There are runs: one on sheet A, one on a sheet of two variables and two bands where α is no multiple of δ, one on sheet A in which a
+-- kept span's command changes at every tick, and one on a sheet whose plain law follows the state. Assumes nothing.
 use mathlib.Core.Path.{_≡_, refl}
+use mathlib.Core.Bool.{true, false}
 use mathlib.Core.List.{List, [], _∷_, _++_}
 use mathlib.Core.Option.{none, some}
 use Prim.Native.Nat.{ℕ, _+_}
@@ -8,7 +9,7 @@ use lib.IntN.{ℤ, pos, negsuc}
 use lib.Seq.{sets}
 use mir.Syntax.{w32}
 use Rattle.integers.specs.Bytes.{beBytes, encode}
-use Rattle.sheet_spec.specs.Slots.{N, bandSlot, rowSlot, recoverySlot, unsafeSlot}
+use Rattle.sheet_spec.specs.Slots.{N, bandSlot, lawSlot, constantSlot, rowSlot, recoverySlot, unsafeSlot}
 use Rattle.sheet_spec.specs.Sheet.{zeros, bytesOf}
 use Rattle.sheet_spec.specs.SheetA.{fileA}
 use Rattle.sheet_spec.specs.Refusals.{Cause, number}
@@ -114,10 +115,33 @@ momentsC =
 unfoldable pub statesC : ℕ → List ℤ
 statesC = states (pos 0 ∷ []) momentsC
 
+-- ---- sheet D: sheet A with the safety range −20..20 and a plain law that follows the state, (−x + 3)/2
+
+unfoldable pub fileD : List ℕ
+fileD = bytesOf
+    (boxB (unsafeSlot 0) (pos 130 ∷ []) (pos 2000000 ∷ [])
+    (boxB recoverySlot (negsuc 99 ∷ []) (pos 100 ∷ [])
+    (sets (sets (sets (sets (sets zeros 0 (pos 1 ∷ pos 1 ∷ pos 1 ∷ pos 0 ∷ pos 4 ∷ pos 4 ∷ pos 4 ∷ negsuc 24 ∷ pos 25 ∷ pos 5 ∷ []))
+    (bandSlot 0) (negsuc 1999999 ∷ negsuc 19 ∷ pos 20 ∷ negsuc 0 ∷ [])) (constantSlot (lawSlot 0)) (pos 3 ∷ pos 2 ∷ []))
+    (rowSlot 0 0) (negsuc 0 ∷ [])) (rowSlot 0 0 + N) (pos 4 ∷ pos 0 ∷ pos 0 ∷ pos 20 ∷ []))))
+
+-- kept, no question
+unfoldable pub periodsD : List Period
+periodsD = ask 100 (pos 25) (pos 0 ∷ pos 0 ∷ []) ∷ none ∷ []
+
+-- the plain law's command at 17, 15 and 13 is −7, −6 and −5, at 12 it is −5 or −4
+unfoldable pub momentsD : ℤ → List Moment
+momentsD u =
+    by 0 (pos 25) (pos 5 ∷ []) ∷ by 0 (pos 25) (pos 9 ∷ []) ∷ by 0 (pos 25) (pos 13 ∷ []) ∷ by 0 (pos 25) (pos 17 ∷ [])
+    ∷ by 0 (negsuc 6) (pos 15 ∷ []) ∷ by 0 (negsuc 5) (pos 13 ∷ []) ∷ by 0 (negsuc 4) (pos 12 ∷ []) ∷ by 0 u (pos 10 ∷ []) ∷ []
+
+unfoldable pub statesD : ℕ → List ℤ
+statesD = states (pos 0 ∷ []) (momentsD (negsuc 4))
+
 -- ---- all of it computes
 
 unfoldable pub opened : ℕ
-unfolding everything encode sidesBytes ask askSpan replies periodsA momentsA statesA bandB boxB fileB periodsB momentsB statesB periodsC momentsC statesC states allows ticks follows holds measures runs
+unfolding everything encode sidesBytes ask askSpan replies periodsA momentsA statesA bandB boxB fileB periodsB momentsB statesB periodsC momentsC statesC fileD periodsD momentsD statesD states allows ticks follows holds measures runs
 opened = 0
 
 repliesA : replies fileA periodsA ≡ answered keep 4 4 ∷ answered spent 4 4 ∷ answered finest 1 5 ∷ refused (number Cause.command) ∷ answered keep 4 4 ∷ []
@@ -132,6 +156,10 @@ repliesC : replies fileA periodsC ≡ answered keep 4 4 ∷ refused (number Caus
 unfolding opened
 repliesC = refl
 
+repliesD : checkRecovery fileD ∷ replies fileD periodsD ≡ answered keep 4 1 ∷ answered keep 4 4 ∷ []
+unfolding opened
+repliesD = refl
+
 pub runA : Run fileA periodsA statesA
 unfolding opened
 runA = runs-run fileA periodsA (pos 0 ∷ []) momentsA refl
@@ -143,3 +171,12 @@ runB = runs-run fileB periodsB (pos 18 ∷ pos 3 ∷ []) momentsB refl
 pub runC : Run fileA periodsC statesC
 unfolding opened
 runC = runs-run fileA periodsC (pos 0 ∷ []) momentsC refl
+
+pub runD : Run fileD periodsD statesD
+unfolding opened
+runD = runs-run fileD periodsD (pos 0 ∷ []) (momentsD (negsuc 4)) refl
+
+-- at 12 the law offers −4 too, but neither −6 nor −3, though both are in the safety range
+offeredD : (runs fileD periodsD (pos 0 ∷ []) (momentsD (negsuc 3)) ≡ true) × ((runs fileD periodsD (pos 0 ∷ []) (momentsD (negsuc 5)) ≡ false) × (runs fileD periodsD (pos 0 ∷ []) (momentsD (negsuc 2)) ≡ false))
+unfolding opened
+offeredD = (refl, (refl, refl))

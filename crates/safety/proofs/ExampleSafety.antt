@@ -15,7 +15,7 @@ use Rattle.sheet_spec.proofs.Box.{differ, all-at}
 use Rattle.safety.specs.Run.{lawAt, Safe}
 use Rattle.safety.proofs.Run.{safe-runs}
 use Rattle.safety.proofs.RunTest.{holds-in}
-use Rattle.safety.proofs.ExampleRuns.{periodsA, statesA, fileB, periodsB, statesB, periodsC, statesC, opened, runA, runB, runC}
+use Rattle.safety.proofs.ExampleRuns.{periodsA, statesA, fileB, periodsB, statesB, periodsC, statesC, fileD, periodsD, statesD, opened, runA, runB, runC, runD}
 
 safeA : Safe fileA periodsA statesA
 unfolding opened
@@ -28,6 +28,10 @@ safeB = safe-runs fileB tt periodsB statesB (holds-in 2 (recoveryBox (values fil
 safeC : Safe fileA periodsC statesC
 unfolding opened
 safeC = safe-runs fileA tt periodsC statesC (holds-in 1 (recoveryBox (values fileA)) (statesC 0) refl) runC
+
+safeD : Safe fileD periodsD statesD
+unfolding opened
+safeD = safe-runs fileD tt periodsD statesD (holds-in 1 (recoveryBox (values fileD)) (statesD 0) refl) runD
 
 -- sheet A's no-go box holds 130, but neither the first state of the run nor the last, after tick 28
 forbiddenA : In 1 (unsafeBox (values fileA) 0) (pos 130 ∷ [])
@@ -47,6 +51,11 @@ clearB : (In 2 (unsafeBox (values fileB) 0) (statesB 0) → ⊥) × (In 2 (unsaf
 unfolding opened
 clearB = (safeB .safe 0 (lit≤ tt) 0 (lit< tt), safeB .safe 12 (lit≤ tt) 0 (lit< tt))
 
+-- nor the last state of the run under a law that follows the state, after tick 8
+clearD : In 1 (unsafeBox (values fileD) 0) (statesD 8) → ⊥
+unfolding opened
+clearD = safeD .safe 8 (lit≤ tt) 0 (lit< tt)
+
 abbrev plain : Law → Bool
 plain Baseline = true
 plain (Span a b) = false
@@ -59,3 +68,8 @@ plain-is (Span a b) e = absurd (differ e refl)
 backB : In 2 (recoveryBox (values fileB)) (statesB 8)
 unfolding opened
 backB = safeB .returns 0 (lit< tt) tt (lit≤ tt) (λ t h. plain-is (lawAt fileB periodsB (3 + t)) (all-at 5 (λ t. plain (lawAt fileB periodsB (3 + t))) t refl h))
+
+-- and these α ticks end at tick 8 too
+backD : In 1 (recoveryBox (values fileD)) (statesD 8)
+unfolding opened
+backD = safeD .returns 0 (lit< tt) tt (lit≤ tt) (λ t h. plain-is (lawAt fileD periodsD (4 + t)) (all-at 4 (λ t. plain (lawAt fileD periodsD (4 + t))) t refl h))

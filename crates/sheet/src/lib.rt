@@ -5,16 +5,17 @@ ghost use mathlib.Core.Path.{_≡_};
 ghost use mathlib.Core.Bool.{true, _&&_};
 ghost use lib.Dec.{leb};
 ghost use lib.ListN.{length};
-ghost use Rattle.sheet_spec.specs.Slots.{headSize, slots};
+ghost use Rattle.sheet_spec.specs.Slots.{headSize, slots, vars};
 ghost use Rattle.sheet_spec.specs.Fields.{bad};
 ghost use Rattle.sheet_spec.specs.Sizes.{capsAt};
 ghost use Rattle.sheet_spec.specs.Layout.{headFields};
 ghost use Rattle.sheet_spec.specs.declared.Record.the-variants.{Head};
 ghost use Rattle.sheet_spec.specs.File.{marked};
-ghost use Rattle.sheet_spec.specs.Sheet.{zeros, headOf, contents, refusal, values};
+ghost use Rattle.sheet_spec.specs.Sheet.{zeros, headOf, kindOf, contents, refusal, values};
 ghost use Rattle.sheet_spec.specs.Written.{Wrote};
 use sheet_encoding::marks;
 use sheet_encoding::records;
+use sheet_spec::BandKind;
 use sheet_spec::Record;
 pub use sheet_spec::Written;
 pub use sheet_spec::refusals;
@@ -37,12 +38,12 @@ fn zero(v: &mut [i32; SLOTS])
 }
 
 // What follows the head's numbers, once they were read and tested.
-fn read_rest(f: &[u8], v: &mut [i32; SLOTS]) -> u8
+fn read_rest(f: &[u8], kind: BandKind, v: &mut [i32; SLOTS]) -> u8
     requires { ⌜ leb capsAt (length (now f)) && marked (now f) 0 Head ≡ true ⌝ }
-    requires { ⌜ (now v ≡ headOf (now f)) × (0 ≡ bad headFields (now v) headSize) ⌝ }
+    requires { ⌜ (now v ≡ headOf (now f)) × ((0 ≡ bad headFields (now v) headSize) × (kind ≡ kindOf (now f) (vars (headOf (now f))))) ⌝ }
     ensures { λ r. ⌜ (r ≡ refusal (now (f .entry))) × (r ≡ 0 → now (v .exit) ≡ contents (now (f .entry))) ⌝ }
 {
-    let shape = records::shape_of(v);
+    let shape = records::shape_with(v, kind);
     if f.len() != records::file_length(shape) {
         return LENGTH;
     }
@@ -51,6 +52,8 @@ fn read_rest(f: &[u8], v: &mut [i32; SLOTS]) -> u8
 }
 
 // Reads a sheet into an array of zeros. If the sheet is refused, the numbers read so far are left there.
+// The kind of the bands is looked up before the head's numbers are tested: so the compiler still knows in the loops of
+// `read_rest` that the variables are few.
 fn read_values(f: &[u8], v: &mut [i32; SLOTS]) -> u8
     requires { ⌜ now v ≡ zeros ⌝ }
     ensures { λ r. ⌜ (r ≡ refusal (now (f .entry))) × (r ≡ 0 → now (v .exit) ≡ contents (now (f .entry))) ⌝ }
@@ -63,11 +66,12 @@ fn read_values(f: &[u8], v: &mut [i32; SLOTS]) -> u8
         return HEAD;
     }
     sheet_reader::read_head(f, 0, v);
+    let kind = sheet_reader::kind_of(f);
     let x = sheet_validation::bad_head(v);
     if x != 0 {
         return x;
     }
-    read_rest(f, v)
+    read_rest(f, kind, v)
 }
 
 // Reads a sheet into an array of zeros, for the crates above: it becomes the sheet's numbers, and stays zeros if the sheet is refused.

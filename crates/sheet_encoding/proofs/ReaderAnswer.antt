@@ -5,24 +5,27 @@ use mathlib.Core.List.{List}
 use Prim.Native.Nat.{ℕ, zero, suc, _+_, _≤_, _<_}
 use native.Mathlib.Omega.{arith}
 use lib.Dec.{leb}
-use lib.IntN.{ℤ, pos}
-use lib.ListN.{length}
+use lib.IntN.{ℤ, pos, natAbs}
+use lib.ListN.{length, getD}
 use lib.Signed.{_≤ℤ_}
 use borrow.Author.Tests.{le-leb, lt-leb}
 use Rattle.integers.proofs.Z.{ints}
-use Rattle.sheet_spec.specs.Slots.{_!_, headSize, varsSlot, bandsSlot, boxesSlot}
+use Rattle.sheet_spec.specs.Slots.{_!_, headSize, varsSlot, bandsSlot, boxesSlot, vars, bands, boxes}
 use Rattle.sheet_spec.specs.Refusals.{Cause, number}
+use Rattle.sheet_spec.specs.declared.BandKind.{BandKind}
 use Rattle.sheet_spec.specs.declared.Shape.{Shape}
 use Rattle.sheet_spec.specs.declared.Record.the-variants.{Head}
 use Rattle.sheet_spec.specs.File.{shape, Small, records, recordAt, fieldsAt, fieldCountAt, recordStart, filledAll, marked, markedAt, badAll}
-use Rattle.sheet_spec.specs.Fields.{offset, filled, bad}
-use Rattle.sheet_spec.specs.Sizes.{letters, capsAt}
+use Rattle.sheet_spec.specs.Fields.{decoded, offset, filled, bad}
+use Rattle.sheet_spec.specs.Sizes.{letters, varsAt, capsAt}
 use Rattle.sheet_spec.specs.Layout.{_▸_, capField, headFields, fields}
-use Rattle.sheet_spec.specs.Sheet.{zeros, headOf, shapeOf, contents, refusal}
+use Rattle.sheet_spec.specs.Sheet.{zeros, headOf, kindOf, shapeOf, contents, refusal}
 use Rattle.sheet_spec.proofs.Tests.{bad-ranges}
 use Rattle.sheet_spec.proofs.Ranges.{small}
+use Rattle.sheet_spec.proofs.Accepted.{head-number}
 use Rattle.sheet_spec.proofs.Answers.{refused-beginning, refused-size, answer}
 use Rattle.sheet_spec.proofs.FieldRuns.{filled-part}
+use Rattle.sheet_encoding.proofs.ByteNumbers.{be-one}
 use Rattle.sheet_encoding.proofs.FieldTurn.{cap-run}
 
 -- the counts of a head whose numbers are in range are not below 0, and there is room for them
@@ -54,15 +57,22 @@ all-again s f zero =
     ∙ sym (filled-part headFields capField headSize (s .vars) (cap-run (s .vars)) f letters zeros)
 all-again s f (suc r) = ap (filled (fieldsAt s (suc r)) f (recordStart s (suc r) + letters) (fieldCountAt s (suc r))) (all-again s f r)
 
--- where h is the head as read, its numbers are in range, and s has its counts
-module _ (f : List ℕ) (h : List ℤ) (s : Shape) (begun : leb capsAt (length f) && marked f 0 Head ≡ true) (hh : h ≡ headOf f)
-    (in-range : 0 ≡ bad headFields h headSize) (hs : s ≡ shape h) where
+-- the number of variables, as the file has it
+pub vars-read : (f : List ℕ) → capsAt ≤ length f → vars (headOf f) ≡ getD f varsAt 0
+unfolding headFields _▸_ decoded offset
+vars-read f l = ap natAbs (head-number f varsSlot (omega arith)) ∙ be-one f varsAt (omega arith)
+
+-- where h is the head as read, its numbers are in range, b is the kind of the file's bands, and s is made of h and b
+module _ (f : List ℕ) (h : List ℤ) (b : BandKind) (s : Shape) (begun : leb capsAt (length f) && marked f 0 Head ≡ true) (hh : h ≡ headOf f)
+    (in-range : 0 ≡ bad headFields h headSize) (hb : b ≡ kindOf f (vars (headOf f))) (hs : s ≡ record { vars = vars h; bands = bands h; boxes = boxes h; kind = b }) where
   headed : 0 ≡ bad headFields (headOf f) headSize
   headed = in-range ∙ ap (λ (u : List ℤ). bad headFields u headSize) hh
 
   same : s ≡ shapeOf f
   unfolding shapeOf
-  same = hs ∙ ap (λ (u : List ℤ). shape u) hh
+  same =
+      let with : List ℤ → BandKind → Shape = λ u b. record { vars = vars u; bands = bands u; boxes = boxes u; kind = b } in
+      hs ∙ ap₂ with hh hb
 
   size-is : recordStart s (records s) ≡ recordStart (shapeOf f) (records (shapeOf f))
   size-is = ap (λ (s : Shape). recordStart s (records s)) same

@@ -10,7 +10,9 @@ use lib.IntN.{ℤ}
 use Rattle.sheet_spec.specs.Slots.{N}
 use Rattle.sheet_spec.specs.Refusals.{Cause, refuseUnless, unlessRefused, firstRefusal}
 use Rattle.sheet_spec.specs.Fields.{filled}
-use Rattle.sheet_spec.specs.Sizes.{letters, rowBytes}
+use Rattle.sheet_spec.specs.Sizes.{letters, lawBytes, rowBytes}
+use Rattle.sheet_spec.specs.declared.BandKind.{BandKind}
+use Rattle.sheet_spec.specs.declared.BandKind.the-variants.{Fixed, Feedback}
 use Rattle.sheet_spec.specs.declared.Shape.{Shape}
 use Rattle.sheet_spec.specs.declared.Record.{Record}
 use Rattle.sheet_spec.specs.Layout.{fields, fieldCount}
@@ -59,6 +61,10 @@ record-room s r k l is ha h m =
     let n : recordStart s (r + 1) ≤ recordStart s k = rw e at (start-mono s (r + 1) (k - (r + 1))) in
     omega (arith, next-start s r, ap (recordLength (s .vars)) is)
 
--- the greatest number of bytes of a band's rows
+-- the greatest number of bytes of a band's law, and of its rows
+pub law-most : (b : BandKind) (n : ℕ) → n ≤ N → lawBytes b n ≤ lawBytes Feedback N
+law-most Fixed n h = omega arith
+law-most Feedback n h = omega arith
+
 pub rows-most : (n : ℕ) → n ≤ N → n * rowBytes n ≤ N * rowBytes N
 rows-most n h = let l : rowBytes n ≤ rowBytes N = omega arith in mul-le-mul h l

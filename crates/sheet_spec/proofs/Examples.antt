@@ -1,33 +1,36 @@
--- The definitions at sheet A, whole and damaged. Assumes nothing.
+-- The definitions at sheet A, whole, damaged and with a law that follows the state. Assumes nothing.
 use mathlib.Core.Path.{_≡_, refl}
 use mathlib.Core.Bool.{Bool, true, false}
 use mathlib.Core.List.{List, [], _∷_, _++_, map}
 use Prim.Native.Nat.{ℕ, _+_, _^_}
+use native.Mathlib.Omega.{arith}
 use lib.IntN.{ℤ, pos, negsuc}
 use lib.ListN.{take, drop, replicate}
 use lib.Seq.{sets}
-use Rattle.sheet_spec.specs.Slots.{N, boxSize, boxesSlot, bandSlot, rowSlot, recoverySlot, unsafeSlot}
-use Rattle.sheet_spec.specs.Fields.{i32, encoded}
+use Rattle.sheet_spec.specs.Slots.{N, boxSize, boxesSlot, bandSlot, lawSlot, constantSlot, divisorSlot, rowSlot, recoverySlot, unsafeSlot}
+use Rattle.sheet_spec.specs.Fields.{u16, i16, i32, encoded}
 use Rattle.sheet_spec.specs.Box.{meets}
 use Rattle.sheet_spec.specs.Order.{compareBoxes}
 use Rattle.sheet_spec.specs.declared.Comparison.{Comparison}
 use Rattle.sheet_spec.specs.declared.Comparison.the-variants.{Less, Equal, Greater}
+use Rattle.sheet_spec.specs.declared.BandKind.the-variants.{Fixed, Feedback}
 use Rattle.sheet_spec.specs.declared.Record.the-variants.{Recovery}
 use Rattle.sheet_spec.specs.declared.Shape.{Shape}
 use Rattle.sheet_spec.specs.File.{closing}
-use Rattle.sheet_spec.specs.Sheet.{zeros, refusal, values, bytesOf, length-of, writeRefusal, written}
+use Rattle.sheet_spec.specs.Sheet.{zeros, refusal, values, valueRefusal, bytesOf, length-of, writeRefusal, written, Same}
 use Rattle.sheet_spec.specs.SheetA.{headA, bandA, boxesA, fileA}
 use Rattle.sheet_spec.specs.Refusals.{Cause, number}
 use Rattle.sheet_spec.proofs.Everything.{everything}
 
 -- ---- sheet A
 
--- its head with the cap; edge, safety range and a; b, c, d, q; the two sides of each box
-valueA : List ℤ
+-- its head with the cap; edge and safety range; a; b, c, d, q; the two sides of each box
+pub valueA : List ℤ
 valueA =
-    sets (sets (sets (sets (sets (sets (sets zeros
+    sets (sets (sets (sets (sets (sets (sets (sets zeros
     0 (pos 1 ∷ pos 1 ∷ pos 1 ∷ pos 0 ∷ pos 4 ∷ pos 4 ∷ pos 4 ∷ negsuc 24 ∷ pos 25 ∷ pos 5 ∷ []))
-    (bandSlot 0) (negsuc 1999999 ∷ pos 0 ∷ pos 0 ∷ negsuc 0 ∷ []))
+    (bandSlot 0) (negsuc 1999999 ∷ pos 0 ∷ pos 0 ∷ []))
+    (rowSlot 0 0) (negsuc 0 ∷ []))
     (rowSlot 0 0 + N) (pos 4 ∷ pos 0 ∷ pos 0 ∷ pos 20 ∷ []))
     (unsafeSlot 0) (pos 130 ∷ [])) (unsafeSlot 0 + N) (pos 2000000 ∷ []))
     recoverySlot (negsuc 99 ∷ [])) (recoverySlot + N) (pos 100 ∷ [])
@@ -39,6 +42,102 @@ readA = (refl, refl)
 backA : (bytesOf valueA ≡ fileA) × (length-of valueA ≡ 70)
 unfolding everything valueA
 backA = (refl, refl)
+
+-- ---- bands whose plain law follows the state (document 02, paper 9): sheet A with a band `BF`
+
+-- the band with this mark and these numbers of the law: coefficient, constant, divisor
+pub bandBy : ℕ → ℤ → ℤ → ℤ → List ℕ
+bandBy letter a c q = 66 ∷ letter ∷ take 12 (drop 2 bandA) ++ (encoded i16 a ++ (encoded i32 c ++ (encoded u16 q ++ drop 14 bandA)))
+
+pub withBand : List ℕ → List ℕ
+withBand band = headA ++ (band ++ boxesA)
+
+-- law (−3·x + 700) / 40
+pub fileF : List ℕ
+fileF = withBand (bandBy 70 (negsuc 2) (pos 700) (pos 40))
+
+pub valueF : List ℤ
+valueF = sets (sets valueA (lawSlot 0) (negsuc 2 ∷ [])) (constantSlot (lawSlot 0)) (pos 700 ∷ pos 40 ∷ [])
+
+pub readF : (refusal fileF ≡ 0) × (values fileF ≡ valueF)
+unfolding everything valueA valueF bandBy withBand fileF
+readF = (refl, refl)
+
+pub backF : (bytesOf valueF ≡ fileF) × (length-of valueF ≡ 78)
+unfolding everything valueA valueF bandBy withBand fileF
+backF = (refl, refl)
+
+-- files of one band: what they are refused by
+pub followed : List (List ℕ × ℕ)
+followed =
+    -- the length of `BD` with the mark `BF`, and the other way round
+    (withBand (66 ∷ 70 ∷ drop 2 bandA), 5)
+    ∷ (withBand (bandBy 68 (negsuc 2) (pos 700) (pos 40)), 5)
+    -- another mark has the length of `BD`
+    ∷ (withBand (66 ∷ 71 ∷ drop 2 bandA), 7)
+    ∷ (withBand (bandBy 71 (negsuc 2) (pos 700) (pos 40)), 5)
+    -- a file that ends before the mark, in it, and behind it
+    ∷ (take 22 fileF, 5)
+    ∷ (take 23 fileF, 5)
+    ∷ (take 24 fileF, 5)
+    -- law numbers at their ends and past them
+    ∷ (withBand (bandBy 70 (pos 1000) (pos 100000000) (pos 4096)), 0)
+    ∷ (withBand (bandBy 70 (negsuc 999) (negsuc 99999999) (pos 1)), 0)
+    ∷ (withBand (bandBy 70 (pos 1001) (pos 0) (pos 1)), 10)
+    ∷ (withBand (bandBy 70 (negsuc 1000) (pos 0) (pos 1)), 10)
+    ∷ (withBand (bandBy 70 (pos 0) (pos 100000001) (pos 1)), 10)
+    ∷ (withBand (bandBy 70 (pos 0) (negsuc 100000000) (pos 1)), 10)
+    ∷ (withBand (bandBy 70 (pos 0) (pos 0) (pos 4097)), 10)
+    -- the mark `BF` with a divisor of 0
+    ∷ (withBand (bandBy 70 (pos 0) (pos 0) (pos 0)), 10)
+    ∷ []
+
+pub follows : map (λ t. refusal (t .0)) followed ≡ map (λ t. t .1) followed
+unfolding everything followed bandBy withBand fileF
+follows = refl
+
+-- two bands, the second from −5 on, with these letters
+pub twoBands : List ℕ → List ℕ → List ℕ
+twoBands first second = sets (headA ++ (first ++ (sets second 2 (encoded i32 (negsuc 4)) ++ boxesA))) 3 (2 ∷ [])
+
+-- all bands carry the first band's mark; a law number of the first band comes before the second band's mark
+pub oneMark : List (List ℕ × ℕ)
+oneMark =
+    (twoBands (bandBy 70 (pos 1) (pos 2) (pos 3)) (bandBy 70 (pos 4) (pos 5) (pos 6)), 0)
+    ∷ (twoBands (bandBy 70 (pos 1) (pos 2) (pos 3)) (bandBy 68 (pos 4) (pos 5) (pos 6)), 7)
+    ∷ (twoBands bandA (66 ∷ 70 ∷ drop 2 bandA), 7)
+    ∷ (twoBands bandA bandA, 0)
+    ∷ (twoBands (bandBy 70 (pos 1) (pos 2) (pos 0)) (bandBy 68 (pos 4) (pos 5) (pos 6)), 10)
+    ∷ (twoBands (bandBy 70 (pos 1) (pos 2) (pos 3)) (bandBy 70 (pos 4) (pos 5) (pos 0)), 10)
+    ∷ []
+
+pub marked : map (λ t. refusal (t .0)) oneMark ≡ map (λ t. t .1) oneMark
+unfolding everything oneMark twoBands bandBy
+marked = refl
+
+-- values by the first law's divisor: 0 is a sheet with `BD`, whatever other law numbers there are; another one is a sheet with `BF`, and has to be
+-- in its range
+pub kinds : List (List ℤ × ℕ)
+kinds =
+    (sets valueA (lawSlot 0) (pos 5000 ∷ []), 0)
+    ∷ (sets valueA (divisorSlot (lawSlot 0)) (pos 4096 ∷ []), 0)
+    ∷ (sets valueA (divisorSlot (lawSlot 0)) (pos 4097 ∷ []), 10)
+    ∷ (sets valueA (divisorSlot (lawSlot 0)) (negsuc 0 ∷ []), 10)
+    ∷ (sets valueF (lawSlot 0) (pos 1001 ∷ []), 10)
+    ∷ []
+
+pub byValue : map (λ t. valueRefusal (t .0)) kinds ≡ map (λ t. t .1) kinds
+unfolding everything valueA valueF kinds
+byValue = refl
+
+-- with a divisor sheet A's value is another sheet, though no number that A has differs
+pub otherKind : Same valueA (sets valueA (divisorSlot (lawSlot 0)) (pos 40 ∷ [])) → ⊥
+unfolding everything valueA
+otherKind s = let e : Fixed ≡ Feedback = s .kind in let z : _≡_ {A = ℕ} 0 1 = cc in omega arith
+
+pub fixedBytes : bytesOf (sets valueA (lawSlot 0) (pos 5000 ∷ [])) ≡ fileA
+unfolding everything valueA
+fixedBytes = refl
 
 -- ---- the order of boxes of two variables, by their sides in the file's order
 
@@ -167,7 +266,7 @@ recoverySideFirst = refl
 
 -- the boxes of a value of two variables: the recovery box is −100..100 in both, the no-go box has these lower and upper sides
 pub two : Shape
-two = record { vars = 2; bands = 1; boxes = 1 }
+two = record { vars = 2; bands = 1; boxes = 1; kind = Fixed }
 
 pub withTwo : List ℤ → List ℤ → List ℤ
 withTwo lower upper =
@@ -225,7 +324,7 @@ damaged =
     ∷ (damage 1 (73 ∷ []), 1)
     -- n, bands, no-go boxes, band variable
     ∷ (damage 2 (0 ∷ []), 2)
-    ∷ (damage 2 (5 ∷ []), 2)
+    ∷ (damage 2 (7 ∷ []), 2)
     ∷ (damage 3 (9 ∷ []), 2)
     ∷ (damage 4 (255 ∷ []), 2)
     ∷ (damage 5 (1 ∷ []), 2)

@@ -28,7 +28,7 @@ bad-most p v k = first-most (λ j. test v (p j)) k (λ j l. test-below v (p j) (
 closing-most : (v : List ℤ) (s : Shape) (x : Record) → closing v s x ≤ greatestNumber
 unfolding closing
 closing-most v s Head = omega arith
-closing-most v s (Band k) = omega arith
+closing-most v s (Band b k) = omega arith
 closing-most v s (Unsafe j) = omega (arith, order-most (s .vars) v j)
 closing-most v s Recovery = overlap-most (s .vars) v (s .boxes)
 

@@ -8,16 +8,18 @@ use native.Mathlib.Nat.{eq-or-lt-of-le}
 use native.Mathlib.Omega.{arith}
 use lib.IntN.{ℤ}
 use Rattle.sheet_spec.specs.Limits.{maxUnsafeSide, maxRecoverySide}
-use Rattle.sheet_spec.specs.Slots.{headSize, rowSlot, recoverySlot, unsafeSlot, restSize, pairSize}
+use Rattle.sheet_spec.specs.Slots.{headSize, lawSlot, rowSlot, recoverySlot, unsafeSlot, lawRestSize, restSize, pairSize}
 use Rattle.sheet_spec.specs.Refusals.{Cause, number, refuseUnless, unlessRefused, firstRefusal}
 use Rattle.sheet_spec.specs.Fields.{Field, test, bad}
-use Rattle.sheet_spec.specs.Layout.{headFields, edgeField, rowRest, rowFields, bandFields, sideFields, boxFields, fields, fieldCount, rowCount, bandCount, boxCount}
+use Rattle.sheet_spec.specs.Layout.{headFields, edgeField, lawRest, lawFields, rowRest, rowFields, bandFields, sideFields, boxFields, fields, fieldCount, lawCount, rowCount, bandCount, boxCount}
+use Rattle.sheet_spec.specs.declared.BandKind.{BandKind}
+use Rattle.sheet_spec.specs.declared.BandKind.the-variants.{Feedback}
 use Rattle.sheet_spec.specs.declared.Record.{Record}
 use Rattle.sheet_spec.specs.declared.Record.the-variants.{Head, Band, Unsafe, Recovery}
 use Rattle.sheet_spec.specs.declared.Shape.{Shape}
 use Rattle.sheet_spec.specs.File.{records, recordAt, fieldsAt, fieldCountAt, orderTest, overlapTest, closing, badNumbers, badRecord, badAll}
-use Rattle.sheet_spec.proofs.Streams.{Each, each-next, each-first, each-groups, rows-more, caps-more}
-use Rattle.sheet_spec.proofs.Records.{record-cases, unsafe-at, recovery-at, EachOf, EachField}
+use Rattle.sheet_spec.proofs.Streams.{Each, each-next, each-first, each-groups, law-more, caps-more}
+use Rattle.sheet_spec.proofs.Records.{each-by-kind, record-cases, unsafe-at, recovery-at, EachOf, EachField}
 use Rattle.sheet_spec.proofs.Laws.{goes-on, none-either, either-most, either-last, first-next, first-none, none-first, first-most, unless-zero, unless-below}
 use Rattle.sheet_spec.proofs.Order.{order-most}
 use Rattle.sheet_spec.proofs.Tests.{InRange, test-below, bad-ranges, ranges-bad}
@@ -52,12 +54,17 @@ row-low n s =
     each-first n restSize _ _ (record { at = λ j l. omega arith })
     (each-next _ _ (omega arith) (each-next _ _ (omega arith) (each-next _ _ (omega arith) (record { at = λ j l. omega arith }))))
 
-band-low : (n k : ℕ) → Each Low (bandFields n k) (bandCount n)
+law-low : (n s : ℕ) → Each Low (lawFields n s) (lawCount Feedback n)
+unfolding lawFields lawRest
+law-low n s = each-first n lawRestSize _ _ (record { at = λ j l. omega arith }) (each-next _ _ (omega arith) (record { at = λ j l. omega arith }))
+
+band-low : (n : ℕ) (b : BandKind) (k : ℕ) → Each Low (bandFields n b k) (bandCount n b)
 unfolding bandFields
-band-low n k =
-    subst (Each Low (bandFields n k)) (rows-more (n * rowCount n))
-    (each-next _ _ (edge-low k)
-    (each-next _ _ (omega arith) (each-next _ _ (omega arith) (each-groups n (rowCount n) _ (λ i l. row-low n (rowSlot k i))))))
+band-low n b k =
+    subst (Each Low (bandFields n b k)) (law-more (lawCount b n + n * rowCount n))
+    (each-next _ _ (edge-low k) (each-next _ _ (omega arith) (each-next _ _ (omega arith)
+    (each-first (lawCount b n) (n * rowCount n) _ _ (each-by-kind n b (lawSlot k) (λ e. law-low n (lawSlot k)))
+    (each-groups n (rowCount n) _ (λ i l. row-low n (rowSlot k i)))))))
 
 box-low : (n h s : ℕ) → Each Low (boxFields h s) (boxCount n)
 unfolding boxFields sideFields
@@ -66,7 +73,7 @@ box-low n h s = each-groups n pairSize _ (λ i l. each-next _ _ (omega arith) (r
 fields-low : (n : ℕ) (x : Record) → EachOf Low n x
 unfolding fields
 fields-low n Head = head-low n
-fields-low n (Band k) = band-low n k
+fields-low n (Band b k) = band-low n b k
 fields-low n (Unsafe j) = box-low n maxUnsafeSide (unsafeSlot j)
 fields-low n Recovery = box-low n maxRecoverySide recoverySlot
 
@@ -99,7 +106,7 @@ module _ (marks : ℕ → Bool) (s : Shape) (v : List ℤ) where
   early =
       record-cases s (λ r x. r < last → unlessRefused (refuseUnless (marks r) Cause.mark) (λ c. c) (badNumbers v s x) ≤ number Cause.order)
       (λ l. below 0 Head (omega arith))
-      (λ k h l. below (1 + k) (Band k) (omega arith))
+      (λ k h l. below (1 + k) (Band (s .kind) k) (omega arith))
       (λ j h l. below (1 + (s .bands + j)) (Unsafe j) (order-most (s .vars) v j))
       (λ l. absurd (let z : ⊥ = omega arith in z))
     where

@@ -11,6 +11,7 @@ pub mod GreatestNumber
 pub mod Places
 pub mod Filled
 pub mod Ranges
+pub mod BandKinds
 pub mod Accepted
 pub mod Valid
 pub mod Validity

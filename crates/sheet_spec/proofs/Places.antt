@@ -4,15 +4,17 @@ use mathlib.Core.Logic.{⊎-elim}
 use Prim.Native.Nat.{ℕ, zero, suc, _+_, _*_, _-_, _/_, _%_, _≤_, _<_}
 use native.Mathlib.Omega.{arith}
 use native.Mathlib.Nat.{mod-lt, div-add-mod', div-lt-iff-lt-mul, mul-le-mul-right}
-use Rattle.sheet_spec.specs.Slots.{N, rowSize, bandSize, boxSize, bandSlot, rowSlot, recoverySlot, unsafeSlot, slots, bSlot, cSlot, dSlot, qSlot, restSize, safetyLeastSlot, safetyGreatestSlot, pairSize, firstRow}
+use Rattle.sheet_spec.specs.Slots.{N, lawSize, rowSize, bandSize, boxSize, bandSlot, lawSlot, rowSlot, recoverySlot, unsafeSlot, slots, bSlot, cSlot, dSlot, qSlot, restSize, constantSlot, divisorSlot, lawRestSize, safetyLeastSlot, safetyGreatestSlot, pairSize, firstRow}
 use Rattle.sheet_spec.specs.Fields.{Field}
 use Rattle.sheet_spec.specs.Limits.{maxBands, maxUnsafeSide, maxRecoverySide}
+use Rattle.sheet_spec.specs.declared.BandKind.{BandKind}
+use Rattle.sheet_spec.specs.declared.BandKind.the-variants.{Fixed, Feedback}
 use Rattle.sheet_spec.specs.declared.Record.{Record}
 use Rattle.sheet_spec.specs.declared.Record.the-variants.{Head, Band, Unsafe, Recovery}
-use Rattle.sheet_spec.specs.Layout.{_▸_, first, groups, always, headFields, edgeField, rowRest, rowFields, bandFields, sideFields, boxFields, fields, fieldCount, rowCount, bandCount, boxCount}
+use Rattle.sheet_spec.specs.Layout.{_▸_, first, groups, always, headFields, edgeField, lawRest, lawFields, rowRest, rowFields, bandFields, sideFields, boxFields, fields, fieldCount, lawCount, rowCount, bandCount, boxCount}
 use Rattle.sheet_spec.specs.declared.Shape.{Shape}
 use Rattle.sheet_spec.specs.File.{Small, records, recordAt, fieldsAt, fieldCountAt}
-use Rattle.sheet_spec.proofs.Streams.{each-first, first-low, first-high, lt-or-le, rows-more}
+use Rattle.sheet_spec.proofs.Streams.{each-first, first-low, first-high, lt-or-le, law-more}
 use Rattle.sheet_spec.proofs.Records.{record-cases}
 
 -- the slots of the first k fields lie from lo to below hi, and no two are one
@@ -102,13 +104,13 @@ module _ (n m w lo : ℕ) (g : ℕ → ℕ → Field) (z : 0 < m) (s : (i : ℕ)
 -- the slots of a record start here, and the next record's here
 abbrev pub base : Record → ℕ
 base Head = 0
-base (Band k) = bandSlot k
+base (Band b k) = bandSlot k
 base (Unsafe j) = unsafeSlot j
 base Recovery = recoverySlot
 
 abbrev pub limit : Record → ℕ
 limit Head = bandSlot 0
-limit (Band k) = bandSlot (suc k)
+limit (Band b k) = bandSlot (suc k)
 limit (Unsafe j) = unsafeSlot (suc j)
 limit Recovery = unsafeSlot 0
 
@@ -136,7 +138,7 @@ edge-slot zero = refl
 edge-slot (suc k) = refl
 
 module _ (n : ℕ) (l : n ≤ N) where
-  spread-row : (s : ℕ) → Spread (rowFields n s) (rowCount n) s (s + rowSize)
+  pub spread-row : (s : ℕ) → Spread (rowFields n s) (rowCount n) s (s + rowSize)
   unfolding rowFields rowRest
   spread-row s =
       spread-first n restSize _ _ (bSlot s) (spread-run s (λ j. refl) (omega arith))
@@ -145,14 +147,27 @@ module _ (n : ℕ) (l : n ≤ N) where
       (spread-next _ _ (qSlot s) (omega arith) (omega arith) (omega arith) (spread-one _ (omega arith) (omega arith)))))
       (omega arith) (omega arith)
 
-  spread-band : (k : ℕ) → Spread (bandFields n k) (bandCount n) (bandSlot k) (bandSlot (suc k))
+  spread-law : (b : BandKind) (s : ℕ) → Spread (lawFields n s) (lawCount b n) s (s + lawSize)
+  unfolding lawFields lawRest
+  spread-law Fixed s = record { low = λ j h. absurd (none j h); high = λ j h. absurd (none j h); apart = λ i j h. absurd (none i h) }
+    where
+      none : (j : ℕ) → j < 0 → ⊥
+      none j h = omega arith
+  spread-law Feedback s =
+      spread-first n lawRestSize _ _ (constantSlot s) (spread-run s (λ j. refl) (omega arith))
+      (spread-next _ _ (divisorSlot s) (omega arith) (omega arith) (omega arith) (spread-one _ (omega arith) (omega arith)))
+      (omega arith) (omega arith)
+
+  spread-band : (b : BandKind) (k : ℕ) → Spread (bandFields n b k) (bandCount n b) (bandSlot k) (bandSlot (suc k))
   unfolding bandFields
-  spread-band k =
-      subst (λ (c : ℕ). Spread (bandFields n k) c (bandSlot k) (bandSlot (suc k))) (rows-more (n * rowCount n))
+  spread-band b k =
+      subst (λ (c : ℕ). Spread (bandFields n b k) c (bandSlot k) (bandSlot (suc k))) (law-more (lawCount b n + n * rowCount n))
       (spread-next _ _ (safetyLeastSlot k) (omega (arith, edge-slot k)) (omega (arith, edge-slot k)) (omega arith)
       (spread-next _ _ (safetyGreatestSlot k) (omega arith) (omega arith) (omega arith)
-      (spread-next _ _ (bandSlot k + firstRow) (omega arith) (omega arith) (omega arith)
-      (spread-most (omega arith) (spread-groups n (rowCount n) rowSize (bandSlot k + firstRow) _ (omega arith) (λ i h. spread-row (rowSlot k i)))))))
+      (spread-next _ _ (lawSlot k) (omega arith) (omega arith) (omega arith)
+      (spread-first (lawCount b n) (n * rowCount n) _ _ (bandSlot k + firstRow) (spread-most (omega arith) (spread-law b (lawSlot k)))
+      (spread-most (omega arith) (spread-groups n (rowCount n) rowSize (bandSlot k + firstRow) _ (omega arith) (λ i h. spread-row (rowSlot k i))))
+      (omega arith) (omega arith)))))
 
   pair-slot : (h s q : ℕ) → q < pairSize → sideFields h s q .slot ≡ s + q * N
   unfolding sideFields _▸_
@@ -174,7 +189,7 @@ module _ (n : ℕ) (l : n ≤ N) where
   pub spread-record : (x : Record) → Spread (fields n x) (fieldCount n x) (base x) (limit x)
   unfolding fields
   spread-record Head = spread-run 0 head-slot (omega arith)
-  spread-record (Band k) = spread-band k
+  spread-record (Band b k) = spread-band b k
   spread-record (Unsafe j) = spread-most (omega arith) (spread-box maxUnsafeSide (unsafeSlot j))
   spread-record Recovery = spread-box maxRecoverySide recoverySlot
 
@@ -232,7 +247,7 @@ module _ (s : Shape) (l : Small s) where
       let room : s .vars ≤ N = omega (arith, l .vars) in
       record-cases s (λ r x. (j : ℕ) → j < fieldCount (s .vars) x → fields (s .vars) x j .slot ≡ recoverySlot + i + q * N → ⊥)
       (λ j c e. omega (arith, spread-record (s .vars) room Head .high j c))
-      (λ m d j c e. omega (arith, spread-record (s .vars) room (Band m) .high j c, l .bands))
+      (λ m d j c e. omega (arith, spread-record (s .vars) room (Band (s .kind) m) .high j c, l .bands))
       (λ m d j c e. omega (arith, spread-record (s .vars) room (Unsafe m) .low j c))
       (λ j c e.
       let z : j / pairSize ≡ i = same-variable (j / pairSize) i (j % pairSize) q (omega arith) h (omega (arith, side-slot (s .vars) room maxRecoverySide recoverySlot j)) in

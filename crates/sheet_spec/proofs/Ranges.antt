@@ -9,15 +9,17 @@ use lib.IntN.{ℤ, pos, negsuc, negℤ, natAbs}
 use lib.Signed.{_≤ℤ_, leZ, leZ-yes}
 use mir.Facts.{and-yes}
 use Rattle.integers.proofs.Z.{ints, flat}
-use Rattle.sheet_spec.specs.Slots.{_!_, headSize, bandSlot, rowSlot, recoverySlot, unsafeSlot, vars, bands, boxes, varsSlot, bandsSlot, boxesSlot, bandVarSlot, δSlot, αSlot, ρSlot, leastSlot, greatestSlot, restSize, pairSize, bInRest, cInRest, dInRest, qInRest, edgeInBand, leastInBand, greatestInBand}
+use Rattle.sheet_spec.specs.Slots.{_!_, headSize, bandSlot, lawSlot, rowSlot, recoverySlot, unsafeSlot, vars, bands, boxes, bandKind, constantInLaw, divisorInLaw, lawRestSize, varsSlot, bandsSlot, boxesSlot, bandVarSlot, δSlot, αSlot, ρSlot, leastSlot, greatestSlot, restSize, pairSize, bInRest, cInRest, dInRest, qInRest, edgeInBand, leastInBand, greatestInBand}
 use Rattle.sheet_spec.specs.Valid.{Between}
 use Rattle.sheet_spec.specs.Fields.{Kind, u8, u16, i16, i32, Field}
 use Rattle.sheet_spec.specs.Limits.{maxEdge, maxUnsafeSide, maxRecoverySide}
-use Rattle.sheet_spec.specs.Layout.{_▸_, headFields, edgeField, rowRest, rowFields, bandFields, sideFields, boxFields, rowCount, bandCount, boxCount}
+use Rattle.sheet_spec.specs.declared.BandKind.{BandKind}
+use Rattle.sheet_spec.specs.declared.BandKind.the-variants.{Feedback}
+use Rattle.sheet_spec.specs.Layout.{_▸_, headFields, edgeField, lawRest, lawFields, rowRest, rowFields, bandFields, sideFields, boxFields, lawCount, rowCount, bandCount, boxCount}
 use Rattle.sheet_spec.specs.File.{shape, Small}
-use Rattle.sheet_spec.proofs.Streams.{Each, each-next, each-first, each-groups, each-low, each-high, rows-more, caps-more}
+use Rattle.sheet_spec.proofs.Streams.{Each, each-next, each-first, each-groups, each-low, each-high, law-more, caps-more}
 use Rattle.sheet_spec.proofs.Tests.{InRange, AllInRange}
-use Rattle.sheet_spec.proofs.Records.{EachField, each-field, each-head, each-band, each-unsafe, each-recovery, each-cap, each-row, each-side}
+use Rattle.sheet_spec.proofs.Records.{EachField, each-field, each-head, each-band, each-unsafe, each-recovery, each-cap, each-by-kind, each-law, each-row, each-side}
 
 pub abs-in : {l h : ℕ} (z : ℤ) → Between (pos l) (pos h) z → (l ≤ natAbs z) × (natAbs z ≤ h)
 abs-in (pos n) r = (omega (ints, r .low), omega (ints, r .high))
@@ -101,6 +103,14 @@ module _ (v : List ℤ) (n : ℕ) where
       (each-next _ _ (known (b .at cInRest (omega arith)) tt tt)
       (each-next _ _ (known (b .at dInRest (omega arith)) tt tt) (record { at = λ j l. known (b .at qInRest (omega arith)) tt tt }))))
 
+  law-fit : (s : ℕ) → Each (InRange v) (lawFields n s) (lawCount Feedback n) → Each (FieldFits v) (lawFields n s) (lawCount Feedback n)
+  unfolding lawFields lawRest _▸_
+  law-fit s h =
+      let a = each-low n lawRestSize _ _ h in
+      let b = each-high n lawRestSize _ _ h in
+      each-first n lawRestSize _ _ (record { at = λ j l. known (a .at j l) tt tt })
+      (each-next _ _ (known (b .at constantInLaw (omega arith)) tt tt) (record { at = λ j l. known (b .at divisorInLaw (omega arith)) tt tt }))
+
   box-fit : (h s : ℕ) → h ≤ maxUnsafeSide → Each (InRange v) (boxFields h s) (boxCount n) → Each (FieldFits v) (boxFields h s) (boxCount n)
   unfolding boxFields sideFields _▸_
   box-fit h s l b =
@@ -125,7 +135,7 @@ module _ (v : List ℤ) (g : AllInRange v) where
   edge-fit zero l = known (edge-in 0 l) tt tt
   edge-fit (suc k) l = known (edge-in (suc k) l) tt tt
 
-  band-fit : (k : ℕ) → k < bands v → Each (FieldFits v) (bandFields (vars v) k) (bandCount (vars v))
+  band-fit : (k : ℕ) → k < bands v → Each (FieldFits v) (bandFields (vars v) (bandKind v) k) (bandCount (vars v) (bandKind v))
   unfolding headFields bandFields _▸_
   band-fit k l =
       let n = vars v in
@@ -133,9 +143,12 @@ module _ (v : List ℤ) (g : AllInRange v) where
       let greatest = h .at greatestSlot (omega arith) in
       let b = each-band (shape v) g k l in
       let safety = between (b .at leastInBand (omega arith)) (h .at leastSlot (omega arith)) greatest in
-      subst (Each (FieldFits v) (bandFields n k)) (rows-more (n * rowCount n))
+      let law = each-law n (bandKind v) k b in
+      subst (Each (FieldFits v) (bandFields n (bandKind v) k)) (law-more (lawCount (bandKind v) n + n * rowCount n))
       (each-next _ _ (edge-fit k l) (each-next _ _ safety (each-next _ _ (between (b .at greatestInBand (omega arith)) safety greatest)
-      (each-groups n (rowCount n) _ (λ i m. row-fit v n (rowSlot k i) (each-row n k b i m))))))
+      (each-first (lawCount (bandKind v) n) (n * rowCount n) _ _
+      (each-by-kind n (bandKind v) (lawSlot k) (λ e. law-fit v n (lawSlot k) (subst (λ (b : BandKind). Each (InRange v) (lawFields n (lawSlot k)) (lawCount b n)) e law)))
+      (each-groups n (rowCount n) _ (λ i m. row-fit v n (rowSlot k i) (each-row n (bandKind v) k b i m)))))))
 
   -- every number of a sheet whose numbers are all in range fits its kind
   pub all-fit : EachField (FieldFits v) (shape v)

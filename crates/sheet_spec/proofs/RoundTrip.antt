@@ -5,30 +5,31 @@ use mathlib.Core.List.{List, [], _++_, append-assoc, append-nil}
 use Prim.Native.Nat.{ℕ, zero, suc, _+_, _≤_, _<_}
 use native.Mathlib.Omega.{arith}
 use lib.Dec.{leb}
-use lib.IntN.{ℤ}
+use lib.IntN.{ℤ, natAbs}
 use lib.ListN.{length, take, drop}
 use lib.Seq.{sets, take-all, take-at, drop-at, length-take-le, sets-eq}
 use borrow.Author.Tests.{eq-eqb, le-leb, leb-true}
 use Rattle.integers.specs.Bytes.{Bytes}
-use Rattle.sheet_spec.specs.Slots.{_!_, headSize, varsSlot, bandsSlot, boxesSlot}
+use Rattle.sheet_spec.specs.Slots.{_!_, headSize, varsSlot, bandsSlot, boxesSlot, vars, bandKind}
 use Rattle.sheet_spec.specs.Refusals.{Cause, number}
 use Rattle.sheet_spec.specs.Fields.{decoded, offset}
-use Rattle.sheet_spec.specs.Sizes.{letters, capsAt}
+use Rattle.sheet_spec.specs.Sizes.{letters, capsAt, capBytes}
 use Rattle.sheet_spec.specs.declared.Record.{Record}
-use Rattle.sheet_spec.specs.declared.Record.the-variants.{Head}
+use Rattle.sheet_spec.specs.declared.Record.the-variants.{Head, Band}
 use Rattle.sheet_spec.specs.Layout.{_▸_, headFields, fields, fieldCount}
 use Rattle.sheet_spec.specs.declared.Shape.{Shape}
 use Rattle.sheet_spec.specs.File.{shape, records, fieldsAt, recordStart, filledAll, codedAll, marked, markedAt, badAll}
-use Rattle.sheet_spec.specs.Sheet.{zeros, headOf, shapeOf, contents, stage, refusal, values, valueRefusal, length-of, bytesOf, writeRefusal, written, Same}
+use Rattle.sheet_spec.specs.Sheet.{zeros, headOf, kindOf, shapeOf, contents, stage, refusal, values, valueRefusal, length-of, bytesOf, writeRefusal, written, Same}
 use Rattle.sheet_spec.proofs.Streams.{Each}
-use Rattle.sheet_spec.proofs.Records.{EachField, each-head, head-at}
+use Rattle.sheet_spec.proofs.Records.{EachField, each-head, head-at, band-at}
 use Rattle.sheet_spec.proofs.Laws.{goes-on, none-either, first-next, none-first, unless-zero}
 use Rattle.sheet_spec.proofs.Tests.{InRange, AllInRange, AllGood, good-ranges, value-good, ranges-bad, good-all}
 use Rattle.sheet_spec.proofs.LastTest.{LastTest, test-last}
 use Rattle.sheet_spec.proofs.Filled.{all-at}
-use Rattle.sheet_spec.proofs.Ranges.{small, all-fit}
-use Rattle.sheet_spec.proofs.Accepted.{accepted, head-number, number-at, shape-same, same-shape, length-zeros}
-use Rattle.sheet_spec.proofs.Length.{file-length}
+use Rattle.sheet_spec.proofs.Ranges.{abs-in, small, all-fit}
+use Rattle.sheet_spec.proofs.BandKinds.{kind-by-mark}
+use Rattle.sheet_spec.proofs.Accepted.{accepted, head-number, number-at, shape-same, shape-read, length-zeros}
+use Rattle.sheet_spec.proofs.Length.{band-start, file-length}
 use Rattle.sheet_spec.proofs.Says.{Says, bytes-of, says, length-codedAll}
 use Rattle.sheet_spec.proofs.Same.{Equal, same-ranges, same-order, same-overlap, same-good, same-head}
 
@@ -37,7 +38,7 @@ unfolding bytesOf
 write-read f b e =
     let a = accepted f e in
     let s = shapeOf f in
-    ap bytesOf (a .values) ∙ ap (λ (s : Shape). codedAll s (contents f) (records s)) (same-shape f (a .small))
+    ap bytesOf (a .values) ∙ ap (λ (s : Shape). codedAll s (contents f) (records s)) (shape-read f a)
     ∙ bytes-of s f (contents f) b (records s) (record { marks = a .marks; numbers = number-at f (a .small) }) (omega (arith, a .size))
     ∙ take-all (recordStart s (records s)) f (omega (arith, a .size))
 
@@ -53,9 +54,20 @@ module _ (v : List ℤ) (f : List ℕ) (g : AllInRange v) (size : length f ≡ r
       let P : Record → Type 0 = λ x. (j : ℕ) → j < fieldCount n x → v ! fields n x j .slot ≡ decoded (fields n x j .kind) (drop (0 + letters + offset (fields n x) j) f) in
       record { at = λ j l. subst P (head-at (shape v)) (t .numbers 0 (omega arith)) j (omega arith) ∙ sym (head-number f j l) }
 
+  -- the first band's mark is that of the value's kind
+  kind-is : bandKind v ≡ kindOf f (vars (headOf f))
+  unfolding headFields _▸_
+  kind-is =
+      let s = shape v in
+      let l : 0 < s .bands = omega (arith, abs-in (v ! bandsSlot) (nine .at bandsSlot (omega arith)) .0) in
+      let m = subst (λ (x : Record). marked f (recordStart s 1) x ≡ true) (band-at s 0 l) (t .marks 1 (omega arith)) in
+      let at : recordStart s 1 ≡ capsAt + capBytes (vars v) = omega (arith, band-start s 0 (omega arith)) in
+      let n = subst (λ (at : ℕ). marked f at (Band (s .kind) 0) ≡ true) at m in
+      sym (kind-by-mark f (vars v) (bandKind v) 0 n) ∙ ap (λ (z : ℤ). kindOf f (natAbs z)) (head-equal .at varsSlot (omega arith))
+
   shape-is : shape v ≡ shapeOf f
   unfolding headFields _▸_ shapeOf
-  shape-is = shape-same v (headOf f) (head-equal .at varsSlot (omega arith)) (head-equal .at bandsSlot (omega arith)) (head-equal .at boxesSlot (omega arith))
+  shape-is = shape-same v (headOf f) _ (head-equal .at varsSlot (omega arith)) (head-equal .at bandsSlot (omega arith)) (head-equal .at boxesSlot (omega arith)) kind-is
 
   contents-equal : EachField (Equal v (contents f)) (shape v)
   unfolding contents
@@ -86,7 +98,9 @@ module _ (v : List ℤ) (f : List ℕ) (g : AllInRange v) (size : length f ≡ r
   says-read all =
       let same = same-good v (contents f) (shape v) contents-equal (small v nine .vars) all in
       let e = says-refusal (good-all (markedAt (shape v) f) (shape v) (contents f) (records (shape v)) (t .marks) same) in
-      (e, record { same = λ r l j k. contents-equal .at r l .at j k ∙ ap (λ (w : List ℤ). w ! fieldsAt (shape v) r j .slot) (sym (accepted f e .values)) })
+      let a = accepted f e in
+      let q : shape v ≡ shape (values f) = shape-is ∙ sym (shape-read f a) ∙ ap shape (sym (a .values)) in
+      (e, record { kind = ap (λ (s : Shape). s .kind) q; same = λ r l j k. contents-equal .at r l .at j k ∙ ap (λ (w : List ℤ). w ! fieldsAt (shape v) r j .slot) (sym (a .values)) })
 
   says-overlap : LastTest (λ r. true) (shape v) v → refusal f ≡ number Cause.overlap
   says-overlap l = says-refusal (test-last (markedAt (shape v) f) (shape v) (contents f) (record {

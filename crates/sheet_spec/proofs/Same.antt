@@ -6,16 +6,17 @@ use Prim.Native.Nat.{ℕ, zero, suc, _+_, _*_, _≤_, _<_}
 use native.Mathlib.Omega.{arith}
 use lib.IntN.{ℤ}
 use lib.Signed.{_≤ℤ_}
-use Rattle.sheet_spec.specs.Slots.{_!_, N, headSize, bandSlot, rowSlot, recoverySlot, unsafeSlot, boxAt, unsafeBox, vars, bands, varsSlot, δSlot, leastSlot, greatestSlot, restSize, pairSize, edgeInBand, leastInBand}
+use Rattle.sheet_spec.specs.Slots.{_!_, N, headSize, bandSlot, lawSlot, rowSlot, recoverySlot, unsafeSlot, boxAt, unsafeBox, vars, bands, varsSlot, δSlot, leastSlot, greatestSlot, lawRestSize, restSize, pairSize, edgeInBand, leastInBand}
 use Rattle.sheet_spec.specs.Fields.{Field}
 use Rattle.sheet_spec.specs.Limits.{maxUnsafeSide, maxRecoverySide}
-use Rattle.sheet_spec.specs.Layout.{_▸_, headFields, edgeField, rowRest, rowFields, bandFields, sideFields, boxFields, rowCount, bandCount, boxCount}
+use Rattle.sheet_spec.specs.Layout.{_▸_, headFields, edgeField, lawRest, lawFields, rowRest, rowFields, bandFields, sideFields, boxFields, lawCount, rowCount, bandCount, boxCount}
+use Rattle.sheet_spec.specs.declared.BandKind.the-variants.{Feedback}
 use Rattle.sheet_spec.specs.declared.Shape.{Shape}
 use Rattle.sheet_spec.specs.Box.{SameSides}
 use Rattle.sheet_spec.specs.Refusals.{Cause, refuseUnless}
 use Rattle.sheet_spec.specs.File.{records, recordAt, orderTest, overlapTest, closing}
-use Rattle.sheet_spec.proofs.Streams.{Each, each-next, each-first, each-groups, rows-more, caps-more}
-use Rattle.sheet_spec.proofs.Records.{record-cases, EachField, each-field, each-head, each-band, each-unsafe, each-recovery, each-side}
+use Rattle.sheet_spec.proofs.Streams.{Each, each-next, each-first, each-groups, law-more, caps-more}
+use Rattle.sheet_spec.proofs.Records.{record-cases, each-by-kind, EachField, each-field, each-head, each-band, each-unsafe, each-recovery, each-side}
 use Rattle.sheet_spec.proofs.Tests.{InRange, Good, good-ranges}
 use Rattle.sheet_spec.proofs.Places.{edge-slot}
 use Rattle.sheet_spec.proofs.Box.{box-lo, box-hi, clear-sides}
@@ -67,6 +68,10 @@ module _ (v w : List ℤ) where
       each-first n restSize _ _ (record { at = λ j l. given refl refl })
       (each-next _ _ (given refl refl) (each-next _ _ (given refl refl) (each-next _ _ (given refl refl) (record { at = λ j l. given refl refl }))))
 
+  law-ends : (n s : ℕ) → Each Ends (lawFields n s) (lawCount Feedback n)
+  unfolding lawFields lawRest
+  law-ends n s = each-first n lawRestSize _ _ (record { at = λ j l. given refl refl }) (each-next _ _ (given refl refl) (record { at = λ j l. given refl refl }))
+
   box-ends : (n h s : ℕ) → Each Equal (boxFields h s) (boxCount n) → Each Ends (boxFields h s) (boxCount n)
   unfolding boxFields sideFields _▸_
   box-ends n h s e =
@@ -93,15 +98,17 @@ module _ (v w : List ℤ) where
         edge-same : (k : ℕ) → k < s .bands → v ! bandSlot k ≡ w ! bandSlot k
         edge-same k l = subst (λ (i : ℕ). v ! i ≡ w ! i) (edge-slot k) (each-band s e k l .at edgeInBand (omega arith))
 
-    band-ends : (k : ℕ) → k < s .bands → Each Ends (bandFields (s .vars) k) (bandCount (s .vars))
+    band-ends : (k : ℕ) → k < s .bands → Each Ends (bandFields (s .vars) (s .kind) k) (bandCount (s .vars) (s .kind))
     unfolding headFields bandFields _▸_
     band-ends k l =
         let n = s .vars in
         let greatest = each-head s e .at greatestSlot (omega arith) in
-        subst (Each Ends (bandFields n k)) (rows-more (n * rowCount n))
+        subst (Each Ends (bandFields n (s .kind) k)) (law-more (lawCount (s .kind) n + n * rowCount n))
         (each-next _ _ (edge-ends k l)
         (each-next _ _ (given (each-head s e .at leastSlot (omega arith)) greatest)
-        (each-next _ _ (given (each-band s e k l .at leastInBand (omega arith)) greatest) (each-groups n (rowCount n) _ (λ i m. row-ends n (rowSlot k i))))))
+        (each-next _ _ (given (each-band s e k l .at leastInBand (omega arith)) greatest)
+        (each-first (lawCount (s .kind) n) (n * rowCount n) _ _ (each-by-kind n (s .kind) (lawSlot k) (λ q. law-ends n (lawSlot k)))
+        (each-groups n (rowCount n) _ (λ i m. row-ends n (rowSlot k i)))))))
 
     pub same-ranges : EachField (InRange v) s → EachField (InRange w) s
     same-ranges g =

@@ -7,7 +7,7 @@ use native.Mathlib.Omega.{arith}
 use native.Mathlib.Nat.{add-zero, mod-lt, mod-eq-of-lt, div-eq-of-lt, div-lt-iff-lt-mul, mul-add-div-right, mul-add-mod-self-right, mul-le-mul-right}
 use lib.Dec.{T, ltb, ltb→lt, nltb→le}
 use borrow.Author.Tests.{lt-ltb, le-ltb}
-use Rattle.sheet_spec.specs.Slots.{headSize, firstRow}
+use Rattle.sheet_spec.specs.Slots.{headSize, lawInBand}
 use Rattle.sheet_spec.specs.Layout.{_▸_, first, groups}
 
 pub lt-or-le : (a b : ℕ) → (a < b) ⊎ (b ≤ a)
@@ -18,8 +18,8 @@ lt-or-le a b = go (ltb a b) (λ t. ltb→lt a b t) (λ t. nltb→le a b t)
     go false f g = inr (g tt)
 
 -- several more, one at a time
-pub rows-more : (n : ℕ) → suc (suc (suc n)) ≡ firstRow + n
-rows-more n = omega arith
+pub law-more : (n : ℕ) → suc (suc (suc n)) ≡ lawInBand + n
+law-more n = omega arith
 
 pub caps-more : (n : ℕ) → suc (suc (suc (suc (suc (suc (suc (suc (suc n)))))))) ≡ headSize + n
 caps-more n = omega arith
@@ -52,6 +52,9 @@ pub record Each {A : Type 0} (P : A → Type 0) (p : ℕ → A) (k : ℕ) : Type
 
 module _ {A : Type 0} {P : A → Type 0} where
   -- ---- of the parts, so of the whole
+
+  pub each-none : (p : ℕ → A) → Each P p 0
+  each-none p = record { at = λ j l. absurd (let z : ⊥ = omega arith in z) }
 
   pub each-next : (x : A) (g : ℕ → A) {c : ℕ} → P x → Each P g c → Each P (x ▸ g) (suc c)
   unfolding _▸_

@@ -10,27 +10,29 @@ use lib.ListN.{length, replicate}
 use mir.Syntax.{w32}
 use mir.Val.{SFits}
 use Rattle.integers.proofs.Z.{ints, flat}
-use Rattle.sheet_spec.specs.Slots.{_!_, N, slots, bandSlot, recoverySlot, unsafeSlot, vars, bands, boxes, row, recoveryBox, varsSlot, bandsSlot, boxesSlot, bandVarSlot, δSlot, αSlot, ρSlot, leastSlot, greatestSlot, restSize, pairSize, bInRest, cInRest, dInRest, qInRest, edgeInBand, leastInBand, greatestInBand}
-use Rattle.sheet_spec.specs.Valid.{ValidRow, ValidBox, ValidNumbers, Ascending, RecoveryClear, Valid}
+use Rattle.sheet_spec.specs.Slots.{_!_, N, slots, bandSlot, lawSlot, recoverySlot, unsafeSlot, vars, bands, boxes, bandKind, feedback, lawRestSize, constantInLaw, divisorInLaw, row, recoveryBox, varsSlot, bandsSlot, boxesSlot, bandVarSlot, δSlot, αSlot, ρSlot, leastSlot, greatestSlot, restSize, pairSize, bInRest, cInRest, dInRest, qInRest, edgeInBand, leastInBand, greatestInBand}
+use Rattle.sheet_spec.specs.Valid.{ValidLaw, ValidRow, ValidBox, ValidNumbers, Ascending, RecoveryClear, Valid}
 use Rattle.sheet_spec.specs.Refusals.{Cause}
 use Rattle.sheet_spec.specs.Box.{clear}
 use Rattle.sheet_spec.specs.Order.{ascendsAt}
 use Rattle.sheet_spec.specs.Fields.{Kind, u8, u16, i16, i32}
 use Rattle.sheet_spec.specs.Limits.{maxEdge, maxUnsafeSide, maxRecoverySide}
-use Rattle.sheet_spec.specs.Layout.{_▸_, headFields, edgeField, rowRest, rowFields, bandFields, sideFields, boxFields, boxCount}
+use Rattle.sheet_spec.specs.Layout.{_▸_, headFields, edgeField, lawRest, lawFields, rowRest, rowFields, bandFields, sideFields, boxFields, lawCount, boxCount}
+use Rattle.sheet_spec.specs.declared.BandKind.{BandKind}
+use Rattle.sheet_spec.specs.declared.BandKind.the-variants.{Feedback}
 use Rattle.sheet_spec.specs.declared.Record.{Record}
 use Rattle.sheet_spec.specs.declared.Shape.{Shape}
-use Rattle.sheet_spec.specs.File.{Small, shape, records, recordAt, fieldsAt, orderTest, overlapTest, closing}
+use Rattle.sheet_spec.specs.File.{shape, records, recordAt, fieldsAt, orderTest, overlapTest, closing}
 use Rattle.sheet_spec.specs.Sheet.{zeros, shapeOf, contents, refusal, values}
 use Rattle.sheet_spec.proofs.Streams.{Each, each-next, each-low, each-high}
 use Rattle.sheet_spec.proofs.Laws.{stops, unless-zero}
 use Rattle.sheet_spec.proofs.Box.{clear-at}
 use Rattle.sheet_spec.proofs.Tests.{InRange, AllInRange, AllGood, good-ranges}
-use Rattle.sheet_spec.proofs.Records.{unsafe-at, recovery-at, each-head, each-band, each-unsafe, each-recovery, each-cap, each-row, each-side}
+use Rattle.sheet_spec.proofs.Records.{unsafe-at, recovery-at, each-head, each-band, each-unsafe, each-recovery, each-cap, each-law, each-row, each-side}
 use Rattle.sheet_spec.proofs.Places.{head-slot, recovery-free}
 use Rattle.sheet_spec.proofs.Filled.{TakenAll, origin-all, length-all}
 use Rattle.sheet_spec.proofs.Ranges.{abs-in, abs-is, Fit, all-fit}
-use Rattle.sheet_spec.proofs.Accepted.{Accepted, accepted, contents-good, same-shape, length-zeros, zeros-at}
+use Rattle.sheet_spec.proofs.Accepted.{Accepted, accepted, contents-good, shape-read, length-zeros, zeros-at}
 
 fits-kind : (k : Kind) {z : ℤ} → Fit k z → SFits w32 z
 fits-kind u8 r = simp flat (omega (ints, r .low, r .high))
@@ -45,10 +47,18 @@ module _ (v : List ℤ) (g : AllInRange v) where
   valid-row : (k i : ℕ) → k < bands v → i < vars v → ValidRow (vars v) (row v k i)
   unfolding rowFields rowRest _▸_
   valid-row k i l m =
-      let h = each-row (vars v) k (each-band (shape v) g k l) i m in
+      let h = each-row (vars v) (bandKind v) k (each-band (shape v) g k l) i m in
       let a = each-low (vars v) restSize _ _ h in
       let b = each-high (vars v) restSize _ _ h in
       record { a = a .at; b = b .at bInRest (omega arith); c = b .at cInRest (omega arith); d = b .at dInRest (omega arith); q = b .at qInRest (omega arith) }
+
+  valid-law : bandKind v ≡ Feedback → (k : ℕ) → k < bands v → ValidLaw (vars v) (feedback v k)
+  unfolding lawFields lawRest _▸_
+  valid-law e k l =
+      let h = subst (λ (b : BandKind). Each (InRange v) (lawFields (vars v) (lawSlot k)) (lawCount b (vars v))) e (each-law (vars v) (bandKind v) k (each-band (shape v) g k l)) in
+      let a = each-low (vars v) lawRestSize _ _ h in
+      let b = each-high (vars v) lawRestSize _ _ h in
+      record { a = a .at; c = b .at constantInLaw (omega arith); q = b .at divisorInLaw (omega arith) }
 
   valid-box : (h s : ℕ) → Each (InRange v) (boxFields h s) (boxCount (vars v)) → ValidBox (vars v) (pos h) v s
   unfolding sideFields _▸_
@@ -127,6 +137,7 @@ module _ (v : List ℤ) (g : AllInRange v) where
         safety = λ k l. each-band (shape v) g k l .at greatestInBand (omega arith) .low;
         safety-low = λ k l. each-band (shape v) g k l .at leastInBand (omega arith) .low;
         safety-high = λ k l. each-band (shape v) g k l .at greatestInBand (omega arith) .high;
+        laws = valid-law;
         rows = valid-row;
         recovery = valid-box maxRecoverySide recoverySlot (each-recovery (shape v) g);
         unsafe = λ j l. valid-box maxUnsafeSide (unsafeSlot j) (each-unsafe (shape v) g j l);
@@ -161,30 +172,30 @@ module _ (v : List ℤ) (g : AllGood v) where
       }
 
 -- the values of a file whose numbers are in range
-module _ (f : List ℕ) (m : Small (shapeOf f)) where
+module _ (f : List ℕ) where
   -- a value is 0, or a field's
-  zero-or-taken : (i : ℕ) → (contents f ! i ≡ pos 0) ⊎ TakenAll (shape (contents f)) (records (shape (contents f))) i
+  zero-or-taken : shape (contents f) ≡ shapeOf f → (i : ℕ) → (contents f ! i ≡ pos 0) ⊎ TakenAll (shape (contents f)) (records (shape (contents f))) i
   unfolding contents
-  zero-or-taken i =
-      ⊎-elim (λ e. inl (e ∙ zeros-at i)) (λ t. inr (subst (λ (s : Shape). TakenAll s (records s) i) (sym (same-shape f m)) t))
+  zero-or-taken q i =
+      ⊎-elim (λ e. inl (e ∙ zeros-at i)) (λ t. inr (subst (λ (s : Shape). TakenAll s (records s) i) (sym q) t))
       (origin-all (shapeOf f) f (records (shapeOf f)) zeros i)
 
   pub contents-size : length (contents f) ≡ slots
   unfolding contents
   contents-size = length-all (shapeOf f) f (records (shapeOf f)) zeros ∙ length-zeros
 
-  pub contents-fit : AllInRange (contents f) → (i : ℕ) → SFits w32 (contents f ! i)
-  contents-fit g i =
+  pub contents-fit : shape (contents f) ≡ shapeOf f → AllInRange (contents f) → (i : ℕ) → SFits w32 (contents f ! i)
+  contents-fit q g i =
       ⊎-elim (λ e. subst (SFits w32) (sym e) zero-fits)
       (λ t.
       let x = fieldsAt (shape (contents f)) (t .r) (t .taken .j) in
       subst (λ (i : ℕ). SFits w32 (contents f ! i)) (t .taken .is) (fits-kind (x .kind) (all-fit (contents f) g .at (t .r) (t .below) .at (t .taken .j) (t .taken .below))))
-      (zero-or-taken i)
+      (zero-or-taken q i)
 
 contents-valid : (f : List ℕ) → Accepted f → Valid (contents f)
 contents-valid f a =
     let g = contents-good f a in
-    good-valid (contents f) g (contents-size f (a .small)) (contents-fit f (a .small) (good-ranges (contents f) (shape (contents f)) g))
+    good-valid (contents f) g (contents-size f) (contents-fit f (shape-read f a) (good-ranges (contents f) (shape (contents f)) g))
 
 pub valid : (f : List ℕ) → refusal f ≡ 0 → Valid (values f)
 valid f e = let a = accepted f e in subst Valid (sym (a .values)) (contents-valid f a)
@@ -218,7 +229,7 @@ module _ (f : List ℕ) where
   pub values-beyond : (i : ℕ) → (TakenAll (shape (values f)) (records (shape (values f))) i → ⊥) → values f ! i ≡ pos 0
   values-beyond i =
       let P : List ℤ → Type 0 = λ v. (TakenAll (shape v) (records (shape v)) i → ⊥) → v ! i ≡ pos 0 in
-      cases P (λ e. let a = accepted f e in subst P (sym (a .values)) (λ n. ⊎-elim (λ z. z) (λ t. absurd (n t)) (zero-or-taken f (a .small) i))) (λ n. zeros-at i)
+      cases P (λ e. let a = accepted f e in subst P (sym (a .values)) (λ n. ⊎-elim (λ z. z) (λ t. absurd (n t)) (zero-or-taken f (shape-read f a) i))) (λ n. zeros-at i)
 
   pub recovery-beyond : refusal f ≡ 0 → (i q : ℕ) → vars (values f) ≤ i → i < N → q < pairSize → values f ! (recoverySlot + i + q * N) ≡ pos 0
   recovery-beyond e i q b h k =

@@ -10,26 +10,26 @@ use lib.IntN.{ℤ, pos, natAbs}
 use lib.ListN.{length}
 use Rattle.integers.proofs.Z.{ints, flat}
 use Rattle.sheet_spec.specs.Limits.{maxUnsafeSide, maxRecoverySide}
-use Rattle.sheet_spec.specs.Slots.{_!_, headSize, rowSlot, recoverySlot, unsafeSlot, recoveryBox, vars, bands, boxes, varsSlot, bandsSlot, boxesSlot, bandVarSlot, δSlot, αSlot, ρSlot, leastSlot, restSize, pairSize}
+use Rattle.sheet_spec.specs.Slots.{_!_, headSize, lawSlot, rowSlot, recoverySlot, unsafeSlot, recoveryBox, vars, bands, boxes, bandKind, lawRestSize, varsSlot, bandsSlot, boxesSlot, bandVarSlot, δSlot, αSlot, ρSlot, leastSlot, restSize, pairSize}
 use Rattle.sheet_spec.specs.Box.{lowestMet}
 use Rattle.sheet_spec.specs.Valid.{Between, ValidBox, ValidNumbers, Ascending, Overlapping, Valid}
 use Rattle.sheet_spec.specs.Refusals.{Cause, number, refuseUnless, firstRefusal}
 use Rattle.sheet_spec.specs.Sizes.{capsAt}
-use Rattle.sheet_spec.specs.Layout.{headFields, edgeField, rowRest, rowFields, bandFields, sideFields, boxFields, rowCount, bandCount, boxCount}
+use Rattle.sheet_spec.specs.Layout.{headFields, edgeField, lawRest, lawFields, rowRest, rowFields, bandFields, sideFields, boxFields, lawCount, rowCount, bandCount, boxCount}
 use Rattle.sheet_spec.specs.declared.Record.the-variants.{Head}
 use Rattle.sheet_spec.specs.declared.Shape.{Shape}
 use Rattle.sheet_spec.specs.File.{shape, records, recordAt, fieldsAt, fieldCountAt, recordStart, marked, markedAt, orderTest, closing}
 use Rattle.sheet_spec.specs.Sheet.{headOf, shapeOf, contents, stage, refusal, valueRefusal}
 use Rattle.sheet_spec.specs.Validity.{ExactlyValid, OverlapRefused}
-use Rattle.sheet_spec.proofs.Streams.{Each, each-next, each-first, each-groups, rows-more, caps-more}
-use Rattle.sheet_spec.proofs.Records.{record-cases, each-field}
+use Rattle.sheet_spec.proofs.Streams.{Each, each-next, each-first, each-groups, law-more, caps-more}
+use Rattle.sheet_spec.proofs.Records.{record-cases, each-field, each-by-kind}
 use Rattle.sheet_spec.proofs.Box.{clear-of, lowest-met}
 use Rattle.sheet_spec.proofs.Laws.{either-last, first-none, first-most, unless-below}
 use Rattle.sheet_spec.proofs.Overlap.{overlap-met, overlap-clear, overlap-found}
 use Rattle.sheet_spec.proofs.Tests.{InRange, AllInRange, bad-ranges, ranges-bad, value-good, good-value}
 use Rattle.sheet_spec.proofs.LastTest.{LastTest, last-test, test-last, head-refusal}
-use Rattle.sheet_spec.proofs.Ranges.{abs-is, in-abs, small}
-use Rattle.sheet_spec.proofs.Accepted.{same-shape}
+use Rattle.sheet_spec.proofs.Ranges.{abs-is, in-abs}
+use Rattle.sheet_spec.proofs.Accepted.{head-named, same-shape}
 use Rattle.sheet_spec.proofs.RoundTrip.{read-overlap}
 use Rattle.sheet_spec.proofs.Valid.{numbers-of, ascending, good-valid, contents-size, contents-fit}
 
@@ -67,14 +67,21 @@ module _ {v : List ℤ} (wf : ValidNumbers v) where
       let r = wf .rows k i h g in
       each-first (vars v) restSize _ _ (record { at = r .a }) (each-next _ _ (r .b) (each-next _ _ (r .c) (each-next _ _ (r .d) (record { at = λ j l. r .q }))))
 
-  band-ranges : (k : ℕ) → k < bands v → Each (InRange v) (bandFields (vars v) k) (bandCount (vars v))
+  law-ranges : (k : ℕ) → k < bands v → Each (InRange v) (lawFields (vars v) (lawSlot k)) (lawCount (bandKind v) (vars v))
+  unfolding lawFields lawRest
+  law-ranges k h =
+      each-by-kind (vars v) (bandKind v) (lawSlot k)
+      (λ e. let l = wf .laws e k h in each-first (vars v) lawRestSize _ _ (record { at = l .a }) (each-next _ _ (l .c) (record { at = λ j i. l .q })))
+
+  band-ranges : (k : ℕ) → k < bands v → Each (InRange v) (bandFields (vars v) (bandKind v) k) (bandCount (vars v) (bandKind v))
   unfolding bandFields
   band-ranges k l =
       let n = vars v in
-      subst (Each (InRange v) (bandFields n k)) (rows-more (n * rowCount n))
+      subst (Each (InRange v) (bandFields n (bandKind v) k)) (law-more (lawCount (bandKind v) n + n * rowCount n))
       (each-next _ _ (edge-range k l)
       (each-next _ _ (record { low = wf .safety-low k l; high = omega (ints, wf .safety k l, wf .safety-high k l) })
-      (each-next _ _ (record { low = wf .safety k l; high = wf .safety-high k l }) (each-groups n (rowCount n) _ (λ i g. row-ranges k i l g)))))
+      (each-next _ _ (record { low = wf .safety k l; high = wf .safety-high k l })
+      (each-first (lawCount (bandKind v) n) (n * rowCount n) _ _ (law-ranges k l) (each-groups n (rowCount n) _ (λ i g. row-ranges k i l g))))))
 
   box-ranges : (most at : ℕ) → ValidBox (vars v) (pos most) v at → Each (InRange v) (boxFields most at) (boxCount (vars v))
   unfolding boxFields sideFields
@@ -153,11 +160,12 @@ unfolding refusal stage firstRefusal shapeOf
 only-overlap f e =
     let s = shapeOf f in
     let p = either-last (firstRefusal (stage f) 3) (stage f 3) (number Cause.overlap) (omega (arith, first-most (stage f) 3 (early f))) e in
-    let m = small (headOf f) (bad-ranges headFields (headOf f) headSize (first-none (stage f) 3 (p .0) .at 1 (omega arith))) in
+    let h = head-named f (first-none (stage f) 3 (p .0) .at 1 (omega arith)) in
     let t = last-test (markedAt s f) s (contents f) (p .1) in
     let l : LastTest (λ r. true) s (contents f) = record { marked = λ r l. refl; ranges = t .ranges; order = t .order; overlap = t .overlap } in
-    let u : AllButLast (contents f) = subst (λ (s : Shape). LastTest (λ r. true) s (contents f)) (sym (same-shape f m)) l in
-    overlapping u (numbers-of (contents f) (u .ranges) (contents-size f m) (contents-fit f m (u .ranges)))
+    let q = same-shape f (h .0) (h .1) (t .ranges) in
+    let u : AllButLast (contents f) = subst (λ (s : Shape). LastTest (λ r. true) s (contents f)) (sym q) l in
+    overlapping u (numbers-of (contents f) (u .ranges) (contents-size f) (contents-fit f q (u .ranges)))
 
 pub overlap-refused : OverlapRefused
 overlap-refused = record { only = only-overlap; always = λ v o. read-overlap v (all-but-last o) }

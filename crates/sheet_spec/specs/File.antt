@@ -6,7 +6,7 @@ use lib.Dec.{eqb}
 use lib.IntN.{ℤ}
 use lib.ListN.{getD}
 use Rattle.sheet_spec.specs.Limits.{maxBands, maxBoxes}
-use Rattle.sheet_spec.specs.Slots.{N, vars, bands, boxes, recoveryBox}
+use Rattle.sheet_spec.specs.Slots.{N, vars, bands, boxes, bandKind, recoveryBox}
 use Rattle.sheet_spec.specs.Box.{clear}
 use Rattle.sheet_spec.specs.Order.{ascendsAt}
 use Rattle.sheet_spec.specs.Refusals.{Cause, refuseUnless, unlessRefused, firstRefusal}
@@ -17,9 +17,9 @@ use Rattle.sheet_spec.specs.declared.Record.the-variants.{Head, Band, Un
 use Rattle.sheet_spec.specs.Layout.{_▸_, first, always, mark, fields, fieldCount}
 use Rattle.sheet_spec.specs.declared.Shape.{Shape}
 
--- the counts of a sheet, which its file's records depend on
+-- the counts of a sheet and the kind of its bands, which its file's records depend on
 abbrev pub shape : List ℤ → Shape
-shape v = record { vars = vars v; bands = bands v; boxes = boxes v }
+shape v = record { vars = vars v; bands = bands v; boxes = boxes v; kind = bandKind v }
 
 -- a value has room for sheets of this shape, and for a record
 pub record Small (s : Shape) : Type 0 where
@@ -29,7 +29,7 @@ pub record Small (s : Shape) : Type 0 where
 
 abbrev pub HasRoom : Record → Type 0
 HasRoom Head = Unit
-HasRoom (Band k) = k < maxBands
+HasRoom (Band b k) = k < maxBands
 HasRoom (Unsafe j) = j < maxBoxes
 HasRoom Recovery = Unit
 
@@ -38,7 +38,7 @@ abbrev pub records : Shape → ℕ
 records s = s .bands + s .boxes + 2
 
 unfoldable pub recordAt : Shape → ℕ → Record
-recordAt s = Head ▸ first (s .bands) Band (first (s .boxes) Unsafe (always Recovery))
+recordAt s = Head ▸ first (s .bands) (Band (s .kind)) (first (s .boxes) Unsafe (always Recovery))
 
 abbrev pub fieldsAt : Shape → ℕ → ℕ → Field
 fieldsAt s r = fields (s .vars) (recordAt s r)
@@ -89,7 +89,7 @@ overlapTest n v count = refuseUnless (clear n v count (recoveryBox v)) Cause.ove
 -- the test of a whole record, made after those of its fields: 0, or why the sheet is refused
 unfoldable pub closing : List ℤ → Shape → Record → ℕ
 closing v s Head = 0
-closing v s (Band k) = 0
+closing v s (Band b k) = 0
 closing v s (Unsafe j) = orderTest (s .vars) v j
 closing v s Recovery = overlapTest (s .vars) v (s .boxes)
 

@@ -4,10 +4,12 @@ use mathlib.Core.List.{List}
 use Prim.Native.Nat.{ℕ, zero, suc, _+_, _*_, _-_, _/_, _%_}
 use lib.Dec.{ltb}
 use lib.IntN.{ℤ, pos, negℤ, _+ℤ_, _-ℤ_}
-use Rattle.sheet_spec.specs.Slots.{_!_, N, varsSlot, bandsSlot, boxesSlot, bandVarSlot, δSlot, αSlot, ρSlot, leastSlot, greatestSlot, headSize, capSlot, bSlot, cSlot, dSlot, qSlot, restSize, firstRow, bandSlot, safetyLeastSlot, safetyGreatestSlot, rowSlot, pairSize, recoverySlot, unsafeSlot}
+use Rattle.sheet_spec.specs.Slots.{_!_, N, varsSlot, bandsSlot, boxesSlot, bandVarSlot, δSlot, αSlot, ρSlot, leastSlot, greatestSlot, headSize, capSlot, bSlot, cSlot, dSlot, qSlot, restSize, constantSlot, divisorSlot, lawRestSize, lawInBand, bandSlot, safetyLeastSlot, safetyGreatestSlot, lawSlot, rowSlot, pairSize, recoverySlot, unsafeSlot}
 use Rattle.sheet_spec.specs.Limits.{maxVars, maxBands, maxBoxes, maxTicks, maxCommand, maxCap, maxEdge, maxCoefficient, maxConstant, maxSpread, maxDivisor, maxUnsafeSide, maxRecoverySide}
 use Rattle.sheet_spec.specs.Refusals.{Cause}
 use Rattle.sheet_spec.specs.Fields.{Kind, u8, u16, i16, i32, Field}
+use Rattle.sheet_spec.specs.declared.BandKind.{BandKind}
+use Rattle.sheet_spec.specs.declared.BandKind.the-variants.{Fixed, Feedback}
 use Rattle.sheet_spec.specs.declared.Record.{Record}
 use Rattle.sheet_spec.specs.declared.Record.the-variants.{Head, Band, Unsafe, Recovery}
 
@@ -65,6 +67,18 @@ unfoldable pub edgeField : ℕ → Field
 edgeField zero = ranged i32 (bandSlot 0) (λ v. negℤ (pos maxEdge)) (λ v. negℤ (pos maxEdge)) Cause.edge
 edgeField (suc k) = ranged i32 (bandSlot (suc k)) (λ v. v ! bandSlot k +ℤ pos 1) (λ v. pos maxEdge) Cause.edge
 
+-- the coefficient of variable j in the law or the row at a slot
+abbrev pub coefficientField : ℕ → ℕ → Field
+coefficientField s j = plusMinus i16 (s + j) maxCoefficient Cause.row
+
+-- the constant and the divisor of the law at a slot
+unfoldable pub lawRest : ℕ → ℕ → Field
+lawRest s = plusMinus i32 (constantSlot s) maxConstant Cause.row ▸ always (fromTo u16 (divisorSlot s) 1 maxDivisor Cause.row)
+
+-- the law at a slot that follows the state (document 02, paper 9): n coefficients, then the rest
+unfoldable pub lawFields : ℕ → ℕ → ℕ → Field
+lawFields n s = first n (coefficientField s) (lawRest s)
+
 -- b, c, d, q of the row at a slot
 unfoldable pub rowRest : ℕ → ℕ → Field
 rowRest s =
@@ -75,25 +89,29 @@ rowRest s =
 
 -- the row at a slot: n coefficients a, then the rest
 unfoldable pub rowFields : ℕ → ℕ → ℕ → Field
-rowFields n s = first n (λ j. plusMinus i16 (s + j) maxCoefficient Cause.row) (rowRest s)
+rowFields n s = first n (coefficientField s) (rowRest s)
 
--- the number of fields of a row, of a band and of a box, on a sheet with n variables
+-- the number of fields of a row, of a band's law, of a band and of a box, on a sheet with n variables
 abbrev pub rowCount : ℕ → ℕ
 rowCount n = n + restSize
 
-abbrev pub bandCount : ℕ → ℕ
-bandCount n = firstRow + n * rowCount n
+abbrev pub lawCount : BandKind → ℕ → ℕ
+lawCount Fixed n = 0
+lawCount Feedback n = n + lawRestSize
+
+abbrev pub bandCount : ℕ → BandKind → ℕ
+bandCount n b = lawInBand + (lawCount b n + n * rowCount n)
 
 abbrev pub boxCount : ℕ → ℕ
 boxCount n = n * pairSize
 
--- edge, safety least and greatest, n rows
-unfoldable pub bandFields : ℕ → ℕ → ℕ → Field
-bandFields n k =
+-- edge, safety least and greatest, the law where bands of this kind have one, n rows
+unfoldable pub bandFields : ℕ → BandKind → ℕ → ℕ → Field
+bandFields n b k =
     edgeField k
     ▸ ranged i32 (safetyLeastSlot k) (λ v. v ! leastSlot) (λ v. v ! greatestSlot) Cause.safety
     ▸ ranged i32 (safetyGreatestSlot k) (λ v. v ! safetyLeastSlot k) (λ v. v ! greatestSlot) Cause.safety
-    ▸ groups (rowCount n) (λ i. rowFields n (rowSlot k i))
+    ▸ first (lawCount b n) (lawFields n (lawSlot k)) (groups (rowCount n) (λ i. rowFields n (rowSlot k i)))
 
 -- a lower side at a slot, within ±h, and its upper side
 unfoldable pub sideFields : ℕ → ℕ → ℕ → Field
@@ -105,22 +123,23 @@ boxFields h s = groups pairSize (λ i. sideFields h (s + i))
 
 -- ---- records
 
--- the letters that a record starts with: SH, BD, NG, RC
+-- the letters that a record starts with: SH, BD or BF, NG, RC
 abbrev pub mark : Record → ℕ × ℕ
 mark Head = (83, 72)
-mark (Band k) = (66, 68)
+mark (Band Fixed k) = (66, 68)
+mark (Band Feedback k) = (66, 70)
 mark (Unsafe j) = (78, 71)
 mark Recovery = (82, 67)
 
 -- the fields of a record of a sheet with n variables, and how many they are
 unfoldable pub fields : ℕ → Record → ℕ → Field
 fields n Head = headFields
-fields n (Band k) = bandFields n k
+fields n (Band b k) = bandFields n b k
 fields n (Unsafe j) = boxFields maxUnsafeSide (unsafeSlot j)
 fields n Recovery = boxFields maxRecoverySide recoverySlot
 
 abbrev pub fieldCount : ℕ → Record → ℕ
 fieldCount n Head = headSize + n
-fieldCount n (Band k) = bandCount n
+fieldCount n (Band b k) = bandCount n b
 fieldCount n (Unsafe j) = boxCount n
 fieldCount n Recovery = boxCount n

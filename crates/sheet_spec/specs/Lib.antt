@@ -9,6 +9,7 @@ pub mod Sizes
 pub mod Layout
 pub mod File
 pub mod Sheet
+pub mod BandKinds
 pub mod Validity
 pub mod SheetA
 pub mod Written

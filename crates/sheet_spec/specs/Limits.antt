@@ -3,7 +3,7 @@ use Prim.Native.Nat.{ℕ}
 
 -- the variables of a sheet; there is room for N (Slots)
 abbrev pub maxVars : ℕ
-maxVars = 4
+maxVars = 6
 
 -- its bands
 abbrev pub maxBands : ℕ
@@ -33,11 +33,11 @@ maxCap = 1000
 abbrev pub maxEdge : ℕ
 maxEdge = 2000000
 
--- a and b of a row, without their sign
+-- a and b of a row, and a of a law that follows the state, without their sign
 abbrev pub maxCoefficient : ℕ
 maxCoefficient = 1000
 
--- c of a row, without its sign
+-- c of a row or of a law, without its sign
 abbrev pub maxConstant : ℕ
 maxConstant = 100000000
 
@@ -45,7 +45,7 @@ maxConstant = 100000000
 abbrev pub maxSpread : ℕ
 maxSpread = 100000000
 
--- q of a row
+-- q of a row or of a law
 abbrev pub maxDivisor : ℕ
 maxDivisor = 4096
 

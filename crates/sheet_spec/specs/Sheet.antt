@@ -1,17 +1,19 @@
 -- What reading and writing a sheet give, for all inputs (document 01, "Sheet layout" and "Refused calls").
 use mathlib.Core.Path.{_≡_}
-use mathlib.Core.Bool.{true, _&&_}
+use mathlib.Core.Bool.{true, false, _&&_}
 use mathlib.Core.List.{List}
 use Prim.Native.Nat.{ℕ, zero, suc, _+_, _<_}
 use lib.Dec.{eqb, leb}
 use lib.IntN.{ℤ, pos}
 use lib.ListN.{length, replicate}
 use lib.Seq.{sets}
-use Rattle.sheet_spec.specs.Slots.{_!_, headSize, slots}
+use Rattle.sheet_spec.specs.Slots.{_!_, headSize, slots, vars, bands, boxes, bandKind}
 use Rattle.sheet_spec.specs.Refusals.{Cause, refuseUnless, unlessRefused, firstRefusal}
 use Rattle.sheet_spec.specs.Fields.{filled, bad}
-use Rattle.sheet_spec.specs.Sizes.{letters, capsAt}
-use Rattle.sheet_spec.specs.declared.Record.the-variants.{Head}
+use Rattle.sheet_spec.specs.Sizes.{letters, capsAt, capBytes}
+use Rattle.sheet_spec.specs.declared.BandKind.{BandKind}
+use Rattle.sheet_spec.specs.declared.BandKind.the-variants.{Fixed, Feedback}
+use Rattle.sheet_spec.specs.declared.Record.the-variants.{Head, Band}
 use Rattle.sheet_spec.specs.Layout.{headFields}
 use Rattle.sheet_spec.specs.declared.Shape.{Shape}
 use Rattle.sheet_spec.specs.File.{shape, records, fieldsAt, fieldCountAt, recordStart, filledAll, codedAll, marked, markedAt, badAll}
@@ -25,9 +27,14 @@ zeros = replicate slots (pos 0)
 unfoldable pub headOf : List ℕ → List ℤ
 headOf f = filled headFields f letters headSize zeros
 
--- the counts that a file's head names, and the file's values with these counts
+-- the kind of a file's bands on a sheet with n variables: the mark of the first band tells, if the file reaches it and it reads `BF` (document 02,
+-- paper 9). This mark follows the caps
+unfoldable pub kindOf : List ℕ → ℕ → BandKind
+kindOf f n = elim (marked f (capsAt + capBytes n) (Band Feedback 0)) [ true ↦ Feedback | false ↦ Fixed ]
+
+-- the counts that a file's head names and the kind of its bands, and the file's values by these
 unfoldable pub shapeOf : List ℕ → Shape
-shapeOf f = shape (headOf f)
+shapeOf f = let v = headOf f in record { vars = vars v; bands = bands v; boxes = boxes v; kind = kindOf f (vars v) }
 
 unfoldable pub contents : List ℕ → List ℤ
 contents f = let s = shapeOf f in filledAll s f (records s) zeros
@@ -69,6 +76,7 @@ writeRefusal v buffer place = unlessRefused (valueRefusal v) (λ c. c) (refuseUn
 unfoldable pub written : List ℤ → List ℕ → ℕ → List ℕ
 written v buffer place = unlessRefused (writeRefusal v buffer place) (λ c. buffer) (sets buffer place (bytesOf v))
 
--- ---- two sheets are the same when their values up to their counts are
+-- ---- two sheets are the same when their values up to their counts are, and their bands are of one kind
 pub record Same (v w : List ℤ) : Type 0 where
+  pub kind : bandKind v ≡ bandKind w
   pub same : (r : ℕ) → r < records (shape v) → (j : ℕ) → j < fieldCountAt (shape v) r → v ! fieldsAt (shape v) r j .slot ≡ w ! fieldsAt (shape v) r j .slot

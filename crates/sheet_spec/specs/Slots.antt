@@ -1,17 +1,19 @@
 -- A sheet's value is one flat list of numbers. This file says at which place (slot) each number is, and names it.
 -- N is the greatest number of variables that there is room for. What lies beyond the sheet's counts is 0 and counts for nothing.
 use mathlib.Core.List.{List}
-use Prim.Native.Nat.{ℕ, _+_, _*_}
-use lib.IntN.{ℤ, pos, natAbs}
+use Prim.Native.Nat.{ℕ, zero, suc, _+_, _*_}
+use lib.IntN.{ℤ, pos, negsuc, natAbs}
 use lib.ListN.{getD, take, drop}
 use Rattle.sheet_spec.specs.Limits.{maxBands, maxBoxes}
+use Rattle.sheet_spec.specs.declared.BandKind.{BandKind}
+use Rattle.sheet_spec.specs.declared.BandKind.the-variants.{Fixed, Feedback}
 
 infixl 90 _!_
 abbrev pub _!_ : List ℤ → ℕ → ℤ
 xs ! i = getD xs i (pos 0)
 
 abbrev pub N : ℕ
-N = 4
+N = 6
 
 -- ---- slots
 
@@ -82,7 +84,27 @@ qSlot at = at + N + qInRest
 abbrev pub rowSize : ℕ
 rowSize = N + restSize
 
--- a band: its edge, the safety range, and N rows
+-- a law that follows the state (document 02, paper 9): N coefficients, then the rest: its constant and its divisor
+abbrev pub constantInLaw : ℕ
+constantInLaw = 0
+
+abbrev pub divisorInLaw : ℕ
+divisorInLaw = 1
+
+abbrev pub lawRestSize : ℕ
+lawRestSize = 2
+
+-- their slots in the law at a slot
+abbrev pub constantSlot : ℕ → ℕ
+constantSlot at = at + N
+
+abbrev pub divisorSlot : ℕ → ℕ
+divisorSlot at = at + N + divisorInLaw
+
+abbrev pub lawSize : ℕ
+lawSize = N + lawRestSize
+
+-- a band: its edge, the safety range, its law, and N rows
 abbrev pub edgeInBand : ℕ
 edgeInBand = 0
 
@@ -92,8 +114,11 @@ leastInBand = 1
 abbrev pub greatestInBand : ℕ
 greatestInBand = 2
 
+abbrev pub lawInBand : ℕ
+lawInBand = 3
+
 abbrev pub firstRow : ℕ
-firstRow = 3
+firstRow = lawInBand + lawSize
 
 abbrev pub bandSize : ℕ
 bandSize = firstRow + N * rowSize
@@ -106,6 +131,9 @@ safetyLeastSlot k = bandSlot k + leastInBand
 
 abbrev pub safetyGreatestSlot : ℕ → ℕ
 safetyGreatestSlot k = bandSlot k + greatestInBand
+
+abbrev pub lawSlot : ℕ → ℕ
+lawSlot k = bandSlot k + lawInBand
 
 abbrev pub rowSlot : ℕ → ℕ → ℕ
 rowSlot k i = bandSlot k + firstRow + i * rowSize
@@ -169,6 +197,31 @@ safetyLeast v k = v ! (safetyLeastSlot k)
 
 abbrev pub safetyGreatest : List ℤ → ℕ → ℤ
 safetyGreatest v k = v ! (safetyGreatestSlot k)
+
+-- which kind of bands a divisor of the first band's law tells: 0 stands for bands without such a law, whose plain law has its whole safety range
+-- everywhere. Then no number of a law is looked at
+abbrev pub kindBy : ℤ → BandKind
+kindBy (pos zero) = Fixed
+kindBy (pos (suc q)) = Feedback
+kindBy (negsuc q) = Feedback
+
+-- the kind of a sheet's bands (document 02, paper 9: `BD` or `BF`)
+abbrev pub bandKind : List ℤ → BandKind
+bandKind v = kindBy (v ! divisorSlot (lawSlot 0))
+
+-- a law that follows the state: (Σ aj·xj + c) / q
+pub record FeedbackLaw : Type 0 where
+  pub a : ℕ → ℤ
+  pub c : ℤ
+  pub q : ℤ
+
+-- the law whose numbers start at a slot
+abbrev pub feedbackAt : List ℤ → ℕ → FeedbackLaw
+feedbackAt v at = record { a = λ j. v ! (at + j); c = v ! constantSlot at; q = v ! divisorSlot at }
+
+-- band k's
+abbrev pub feedback : List ℤ → ℕ → FeedbackLaw
+feedback v k = feedbackAt v (lawSlot k)
 
 -- a row: N = Σ aj·xj + b·u + c, spread d, divisor q
 pub record Row : Type 0 where

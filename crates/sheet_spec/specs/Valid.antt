@@ -9,7 +9,8 @@ use lib.ListN.{length}
 use mir.Syntax.{w32}
 use mir.Val.{SFits}
 use Rattle.sheet_spec.specs.Limits.{maxVars, maxBands, maxBoxes, maxTicks, maxCommand, maxCap, maxEdge, maxCoefficient, maxConstant, maxSpread, maxDivisor, maxUnsafeSide, maxRecoverySide}
-use Rattle.sheet_spec.specs.Slots.{_!_, N, slots, leastSlot, recoverySlot, unsafeSlot, vars, bands, boxes, bandVar, δ, α, ρ, leastCommand, greatestCommand, cap, edge, safetyLeast, safetyGreatest, Row, row, recoveryBox, unsafeBox}
+use Rattle.sheet_spec.specs.Slots.{_!_, N, slots, leastSlot, recoverySlot, unsafeSlot, vars, bands, boxes, bandVar, δ, α, ρ, leastCommand, greatestCommand, cap, edge, safetyLeast, safetyGreatest, bandKind, FeedbackLaw, feedback, Row, row, recoveryBox, unsafeBox}
+use Rattle.sheet_spec.specs.declared.BandKind.the-variants.{Feedback}
 use Rattle.sheet_spec.specs.Box.{meets}
 use Rattle.sheet_spec.specs.Order.{ascendsAt}
 
@@ -17,6 +18,12 @@ use Rattle.sheet_spec.specs.Order.{ascendsAt}
 pub record Between (l h z : ℤ) : Type 0 where
   pub low : l ≤ℤ z
   pub high : z ≤ℤ h
+
+-- a law that follows the state (document 02, paper 9)
+pub record ValidLaw (n : ℕ) (l : FeedbackLaw) : Type 0 where
+  pub a : (j : ℕ) → j < n → Between (negℤ (pos maxCoefficient)) (pos maxCoefficient) (l .a j)
+  pub c : Between (negℤ (pos maxConstant)) (pos maxConstant) (l .c)
+  pub q : Between (pos 1) (pos maxDivisor) (l .q)
 
 pub record ValidRow (n : ℕ) (r : Row) : Type 0 where
   pub a : (j : ℕ) → j < n → Between (negℤ (pos maxCoefficient)) (pos maxCoefficient) (r .a j)
@@ -59,6 +66,7 @@ pub record ValidNumbers (v : List ℤ) : Type 0 where
   pub safety : (k : ℕ) → k < bands v → safetyLeast v k ≤ℤ safetyGreatest v k
   pub safety-low : (k : ℕ) → k < bands v → leastCommand v ≤ℤ safetyLeast v k
   pub safety-high : (k : ℕ) → k < bands v → safetyGreatest v k ≤ℤ greatestCommand v
+  pub laws : bandKind v ≡ Feedback → (k : ℕ) → k < bands v → ValidLaw (vars v) (feedback v k)
   pub rows : (k i : ℕ) → k < bands v → i < vars v → ValidRow (vars v) (row v k i)
   pub recovery : ValidBox (vars v) (pos maxRecoverySide) v recoverySlot
   pub unsafe : (j : ℕ) → j < boxes v → ValidBox (vars v) (pos maxUnsafeSide) v (unsafeSlot j)

@@ -7,17 +7,25 @@ pub mod refusals;
 pub mod sizes;
 pub mod slots;
 
-// The counts that a file's records depend on.
+// What a sheet's bands have for a plain law (document 02, paper 9): the whole safety range everywhere (`BD`), or a law that follows the
+// state, clamped to the safety range (`BF`).
+pub enum BandKind {
+    Fixed,
+    Feedback,
+}
+
+// The counts that a file's records depend on, and the kind of its bands.
 pub struct Shape {
     pub vars: usize,
     pub bands: usize,
     pub boxes: usize,
+    pub kind: BandKind,
 }
 
-// A record of a file: the head, band k, no-go box j, the recovery box.
+// A record of a file: the head, band k of a kind, no-go box j, the recovery box.
 pub enum Record {
     Head,
-    Band(usize),
+    Band(BandKind, usize),
     Unsafe(usize),
     Recovery,
 }

@@ -1,7 +1,7 @@
 // How far the numbers of a sheet, a question and a reach go: the names of specs/Limits.antt.
 
 // The variables of a sheet; there is room for N (Slots).
-pub const MAX_VARS: usize = 4;
+pub const MAX_VARS: usize = 6;
 
 // Its bands.
 pub const MAX_BANDS: usize = 8;
@@ -24,16 +24,16 @@ pub const MAX_CAP: i64 = 1000;
 // An edge, without its sign.
 pub const MAX_EDGE: i64 = 2000000;
 
-// A and b of a row, without their sign.
+// A and b of a row, and a of a law that follows the state, without their sign.
 pub const MAX_COEFFICIENT: i64 = 1000;
 
-// C of a row, without its sign.
+// C of a row or of a law, without its sign.
 pub const MAX_CONSTANT: i64 = 100000000;
 
 // D of a row.
 pub const MAX_SPREAD: i64 = 100000000;
 
-// Q of a row.
+// Q of a row or of a law.
 pub const MAX_DIVISOR: i64 = 4096;
 
 // A side of a no-go box, without its sign.

@@ -33,12 +33,17 @@ pub const GREATEST_AT: usize = LEAST_AT + I32;
 
 pub const CAPS_AT: usize = GREATEST_AT + I32;
 
-// A band, from its edge on: the safety range, and the rows.
+// A band, from its edge on: the safety range, and what follows it.
 pub const SAFETY_LEAST_AT: usize = I32;
 
 pub const SAFETY_GREATEST_AT: usize = SAFETY_LEAST_AT + I32;
 
-pub const ROWS_AT: usize = SAFETY_GREATEST_AT + I32;
+pub const LAW_AT: usize = SAFETY_GREATEST_AT + I32;
+
+// A law that follows the state, from its constant on: the divisor.
+pub const DIVISOR_AT: usize = I32;
+
+pub const LAW_REST_BYTES: usize = DIVISOR_AT + U16;
 
 // A row, from b on: c, d and q.
 pub const C_AT: usize = I16;
@@ -49,8 +54,8 @@ pub const Q_AT: usize = D_AT + I32;
 
 pub const REST_BYTES: usize = Q_AT + U16;
 
-// A band's letters and what comes before its rows.
-pub const BAND_HEAD: usize = LETTERS + ROWS_AT;
+// A band's letters and what comes before its law.
+pub const BAND_HEAD: usize = LETTERS + LAW_AT;
 
 // A pair of sides.
 pub const UPPER_AT: usize = I32;

@@ -4,7 +4,7 @@ use crate::limits::MAX_BANDS;
 use crate::limits::MAX_BOXES;
 
 // There is room for N variables.
-pub const N: usize = 4;
+pub const N: usize = 6;
 
 // The head.
 pub const VARS: usize = 0;
@@ -43,12 +43,21 @@ pub const REST_SIZE: usize = 4;
 
 pub const ROW_SIZE: usize = N + REST_SIZE;
 
-// A band: its edge, its safety range, N rows. Band k is at FIRST_BAND + k * BAND_SIZE.
+// A law that follows the state: N coefficients, then its constant and its divisor.
+pub const LAW_CONSTANT: usize = N;
+
+pub const LAW_DIVISOR: usize = N + 1;
+
+pub const LAW_SIZE: usize = N + 2;
+
+// A band: its edge, its safety range, its law, N rows. Band k is at FIRST_BAND + k * BAND_SIZE.
 pub const SAFETY_LEAST: usize = 1;
 
 pub const SAFETY_GREATEST: usize = 2;
 
-pub const FIRST_ROW: usize = 3;
+pub const LAW: usize = 3;
+
+pub const FIRST_ROW: usize = LAW + LAW_SIZE;
 
 pub const BAND_SIZE: usize = FIRST_ROW + N * ROW_SIZE;
 

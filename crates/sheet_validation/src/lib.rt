@@ -6,11 +6,12 @@ ghost use mathlib.Core.Bool.{true};
 ghost use Prim.Native.Nat.{_+_, _≤_, _<_};
 ghost use Rattle.integers.specs.Bound.{Bound};
 ghost use Rattle.sheet_spec.specs.Limits.{maxBands};
-ghost use Rattle.sheet_spec.specs.Slots.{_!_, N, headSize, boxSize, rowSize, slots};
+ghost use Rattle.sheet_spec.specs.Slots.{_!_, N, headSize, boxSize, lawSize, rowSize, slots};
 ghost use Rattle.sheet_spec.specs.Refusals.{number, unlessRefused};
 ghost use Rattle.sheet_spec.specs.File.{Small, HasRoom, records, closing, badNumbers, badAll};
 ghost use Rattle.sheet_spec.specs.Fields.{Field, test, bad};
-ghost use Rattle.sheet_spec.specs.Layout.{headFields, edgeField, rowFields, rowCount, bandFields, bandCount, boxFields, boxCount, fields, fieldCount};
+ghost use Rattle.sheet_spec.specs.declared.BandKind.the-variants.{Feedback};
+ghost use Rattle.sheet_spec.specs.Layout.{headFields, coefficientField, edgeField, lawFields, lawCount, rowFields, rowCount, bandFields, bandCount, boxFields, boxCount, fields, fieldCount};
 
 pub mod order;
 pub mod overlap;
@@ -19,6 +20,7 @@ use crate::order::bad_order;
 use crate::overlap::bad_overlap;
 use sheet_encoding::records::record_at;
 use sheet_encoding::records::record_count;
+use sheet_spec::BandKind;
 use sheet_spec::Record;
 use sheet_spec::Shape;
 use sheet_spec::limits::*;
@@ -103,9 +105,10 @@ pub fn bad_caps(v: &[i32; SLOTS], n: usize) -> u8
     x
 }
 
-fn bad_row(v: &[i32; SLOTS], n: usize, slot: usize) -> u8
-    requires { ⌜ (n ≤ N) × (slot + rowSize ≤ slots) ⌝ }
-    ensures { λ r. ⌜ r ≡ bad (rowFields n slot) (now (v .entry)) (rowCount n) ⌝ }
+// The coefficients of a law or of a row.
+fn bad_coefficients(v: &[i32; SLOTS], n: usize, slot: usize) -> u8
+    requires { ⌜ (n ≤ N) × (slot + N ≤ slots) ⌝ }
+    ensures { λ r. ⌜ r ≡ bad (coefficientField slot) (now (v .entry)) n ⌝ }
 {
     let mut x: u8 = 0;
     let mut j: usize = 0;
@@ -113,6 +116,35 @@ fn bad_row(v: &[i32; SLOTS], n: usize, slot: usize) -> u8
         x = after(x, v, slot + j, MIN_COEFFICIENT, MAX_COEFFICIENT, ROW);
         j = j + 1;
     }
+    x
+}
+
+// A law that follows the state.
+fn bad_feedback(v: &[i32; SLOTS], n: usize, slot: usize) -> u8
+    requires { ⌜ (n ≤ N) × (slot + lawSize ≤ slots) ⌝ }
+    ensures { λ r. ⌜ r ≡ bad (lawFields n slot) (now (v .entry)) (lawCount Feedback n) ⌝ }
+{
+    let mut x = bad_coefficients(v, n, slot);
+    x = after(x, v, slot + LAW_CONSTANT, MIN_CONSTANT, MAX_CONSTANT, ROW);
+    after(x, v, slot + LAW_DIVISOR, 1, MAX_DIVISOR, ROW)
+}
+
+// The law of a band of a kind.
+fn bad_law(v: &[i32; SLOTS], n: usize, kind: BandKind, slot: usize) -> u8
+    requires { ⌜ (n ≤ N) × (slot + lawSize ≤ slots) ⌝ }
+    ensures { λ r. ⌜ r ≡ bad (lawFields n slot) (now (v .entry)) (lawCount kind n) ⌝ }
+{
+    match kind {
+        BandKind::Fixed => 0,
+        BandKind::Feedback => bad_feedback(v, n, slot),
+    }
+}
+
+fn bad_row(v: &[i32; SLOTS], n: usize, slot: usize) -> u8
+    requires { ⌜ (n ≤ N) × (slot + rowSize ≤ slots) ⌝ }
+    ensures { λ r. ⌜ r ≡ bad (rowFields n slot) (now (v .entry)) (rowCount n) ⌝ }
+{
+    let mut x = bad_coefficients(v, n, slot);
     x = after(x, v, slot + ROW_B, MIN_COEFFICIENT, MAX_COEFFICIENT, ROW);
     x = after(x, v, slot + ROW_C, MIN_CONSTANT, MAX_CONSTANT, ROW);
     x = after(x, v, slot + ROW_D, 0, MAX_SPREAD, ROW);
@@ -130,9 +162,9 @@ fn bad_edge(v: &[i32; SLOTS], k: usize) -> u8
     after(0, v, slot, value(v, slot - BAND_SIZE) + 1, MAX_EDGE, EDGE)
 }
 
-pub fn bad_band(v: &[i32; SLOTS], n: usize, k: usize) -> u8
+pub fn bad_band(v: &[i32; SLOTS], n: usize, kind: BandKind, k: usize) -> u8
     requires { ⌜ (n ≤ N) × (k < maxBands) ⌝ }
-    ensures { λ r. ⌜ r ≡ bad (bandFields n k) (now (v .entry)) (bandCount n) ⌝ }
+    ensures { λ r. ⌜ r ≡ bad (bandFields n kind k) (now (v .entry)) (bandCount n kind) ⌝ }
 {
     let slot = FIRST_BAND + k * BAND_SIZE;
     let greatest = value(v, GREATEST);
@@ -146,6 +178,7 @@ pub fn bad_band(v: &[i32; SLOTS], n: usize, k: usize) -> u8
         greatest,
         SAFETY,
     );
+    x = first(x, bad_law(v, n, kind, slot + LAW));
     let mut i: usize = 0;
     while i < n {
         x = first(x, bad_row(v, n, slot + FIRST_ROW + i * ROW_SIZE));
@@ -176,7 +209,7 @@ fn bad_fields(v: &[i32; SLOTS], n: usize, record: Record) -> u8
 {
     match record {
         Record::Head => bad_caps(v, n),
-        Record::Band(k) => bad_band(v, n, k),
+        Record::Band(kind, k) => bad_band(v, n, kind, k),
         Record::Unsafe(j) => bad_box(v, n, FIRST_UNSAFE + j * BOX_SIZE, MAX_UNSAFE_SIDE),
         Record::Recovery => bad_box(v, n, RECOVERY, MAX_RECOVERY_SIDE),
     }
@@ -189,7 +222,7 @@ fn closing(v: &[i32; SLOTS], shape: Shape, record: Record) -> u8
 {
     match record {
         Record::Head => 0,
-        Record::Band(_) => 0,
+        Record::Band(_, _) => 0,
         Record::Unsafe(j) => bad_order(v, shape.vars, j),
         Record::Recovery => bad_overlap(v, shape.vars, shape.boxes),
     }

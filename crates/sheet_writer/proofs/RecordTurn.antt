@@ -14,12 +14,11 @@ use Rattle.sheet_spec.specs.Slots.{_!_}
 use Rattle.sheet_spec.specs.Fields.{Kind, i32, Field, bytesIn, encoded, offset, coded}
 use Rattle.sheet_spec.specs.Sizes.{letters, coefficientBytes}
 use Rattle.sheet_spec.specs.declared.Record.{Record}
-use Rattle.sheet_spec.specs.Layout.{edgeField, rowRest, rowFields, mark, fields, fieldCount}
+use Rattle.sheet_spec.specs.Layout.{coefficientField, edgeField, mark, fields, fieldCount}
 use Rattle.sheet_spec.specs.File.{recordBytes}
-use Rattle.sheet_spec.proofs.Length.{rest-offset}
 use Rattle.sheet_spec.proofs.Numbers.{length-coded}
 use Rattle.sheet_spec.proofs.FieldRuns.{FieldRun, coded-part}
-use Rattle.sheet_spec.proofs.FieldPlaces.{rest-at}
+use Rattle.sheet_encoding.proofs.FieldTurn.{Coefficients}
 
 -- ys after xs, of which there are m
 pub then : (l : List ℕ) (i m : ℕ) (xs ys : List ℕ) {a : ℕ} {t u : List ℕ} → length xs ≡ m → a ≡ i + m → t ≡ sets l i xs → u ≡ sets t a ys → u ≡ sets l i (xs ++ ys)
@@ -53,12 +52,19 @@ pub coded-field : (p : ℕ → Field) (v : List ℤ) (s : List ℕ) (at k : ℕ)
     → bytesIn d ≡ bytesIn (p k .kind) → i ≡ p k .slot → a ≡ at + offset p k → t ≡ sets s at (coded p v k) → u ≡ sets s at (coded p v (suc k))
 coded-field p v s at k = coded-next p v s at k (suc k) (omega arith) (p k) refl
 
--- number q of a row's rest
-pub coded-rest : (n r : ℕ) (v : List ℤ) (s : List ℕ) (at q : ℕ) (d : Kind) (i a : ℕ) {t u : List ℕ} → u ≡ sets t a (encoded d (v ! i))
-    → bytesIn d ≡ bytesIn (rowRest r q .kind) → i ≡ rowRest r q .slot → a ≡ at + coefficientBytes n + offset (rowRest r) q
-    → t ≡ sets s at (coded (rowFields n r) v (n + q)) → u ≡ sets s at (coded (rowFields n r) v (n + suc q))
-coded-rest n r v s at q d i a hu hd hi ha =
-    coded-next (rowFields n r) v s at (n + q) (n + suc q) (omega arith) _ (rest-at n r q) d i a hu hd hi (omega (arith, rest-offset n r q))
+module _ {p r : ℕ → Field} {n i : ℕ} (parts : Coefficients p r n i) (v : List ℤ) (s : List ℕ) (at : ℕ) where
+  -- after the coefficients of a law or of a row
+  pub coded-coefficients : {u : List ℕ} → u ≡ sets s at (coded (coefficientField i) v n) → u ≡ sets s at (coded p v (n + 0))
+  unfolding coded
+  coded-coefficients hu =
+      let e : 0 + n ≡ n + 0 = omega arith in
+      hu ∙ ap (sets s at) (sym (coded-part p (coefficientField i) 0 n (parts .run) v) ∙ ap (coded p v) e)
+
+  -- number q of its rest
+  pub coded-rest : (q : ℕ) (d : Kind) (j a : ℕ) {t u : List ℕ} → u ≡ sets t a (encoded d (v ! j)) → bytesIn d ≡ bytesIn (r q .kind) → j ≡ r q .slot
+      → a ≡ at + coefficientBytes n + offset r q → t ≡ sets s at (coded p v (n + q)) → u ≡ sets s at (coded p v (n + suc q))
+  coded-rest q d j a hu hd hi ha =
+      coded-next p v s at (n + q) (n + suc q) (omega arith) _ (parts .rest q) d j a hu hd hi (omega (arith, parts .places q))
 
 -- a band's edge
 pub edge-bytes : (k : ℕ) → bytesIn i32 ≡ bytesIn (edgeField k .kind)

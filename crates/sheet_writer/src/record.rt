@@ -6,15 +6,18 @@ ghost use Prim.Native.Nat.{ℕ, _+_, _≤_, _<_};
 ghost use lib.ListN.{length};
 ghost use lib.Seq.{sets};
 ghost use Rattle.sheet_spec.specs.Limits.{maxBands};
-ghost use Rattle.sheet_spec.specs.Slots.{N, headSize, rowSize, boxSize, slots};
+ghost use Rattle.sheet_spec.specs.Slots.{N, headSize, lawSize, rowSize, boxSize, slots};
 ghost use Rattle.sheet_spec.specs.File.{Small, HasRoom, recordLength, recordBytes};
 ghost use Rattle.sheet_spec.specs.Fields.{coded};
-ghost use Rattle.sheet_spec.specs.Sizes.{letters, capsAt, capBytes, rowBytes, bandBytes, boxBytes};
-ghost use Rattle.sheet_spec.specs.Layout.{headFields, rowFields, rowCount, bandFields, bandCount, boxFields, boxCount, fields, fieldCount};
+ghost use Rattle.sheet_spec.specs.Sizes.{letters, capsAt, capBytes, coefficientBytes, lawBytes, rowBytes, bandBytes, boxBytes};
+ghost use Rattle.sheet_spec.specs.declared.BandKind.the-variants.{Feedback};
+ghost use Rattle.sheet_spec.specs.Layout.{headFields, coefficientField, lawFields, lawCount, rowFields, rowCount, bandFields, bandCount, boxFields, boxCount, fields, fieldCount};
 use sheet_encoding::bytes::put_i32;
 use sheet_encoding::bytes::put_u8;
 use sheet_encoding::bytes::put_u16;
 use sheet_encoding::marks::mark_of;
+use sheet_encoding::records::law_bytes;
+use sheet_spec::BandKind;
 use sheet_spec::Record;
 use sheet_spec::Shape;
 use sheet_spec::sizes::*;
@@ -48,15 +51,45 @@ fn write_caps(s: &mut [u8], n: usize, v: &[i32; SLOTS])
     }
 }
 
-fn write_row(s: &mut [u8], at: usize, n: usize, v: &[i32; SLOTS], slot: usize)
-    requires { ⌜ (n ≤ N) × ((slot + rowSize ≤ slots) × (at + rowBytes n ≤ length (now s))) ⌝ }
-    ensures { λ _. ⌜ now (s .exit) ≡ sets (now (s .entry)) at (coded (rowFields n slot) (now (v .entry)) (rowCount n)) ⌝ }
+// The coefficients of a law or of a row.
+fn write_coefficients(s: &mut [u8], at: usize, n: usize, v: &[i32; SLOTS], slot: usize)
+    requires { ⌜ (n ≤ N) × ((slot + N ≤ slots) × (at + coefficientBytes n ≤ length (now s))) ⌝ }
+    ensures { λ _. ⌜ now (s .exit) ≡ sets (now (s .entry)) at (coded (coefficientField slot) (now (v .entry)) n) ⌝ }
 {
     let mut j: usize = 0;
     while j < n {
         put_u16(s, at + I16 * j, v, slot + j);
         j = j + 1;
     }
+}
+
+// A law that follows the state.
+fn write_feedback(s: &mut [u8], at: usize, n: usize, v: &[i32; SLOTS], slot: usize)
+    requires { ⌜ (n ≤ N) × ((slot + lawSize ≤ slots) × (at + lawBytes Feedback n ≤ length (now s))) ⌝ }
+    ensures { λ _. ⌜ now (s .exit) ≡ sets (now (s .entry)) at (coded (lawFields n slot) (now (v .entry)) (lawCount Feedback n)) ⌝ }
+{
+    write_coefficients(s, at, n, v, slot);
+    let rest = at + I16 * n;
+    put_i32(s, rest, v, slot + LAW_CONSTANT);
+    put_u16(s, rest + DIVISOR_AT, v, slot + LAW_DIVISOR);
+}
+
+// The law of a band of a kind.
+fn write_law(s: &mut [u8], at: usize, n: usize, kind: BandKind, v: &[i32; SLOTS], slot: usize)
+    requires { ⌜ (n ≤ N) × ((slot + lawSize ≤ slots) × (at + lawBytes kind n ≤ length (now s))) ⌝ }
+    ensures { λ _. ⌜ now (s .exit) ≡ sets (now (s .entry)) at (coded (lawFields n slot) (now (v .entry)) (lawCount kind n)) ⌝ }
+{
+    match kind {
+        BandKind::Fixed => {}
+        BandKind::Feedback => write_feedback(s, at, n, v, slot),
+    }
+}
+
+fn write_row(s: &mut [u8], at: usize, n: usize, v: &[i32; SLOTS], slot: usize)
+    requires { ⌜ (n ≤ N) × ((slot + rowSize ≤ slots) × (at + rowBytes n ≤ length (now s))) ⌝ }
+    ensures { λ _. ⌜ now (s .exit) ≡ sets (now (s .entry)) at (coded (rowFields n slot) (now (v .entry)) (rowCount n)) ⌝ }
+{
+    write_coefficients(s, at, n, v, slot);
     let rest = at + I16 * n;
     put_u16(s, rest, v, slot + ROW_B);
     put_i32(s, rest + C_AT, v, slot + ROW_C);
@@ -64,19 +97,21 @@ fn write_row(s: &mut [u8], at: usize, n: usize, v: &[i32; SLOTS], slot: usize)
     put_u16(s, rest + Q_AT, v, slot + ROW_Q);
 }
 
-fn write_band(s: &mut [u8], n: usize, v: &[i32; SLOTS], k: usize)
-    requires { ⌜ (n ≤ N) × ((k < maxBands) × (letters + bandBytes n ≤ length (now s))) ⌝ }
-    ensures { λ _. ⌜ now (s .exit) ≡ sets (now (s .entry)) letters (coded (bandFields n k) (now (v .entry)) (bandCount n)) ⌝ }
+fn write_band(s: &mut [u8], n: usize, kind: BandKind, v: &[i32; SLOTS], k: usize)
+    requires { ⌜ (n ≤ N) × ((k < maxBands) × (letters + bandBytes kind n ≤ length (now s))) ⌝ }
+    ensures { λ _. ⌜ now (s .exit) ≡ sets (now (s .entry)) letters (coded (bandFields n kind k) (now (v .entry)) (bandCount n kind)) ⌝ }
 {
     let slot = FIRST_BAND + k * BAND_SIZE;
     put_i32(s, LETTERS, v, slot);
     put_i32(s, LETTERS + SAFETY_LEAST_AT, v, slot + SAFETY_LEAST);
     put_i32(s, LETTERS + SAFETY_GREATEST_AT, v, slot + SAFETY_GREATEST);
+    write_law(s, BAND_HEAD, n, kind, v, slot + LAW);
+    let rows = BAND_HEAD + law_bytes(kind, n);
     let mut i: usize = 0;
     while i < n {
         write_row(
             s,
-            LETTERS + ROWS_AT + i * (I16 * n + REST_BYTES),
+            rows + i * (I16 * n + REST_BYTES),
             n,
             v,
             slot + FIRST_ROW + i * ROW_SIZE,
@@ -106,7 +141,7 @@ fn write_numbers(s: &mut [u8], shape: Shape, record: Record, v: &[i32; SLOTS])
     let n = shape.vars;
     match record {
         Record::Head => write_caps(s, n, v),
-        Record::Band(k) => write_band(s, n, v, k),
+        Record::Band(kind, k) => write_band(s, n, kind, v, k),
         Record::Unsafe(j) => write_box(s, n, v, FIRST_UNSAFE + j * BOX_SIZE),
         Record::Recovery => write_box(s, n, v, RECOVERY),
     }

@@ -5,14 +5,15 @@ use mathlib.Core.Bool.{false≢true}
 use mir.Facts.{toZ-ofZ}
 use mir.Syntax.{w64}
 use mir.Val.{SFits}
-use lib.IntN.{ℤ, natAbs, _*ℤ_}
+use lib.IntN.{ℤ, negℤ, natAbs, _*ℤ_}
 use borrow.Author.Needs.{needs}
 use Rattle.integers.specs.Division.{ceilDiv}
-use Rattle.integers.proofs.Z.{ints, lt-false, fits64}
+use Rattle.integers.proofs.Z.{ints, neg, lt-false, fits64}
+use Rattle.machine_spec.specs.Machine.{clamp}
 use Rattle.machine_spec.specs.Clamped.{ByComparison}
 use Rattle.machine_spec.proofs.Clamped.{clamped-by-comparison}
 use Rattle.boxes_arithmetic.specs.Limits.{CapAsked, DivisionAsked}
-use Rattle.boxes_arithmetic.proofs.Quotient.{most-bound}
+use Rattle.boxes_arithmetic.proofs.Quotient.{most-bound, least-is}
 use Rattle.boxes_arithmetic.proofs.clamped_ceil.Statement.{statement}
 use Rattle.boxes_arithmetic.proofs.clamped_ceil.Tie as tie
 
@@ -29,8 +30,8 @@ module _ (at-start : tie.Start) where
   asked : CapAsked cap q
   asked = at-start .pre .0
 
-  compared : ByComparison cap x q (ceilDiv x (natAbs q))
-  compared = clamped-by-comparison cap x q (asked .room .low) (asked .divisor .low) .1
+  compared : ByComparison (negℤ cap) cap x q (ceilDiv x (natAbs q))
+  compared = clamped-by-comparison (negℤ cap) cap x q (omega (ints, asked .room .low, neg cap)) (asked .divisor .low) .1
 
   most-fits : SFits w64 (q *ℤ cap)
   most-fits = fits64 (most-bound asked) tt
@@ -53,17 +54,19 @@ ceil-div-requires at-then κs =
 
 -- the quotient
 returns : tie.Need-returns
+unfolding clamp
 returns at-return =
     let at-then = at-return .before in
     let fits = at-then .before .fits in
     let quotient-fits : SFits w64 (at-return .ceil-div .result) = search needs in (
-      rw (compared (at-then .before) .between (division at-then .above) (division at-then .below))
+      rw (compared (at-then .before) .between (rw (least-is (asked (at-then .before))) (division at-then .above)) (division at-then .below))
           (toZ-ofZ quotient-fits ∙ (at-return .ceil-div .ensures ∙ simp (toZ-ofZ, fits .dividend, fits .divisor))),
       λ e. absurd (false≢true e),
     )
 
 -- the cap
 returns-2 : tie.Need-returns-2
+unfolding clamp
 returns-2 at-else =
     let at-start = at-else .before in
     let fits = at-start .fits in

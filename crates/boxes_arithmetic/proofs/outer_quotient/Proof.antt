@@ -8,10 +8,10 @@ use mir.Val.{SFits}
 use lib.IntN.{ℤ, negℤ, natAbs, _*ℤ_}
 use borrow.Author.Needs.{needs}
 use Rattle.integers.proofs.Z.{le-false, bound-mul, fits64}
-use Rattle.machine_spec.specs.Machine.{clamp}
+use Rattle.machine_spec.specs.Machine.{clamp, outwardDiv}
 use Rattle.machine_spec.specs.Rate.{neutral, outer}
 use Rattle.boxes_arithmetic.specs.Limits.{CapAsked, Capped}
-use Rattle.boxes_arithmetic.specs.Outward.{noFurther, outwardDiv}
+use Rattle.boxes_arithmetic.specs.Outward.{noFurther}
 use Rattle.boxes_arithmetic.proofs.Bounds.{between-bound}
 use Rattle.boxes_arithmetic.proofs.Quotient.{divisor-bound, cap-asked, below-most, above-least, outer-stays, outer-moves}
 use Rattle.boxes_arithmetic.proofs.outer_quotient.Statement.{statement}
@@ -34,7 +34,7 @@ module _ (at-start : tie.Start) where
   asked = cap-asked capped (at-start .pre .divisor)
 
   product-fits : SFits w64 (z *ℤ q)
-  product-fits = fits64 (bound-mul (between-bound (capped .small) (capped .between)) (divisor-bound asked)) tt
+  product-fits = fits64 (bound-mul (between-bound (capped .small) (capped .between)) (divisor-bound (asked .divisor))) tt
 
 mul-no-further : tie.Need-mul-no-further
 mul-no-further at-start = simp (toZ-ofZ, at-start .fits .outermost, at-start .fits .divisor) (product-fits at-start)

@@ -10,7 +10,7 @@ returns c =
     let l = c .before in
     let d = l .before in
     let p = d .before .before .before .pre in
-    (rest-short _ _ _ (p .0) (p .1 .0) (p .1 .1) (d .shape-of .ensures .0) (l .file-length .ensures) (c .if1 .taken), λ e. (let z : ⊥ = omega arith in absurd z))
+    (rest-short _ _ _ _ (p .0) (p .1 .0) (p .1 .1 .0) (p .1 .1 .1) (d .shape-with .ensures .0) (l .file-length .ensures) (c .if1 .taken), λ e. (let z : ⊥ = omega arith in absurd z))
 
 returns-2 : tie.Need-returns-2
 returns-2 c =
@@ -19,7 +19,7 @@ returns-2 c =
     let l = e .before in
     let d = l .before in
     let p = d .before .before .before .pre in
-    rest-read _ _ _ (p .0) (p .1 .0) (p .1 .1) (d .shape-of .ensures .0) (l .file-length .ensures) (e .if1 .left) (r .read-records .ensures) (c .bad-file .ensures)
+    rest-read _ _ _ _ (p .0) (p .1 .0) (p .1 .1 .0) (p .1 .1 .1) (d .shape-with .ensures .0) (l .file-length .ensures) (e .if1 .left) (r .read-records .ensures) (c .bad-file .ensures)
 
 pub read-rest-spec : {M : Type 1} → statement M
 read-rest-spec =

@@ -34,12 +34,13 @@ returns-2 : tie.Need-returns-2
 returns-2 c = (begins-wrong _ (c .before .before .if1 .left) (c .before .marked .ensures) (not-true _ (c .if2 .taken)), λ e. (let z : ⊥ = omega arith in absurd z))
 
 returns-3 : tie.Need-returns-3
-returns-3 c = let h = c .before .before .before in
+returns-3 c = let h = c .before .before .before .before in
     (refused-head _ (begun (h .before .before)) _ (c .before .bad-head .ensures ∙ ap (λ (v : List ℤ). bad headFields v headSize) (head-read h)) (c .if3 .taken), λ e. absurd (c .if3 .taken e))
 
 read-rest-requires : tie.Need-read-rest-requires
-read-rest-requires c κs = let h = c .before .before .before .before in
-    (begun (h .before .before), (head-read h, sym (c .before .if3 .left) ∙ c .before .before .bad-head .ensures))
+read-rest-requires c κs = let k = c .before .before .before .before in
+    let h = k .before in
+    (begun (h .before .before), (head-read h, (sym (c .before .if3 .left) ∙ c .before .before .bad-head .ensures, k .kind-of .ensures)))
 
 pub read-values-spec : {M : Type 1} → statement M
 read-values-spec =
@@ -48,6 +49,7 @@ read-values-spec =
     returns
     (λ c κs. search needs)
     returns-2
+    (λ c κs. search needs)
     (λ c κs. search needs)
     (λ c κs. search needs)
     returns-3

@@ -22,14 +22,16 @@ counts wf i h = let f = wf .fits i in rw (toZ-ofZ f) (yes-nonNeg (wf .head i h),
 -- the plant's numbers are the sheet's
 returns : tie.Need-returns
 returns c =
-    let wf = c .before .before .before .pre .0 in (
+    let s = c .before .before .before .before in
+    let wf = s .pre .0 in (
       refl,
       record {
         sheet = wf;
-        law = c .before .before .before .pre .1;
+        law = s .pre .1;
         n = ap natAbs (toZ-ofZ (wf .fits varsSlot));
         bands = ap natAbs (toZ-ofZ (wf .fits bandsSlot));
         var = ap natAbs (toZ-ofZ (wf .fits bandVarSlot));
+        kind = c .band-kind .ensures;
       },
     )
 
@@ -43,4 +45,5 @@ plant-spec =
     (λ c. counts (c .before .before .pre .0) bandsSlot (omega arith))
     (λ c. search needs)
     (λ c. counts (c .before .before .before .pre .0) bandVarSlot (omega arith))
+    (λ c κs. search needs)
     returns)

@@ -173,9 +173,7 @@ module _ (at-loop : tie.At-loop Inv-loop μ-loop) where
           plant = asked entry .plant;
           var = asked entry .var;
           sides = sized-as part-is (sized-less (omega arith) (sized-part o (part-within (M entry) wf k (B entry)) (asked entry .sides .near)));
-          band = k;
-          place = at-loop .loop .inv .place;
-          among = at-loop .loop .inv .among;
+          slot = record { band = k; place = at-loop .loop .inv .place; among = at-loop .loop .inv .among };
           between = rw (at-loop .loop .inv .so-far) (outermost-between (entry .args .up) (M entry) (B entry) (entry .args .i) k (cap-low wf (entry .args .i) (asked entry .var)));
         }
 

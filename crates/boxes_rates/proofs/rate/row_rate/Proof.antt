@@ -34,7 +34,7 @@ module _ (at-start : tie.Start) where
 
   -- the slot of the row
   place : at-start .args .band + firstRow + at-start .args .i * rowSize + rowSize ≤ slots
-  place = let sheet = asked .plant .sheet in omega (arith, sheet .vars-high, sheet .bands-high, asked .var, asked .among, asked .place)
+  place = let sheet = asked .plant .sheet in omega (arith, sheet .vars-high, sheet .bands-high, asked .var, asked .slot .among, asked .slot .place)
 
   -- the row of band k is there
   row-is : (k : ℕ) → at-start .args .band ≡ bandSlot k → rowAt v (at-start .args .band + firstRow + at-start .args .i * rowSize) ≡ rowOf M k (at-start .args .i)
@@ -43,7 +43,7 @@ module _ (at-start : tie.Start) where
 command-term-requires : tie.Need-command-term-requires
 command-term-requires at-start κs =
     let band = asked at-start in
-    record { sheet = band .plant .sheet; law = band .plant .law; room = place at-start; band = band .band; place = band .place; among = band .among }
+    record { plant = band .plant; room = place at-start; sides = band .sides; slot = band .slot }
 
 bound-requires : tie.Need-bound-requires
 bound-requires at-term κs =
@@ -60,7 +60,7 @@ further-requires at-cap κs =
     let near = at-bound .bound .ensures .near in
     record {
       place = place at-start;
-      divisor = subst (λ (r : Row). Between (pos 1) (pos maxDivisor) (r .q)) (sym (row-is at-start (band .band) (band .place))) (band .plant .sheet .rows (band .band) (at-start .args .i) (band .among) (band .var) .q);
+      divisor = subst (λ (r : Row). Between (pos 1) (pos maxDivisor) (r .q)) (sym (row-is at-start (band .slot .band) (band .slot .place))) (band .plant .sheet .rows (band .slot .band) (at-start .args .i) (band .slot .among) (band .var) .q);
       number = rw (toZ-ofZ (fits64 near tt)) near;
       capped = simp (wide, at-cap .further-arg .given, toZ-ofZ, at-start .fits .outermost) (record { small = cap-near (band .plant .sheet) (at-start .args .i) (band .var); between = band .between });
     }
@@ -80,7 +80,7 @@ returns at-return =
           let least = offeredOver false (M at-start) k B in
           let greatest = offeredOver true (M at-start) k B in
           let number-is =
-          bounded .same least greatest (toZ-ofZ (fits64 (term .near) tt) ∙ term .same k p B)
+          bounded .same least greatest (toZ-ofZ (fits64 (term .near) tt) ∙ term .same k p)
           ∙ ap (λ (n : ℕ). bound (a .up) n (rowAt (v at-start) (a .band + firstRow + a .i * rowSize)) B least greatest) (asked at-start .plant .n) in
           (at-return .further .ensures .0
           ∙ rw (toZ-ofZ (fits64 (bounded .near) tt), number-is) (simp (wide, at-cap .further-arg .given, toZ-ofZ, at-start .fits .outermost)

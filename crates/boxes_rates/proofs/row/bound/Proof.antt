@@ -34,7 +34,7 @@ module _ (at-sum : tie.After-weighted) where
 
   -- the weighted sum and the term
   abbrev s : ℤ
-  s = weighted (at-start .args .up) (at-start .args .n) row (at-start .args .over .now)
+  s = weighted (at-start .args .up) (at-start .args .n) (row .a) (at-start .args .over .now)
 
   abbrev t : ℤ
   t = at-start .args .term

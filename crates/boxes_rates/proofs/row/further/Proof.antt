@@ -13,7 +13,7 @@ use Rattle.integers.proofs.Z.{up32, bound-sum, bound-sub, fits64}
 use Rattle.sheet_spec.specs.Slots.{_!_, N, Row, rowAt}
 use Rattle.machine_spec.specs.Machine.{change}
 use Rattle.boxes_arithmetic.specs.Limits.{QuotientAsked, word}
-use Rattle.boxes_arithmetic.specs.Outward.{outwardDiv}
+use Rattle.machine_spec.specs.Machine.{outwardDiv}
 use Rattle.boxes_rates.proofs.RowNumbers.{row-read, row-bound}
 use Rattle.boxes_rates.proofs.row.further.Statement.{statement}
 use Rattle.boxes_rates.proofs.row.further.Tie as tie

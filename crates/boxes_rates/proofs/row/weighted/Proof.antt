@@ -1,4 +1,4 @@
--- `weighted` gives the sum of a row's terms over a box. Invariant: after j turns, the sum of the first j, and how far it goes.
+-- `weighted` gives the sum of a row's or a law's terms over a box. Invariant: after j turns, the sum of the first j, and how far it goes.
 -- Measure: the variables left. Assumes nothing.
 use mathlib.Core.Path.{_≡_, refl, _∙_}
 use mathlib.Core.Bool.{Bool, true, false}
@@ -12,7 +12,7 @@ use mir.Val.{SFits, toZ}
 use borrow.Author.Needs.{sfits-of}
 use Rattle.integers.specs.Bound.{Bound}
 use Rattle.integers.proofs.Z.{told, bound-of, bound-sum, bound-mul, bound-less, bound-lit, fits64, fits-by}
-use Rattle.sheet_spec.specs.Slots.{_!_, N, Row, rowAt}
+use Rattle.sheet_spec.specs.Slots.{_!_, N}
 use Rattle.sheet_spec.specs.Box.{lo, hi}
 use Rattle.machine_spec.specs.Box.{sum}
 use Rattle.machine_spec.specs.Rate.{outer, weighted}
@@ -24,13 +24,13 @@ use Rattle.boxes_rates.proofs.row.weighted.Statement.{statement}
 use Rattle.boxes_rates.proofs.row.weighted.Tie as tie
 
 -- s is the sum of the first j of the n terms
-record Invariant (up : Bool) (n : ℕ) (r : Row) (B : List ℤ) (s : ℤ) (j : ℕ) : Type 0 where
+record Invariant (up : Bool) (n : ℕ) (a : ℕ → ℤ) (B : List ℤ) (s : ℤ) (j : ℕ) : Type 0 where
   turns : j ≤ n
-  same : s ≡ weighted up j r B
-  near : Bound (weighted up j r B) (j * (word * limit))
+  same : s ≡ weighted up j a B
+  near : Bound (weighted up j a B) (j * (word * limit))
 
 abbrev Inv-loop : tie.InvT-loop
-Inv-loop up n sheet row over sum₀ j₀ sum j = Invariant up n (rowAt sheet row) over (toZ w64 sum) j
+Inv-loop up n sheet row over sum₀ j₀ sum j = Invariant up n (λ j. sheet ! (row + j)) over (toZ w64 sum) j
 
 abbrev μ-loop : tie.MeasureT-loop
 μ-loop up n sheet row over sum₀ j₀ sum j = n - j
@@ -69,7 +69,7 @@ module _ (at-term : tie.After-term Inv-loop μ-loop) where
 
   -- the sum so far, the coefficient and the term
   abbrev s : ℤ
-  s = weighted up j (rowAt (at-start .args .sheet .now) (at-start .args .row)) B
+  s = weighted up j (λ j. at-start .args .sheet .now ! (at-start .args .row + j)) B
 
   abbrev a : ℤ
   a = at-start .args .sheet .now ! (at-start .args .row + j)
@@ -109,7 +109,7 @@ loop-again at-term = record {
 
 -- the sum of all terms, after as many turns as there are variables
 all-turns : (at-loop : tie.At-loop Inv-loop μ-loop) → at-loop .before .args .n ≤ at-loop .loop .j
-    → let a = at-loop .before .args in (toZ w64 (at-loop .loop .sum) ≡ weighted (a .up) (a .n) (rowAt (a .sheet .now) (a .row)) (a .over .now)) × Bound (toZ w64 (at-loop .loop .sum)) (N * (word * limit))
+    → let a = at-loop .before .args in (toZ w64 (at-loop .loop .sum) ≡ weighted (a .up) (a .n) (λ j. a .sheet .now ! (a .row + j)) (a .over .now)) × Bound (toZ w64 (at-loop .loop .sum)) (N * (word * limit))
 all-turns at-loop h =
     let inv = at-loop .loop .inv in
     let all : at-loop .loop .j ≡ at-loop .before .args .n = omega (arith, inv .turns) in

@@ -15,7 +15,7 @@ module _ (s : Shape) (r : ℕ) where
   is-head e = sym (ap (recordAt s) e ∙ head-at s)
 
   module _ (after : r ≡ 0 → ⊥) where
-    is-band : r - 1 < s .bands → Band (r - 1) ≡ recordAt s r
+    is-band : r - 1 < s .bands → Band (s .kind) (r - 1) ≡ recordAt s r
     is-band l = let e : r ≡ 1 + (r - 1) = omega (arith, after) in sym (ap (recordAt s) e ∙ band-at s (r - 1) l)
 
     module _ (beyond : s .bands ≤ r - 1) where

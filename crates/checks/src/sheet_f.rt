@@ -1,0 +1,16 @@
+// Sheet A with a band whose plain law follows the state, (-3·x + 700) / 40, as a file, and the places in it that a check changes.
+
+pub const LENGTH: usize = 78;
+
+// The second letter of the band's mark, and the last byte of the law's divisor.
+pub const LETTER: usize = 23;
+
+pub const DIVISOR: usize = 43;
+
+// A line for each record.
+pub fn file() -> [u8; LENGTH] {
+    *b"SH\x01\x01\x01\x00\x00\x04\x00\x04\x00\x04\xff\xff\xff\xe7\x00\x00\x00\x19\x00\x05\
+       BF\xff\xe1\x7b\x80\x00\x00\x00\x00\x00\x00\x00\x00\xff\xfd\x00\x00\x02\xbc\x00\x28\xff\xff\x00\x04\x00\x00\x00\x00\x00\x00\x00\x00\x00\x14\
+       NG\x00\x00\x00\x82\x00\x1e\x84\x80\
+       RC\xff\xff\xff\x9c\x00\x00\x00\x64"
+}
