@@ -3,7 +3,7 @@
 use std::cmp::Ordering;
 
 /// The most variables that a sheet has.
-pub const VARIABLES: usize = 4;
+pub const VARIABLES: usize = 6;
 
 /// One number per variable; those beyond n are 0.
 pub type State = [i64; VARIABLES];

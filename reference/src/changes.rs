@@ -1,18 +1,32 @@
-//! The changes that a round looks at, for those who watch the engine: each band's row gives a face
-//! one numerator, which is compared with −q·cap and q·cap before it is divided.
+//! The changes and commands that a round looks at, for those who watch the engine: each band's row
+//! gives a face one numerator, which is compared with −q·cap and q·cap before it is divided. A law that
+//! follows the state gives it one sum, compared with divisor·least and divisor·greatest likewise.
 
 use crate::machine::limit;
 use crate::neighborhoods::Face;
+use crate::sheet::Band;
 
-/// Where a numerator lies. Only one strictly between the two is divided.
+/// Where a dividend lies between two limits. Only one strictly between them is divided.
 #[derive(Clone, Copy, Debug, PartialEq, Eq)]
 pub enum Place {
-    /// At −q·cap or below it.
+    /// At the least one or below it.
     Least,
-    /// Strictly between −q·cap and q·cap.
+    /// Strictly between the two.
     Between,
-    /// At q·cap or above it.
+    /// At the greatest one or above it.
     Greatest,
+}
+
+impl Place {
+    fn of(dividend: i64, least: i64, greatest: i64) -> Place {
+        if dividend <= least {
+            Place::Least
+        } else if dividend >= greatest {
+            Place::Greatest
+        } else {
+            Place::Between
+        }
+    }
 }
 
 /// Numerators at which a change is about to be clamped, or is rounded around zero.
@@ -103,17 +117,39 @@ impl Change {
     }
 
     pub fn place(&self) -> Place {
-        if self.numerator <= -self.limit() {
-            Place::Least
-        } else if self.numerator >= self.limit() {
-            Place::Greatest
-        } else {
-            Place::Between
-        }
+        Place::of(self.numerator, -self.limit(), self.limit())
     }
 
     /// The numerator lies just there.
     pub fn is_at(&self, at: At) -> bool {
         self.numerator == at.numerator(self.q, self.cap)
+    }
+}
+
+/// An end of a band's commands.
+#[derive(Clone, Copy, Debug, PartialEq, Eq)]
+pub enum End {
+    Least,
+    Greatest,
+}
+
+/// The end that a face of a variable looks at in one band, where the law follows the state and the
+/// row has a term of the command.
+#[derive(Clone, Copy, Debug)]
+pub struct CommandEnd<'a> {
+    pub variable: usize,
+    pub face: Face,
+    pub end: End,
+    /// The law's sum, at its least or at its greatest.
+    pub sum: i64,
+    pub band: &'a Band,
+}
+
+impl CommandEnd<'_> {
+    /// Where the sum lies between divisor·least and divisor·greatest of the safety range.
+    pub fn place(&self) -> Place {
+        let (divisor, safety) = (i64::from(self.band.law.divisor), self.band.safety);
+        let (least, greatest) = (i64::from(safety.least), i64::from(safety.greatest));
+        Place::of(self.sum, divisor * least, divisor * greatest)
     }
 }

@@ -2,7 +2,7 @@
 //! and the one number that the drive gets.
 
 use crate::boxes::StateBox;
-use crate::changes::Change;
+use crate::changes::{Change, CommandEnd};
 use crate::reach::{advance, Budget, Law, NoWatch, Step, Stop, Watch};
 use crate::sheet::{self, CommandRange, Fields, Refusal, Sheet, START_LIMIT};
 use std::ops::ControlFlow;
@@ -154,6 +154,11 @@ impl<W: Watch> Watch for Safety<'_, W> {
     #[inline]
     fn change(&mut self, change: Change) {
         self.watch.change(change);
+    }
+
+    #[inline]
+    fn command(&mut self, end: CommandEnd) {
+        self.watch.command(end);
     }
 
     #[inline]

@@ -1,4 +1,4 @@
-//! The second guard: document 01 and papers 2, 3, 4, 6 and 8 of document 02 in plain Rust, without any
+//! The second guard: document 01 and papers 2, 3, 4, 6, 8 and 9 of document 02 in plain Rust, without any
 //! dependency.
 //! No text or code is shared with the proved guard. Both follow the readings in `docs/DECISIONS.md`.
 

@@ -1,9 +1,10 @@
-//! The machine on a sheet: bands of one variable, and the changes that a row allows in one tick,
-//! with outward rounding and the clamp. A numerator is compared with −q·cap and q·cap first and
-//! divided only strictly between them (paper 6 of document 02).
+//! The machine on a sheet: bands of one variable, the plain law's commands at a state, and the changes
+//! that a row allows in one tick, with outward rounding and the clamp. A numerator is compared with
+//! −q·cap and q·cap first and divided only strictly between them (paper 6 of document 02); a law's sum
+//! likewise with divisor·least and divisor·greatest of the safety range.
 
 use crate::boxes::State;
-use crate::sheet::{Row, Sheet};
+use crate::sheet::{CommandRange, Kind, Row, Sheet};
 use std::ops::Range;
 
 /// q·cap: from here on a change is at the cap. It is at most 4,096,000.
@@ -90,6 +91,52 @@ pub fn bands_met(sheet: &Sheet, least: i64, greatest: i64) -> Range<usize> {
         }
     }
     first..end
+}
+
+/// The least command of a law with this sum: the quotient rounded down, clamped to the safety range.
+/// What is divided is above 0 and at most divisor·(greatest − least), 81,920,000.
+#[inline]
+pub fn least_command(sum: i64, divisor: i32, safety: CommandRange) -> i64 {
+    let (least, greatest) = (i64::from(safety.least), i64::from(safety.greatest));
+    let above_least = sum - i64::from(divisor) * least;
+    if above_least <= 0 {
+        least
+    } else if sum >= i64::from(divisor) * greatest {
+        greatest
+    } else {
+        least + i64::from(above_least as u32 / divisor as u32)
+    }
+}
+
+/// The greatest command likewise: the quotient rounded up, clamped.
+#[inline]
+pub fn greatest_command(sum: i64, divisor: i32, safety: CommandRange) -> i64 {
+    let (least, greatest) = (i64::from(safety.least), i64::from(safety.greatest));
+    let below_greatest = i64::from(divisor) * greatest - sum;
+    if below_greatest <= 0 {
+        greatest
+    } else if sum <= i64::from(divisor) * least {
+        least
+    } else {
+        greatest - i64::from(below_greatest as u32 / divisor as u32)
+    }
+}
+
+/// The commands that the plain law has at a state; below the first edge none.
+pub fn plain_commands(sheet: &Sheet, state: &State) -> Option<CommandRange> {
+    let band = &sheet.bands[band_of(sheet, state[sheet.band_variable as usize])?];
+    if sheet.kind() == Kind::Fixed {
+        return Some(band.safety);
+    }
+    let law = &band.law;
+    let mut sum = i64::from(law.constant);
+    for (&coefficient, &x) in law.coefficients.iter().zip(state).take(sheet.n()) {
+        sum += i64::from(coefficient) * x;
+    }
+    Some(CommandRange {
+        least: least_command(sum, law.divisor, band.safety) as i32,
+        greatest: greatest_command(sum, law.divisor, band.safety) as i32,
+    })
 }
 
 /// The least and the greatest change that variable i may take in one tick.

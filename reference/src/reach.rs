@@ -1,11 +1,12 @@
 //! Reach boxes: one step of face lifting, and a reach of several steps at one width.
 //! The engine is generic over a `Watch`, which sees each step and may stop the reach.
 
-use crate::boxes::{State, StateBox};
-use crate::changes::Change;
-use crate::machine::{greatest_so_far, least_so_far};
+use crate::boxes::{State, StateBox, VARIABLES};
+use crate::changes::{Change, CommandEnd, End};
+use crate::machine::{greatest_command, greatest_so_far, least_command, least_so_far};
 use crate::neighborhoods::Face;
-use crate::sheet::{Band, CommandRange, Refusal, Row, Sheet, START_LIMIT, TICKS_LIMIT};
+use crate::sheet::{Band, BandLaw, CommandRange, Kind, Refusal, Row, Sheet};
+use crate::sheet::{START_LIMIT, TICKS_LIMIT};
 use crate::whole;
 use std::ops::ControlFlow;
 
@@ -15,7 +16,7 @@ const ROUNDS_PER_LENGTH: u32 = 8;
 /// Which commands the ticks use.
 #[derive(Clone, Copy, Debug, PartialEq, Eq)]
 pub enum Law {
-    /// The plain law: any command of the band's safety range.
+    /// The plain law: any command of the band's safety range, or those of the band's own law.
     Baseline,
     /// Any command from the least to the greatest, in every band; at each tick it may be another one.
     Span { least: i32, greatest: i32 },
@@ -64,6 +65,10 @@ pub trait Watch {
     /// A face looks at a band's change.
     #[inline]
     fn change(&mut self, _change: Change) {}
+
+    /// A face looks at an end of a band's commands.
+    #[inline]
+    fn command(&mut self, _end: CommandEnd) {}
 
     /// The step begins again with this number of ticks.
     #[inline]
@@ -129,44 +134,141 @@ fn greatest_product(coefficient: i32, lower: i64, upper: i64) -> i64 {
     i64::from(coefficient) * if coefficient >= 0 { upper } else { lower }
 }
 
-/// The least value of a row's numerator over a box, side by side:
-/// each variable, and the command, at the end that makes its own term least.
+/// The least value of Σ coefficient·x over a box, side by side: each variable at the end that makes
+/// its own term least.
 #[inline]
-pub(crate) fn least_numerator<const N: usize>(
-    row: &Row,
-    over: &StateBox,
-    commands: (i64, i64),
-) -> i64 {
-    let mut sum = least_product(row.b, commands.0, commands.1) + i64::from(row.c);
-    for j in 0..N {
-        sum += least_product(row.a[j], over.lower[j], over.upper[j]);
-    }
-    sum
+fn least_sum<const N: usize>(coefficients: &[i32; VARIABLES], over: &StateBox) -> i64 {
+    (0..N)
+        .map(|j| least_product(coefficients[j], over.lower[j], over.upper[j]))
+        .sum()
 }
 
 /// The greatest value likewise.
 #[inline]
-pub(crate) fn greatest_numerator<const N: usize>(
-    row: &Row,
-    over: &StateBox,
-    commands: (i64, i64),
-) -> i64 {
-    let mut sum = greatest_product(row.b, commands.0, commands.1) + i64::from(row.c);
-    for j in 0..N {
-        sum += greatest_product(row.a[j], over.lower[j], over.upper[j]);
-    }
-    sum
+fn greatest_sum<const N: usize>(coefficients: &[i32; VARIABLES], over: &StateBox) -> i64 {
+    (0..N)
+        .map(|j| greatest_product(coefficients[j], over.lower[j], over.upper[j]))
+        .sum()
 }
 
-/// The least and the greatest command that the law has in a band.
+/// The least value of a row's numerator over a box, with the least value of its term of the command.
 #[inline]
-pub(crate) fn commands(law: Law, band: &Band) -> (i64, i64) {
-    match law {
-        Law::Baseline => (
-            i64::from(band.safety.least),
-            i64::from(band.safety.greatest),
-        ),
-        Law::Span { least, greatest } => (i64::from(least), i64::from(greatest)),
+pub(crate) fn least_numerator<const N: usize>(row: &Row, over: &StateBox, command: i64) -> i64 {
+    command + i64::from(row.c) + least_sum::<N>(&row.a, over)
+}
+
+/// The greatest value likewise.
+#[inline]
+pub(crate) fn greatest_numerator<const N: usize>(row: &Row, over: &StateBox, command: i64) -> i64 {
+    command + i64::from(row.c) + greatest_sum::<N>(&row.a, over)
+}
+
+/// The plain law follows the state on this sheet.
+#[inline]
+pub(crate) fn follows(law: Law, sheet: &Sheet) -> bool {
+    law == Law::Baseline && sheet.kind() == Kind::Following
+}
+
+/// The least and the greatest command that the law has in a band, where they do not follow the state.
+#[inline]
+fn fixed_commands(law: Law, band: &Band) -> (i64, i64) {
+    let (least, greatest) = match law {
+        Law::Baseline => (band.safety.least, band.safety.greatest),
+        Law::Span { least, greatest } => (least, greatest),
+    };
+    (i64::from(least), i64::from(greatest))
+}
+
+/// A band's commands over a box. Where they follow the state, the box may be cut at one side and each
+/// end is worked out from the law's sum: over the box, and what the cut changes in one term.
+pub(crate) struct Commands<'a, const FOLLOWS: bool> {
+    band: &'a Band,
+    /// The commands, or the law's sum: its least and its greatest value.
+    least: i64,
+    greatest: i64,
+}
+
+impl<'a, const FOLLOWS: bool> Commands<'a, FOLLOWS> {
+    #[inline]
+    pub(crate) fn over<const N: usize>(law: Law, band: &'a Band, over: &StateBox) -> Self {
+        let (least, greatest) = if FOLLOWS {
+            let BandLaw {
+                coefficients,
+                constant,
+                ..
+            } = &band.law;
+            (
+                i64::from(*constant) + least_sum::<N>(coefficients, over),
+                i64::from(*constant) + greatest_sum::<N>(coefficients, over),
+            )
+        } else {
+            fixed_commands(law, band)
+        };
+        Commands {
+            band,
+            least,
+            greatest,
+        }
+    }
+
+    /// The end of the law's commands that a face of variable i needs, which moved the box's side by
+    /// `cut`: the sum's term of i changes where it is taken at that side.
+    #[inline]
+    fn end<W: Watch>(&self, face: Face, end: End, i: usize, cut: i64, watch: &mut W) -> i64 {
+        let BandLaw {
+            coefficients,
+            divisor,
+            ..
+        } = &self.band.law;
+        let coefficient = i64::from(coefficients[i]);
+        let at_cut = match (face, end) {
+            (Face::Lower, End::Least) | (Face::Upper, End::Greatest) => coefficient.min(0),
+            (Face::Lower, End::Greatest) | (Face::Upper, End::Least) => coefficient.max(0),
+        };
+        let uncut = match end {
+            End::Least => self.least,
+            End::Greatest => self.greatest,
+        };
+        let sum = uncut + at_cut * cut;
+        watch.command(CommandEnd {
+            variable: i,
+            face,
+            end,
+            sum,
+            band: self.band,
+        });
+        match end {
+            End::Least => least_command(sum, *divisor, self.band.safety),
+            End::Greatest => greatest_command(sum, *divisor, self.band.safety),
+        }
+    }
+
+    /// The least value of b·u over what variable i's lower face looks at.
+    #[inline]
+    pub(crate) fn least_term<W: Watch>(&self, b: i32, i: usize, cut: i64, watch: &mut W) -> i64 {
+        if !FOLLOWS {
+            return least_product(b, self.least, self.greatest);
+        }
+        let end = match b.signum() {
+            1 => End::Least,
+            -1 => End::Greatest,
+            _ => return 0,
+        };
+        i64::from(b) * self.end(Face::Lower, end, i, cut, watch)
+    }
+
+    /// The greatest value over what the upper face looks at.
+    #[inline]
+    pub(crate) fn greatest_term<W: Watch>(&self, b: i32, i: usize, cut: i64, watch: &mut W) -> i64 {
+        if !FOLLOWS {
+            return greatest_product(b, self.least, self.greatest);
+        }
+        let end = match b.signum() {
+            1 => End::Greatest,
+            -1 => End::Least,
+            _ => return 0,
+        };
+        i64::from(b) * self.end(Face::Upper, end, i, cut, watch)
     }
 }
 
@@ -197,7 +299,7 @@ fn no_rates<const N: usize>(sheet: &Sheet) -> Rates {
 /// Puts one band's bounds to the rates. `part` is the enclosure's part in the band: a face's
 /// neighborhood meets the band where it meets this part, and there only the face's own side differs.
 #[inline]
-fn bound_band<const N: usize, W: Watch>(
+fn bound_band<const N: usize, const FOLLOWS: bool, W: Watch>(
     sheet: &Sheet,
     law: Law,
     band: &Band,
@@ -206,21 +308,23 @@ fn bound_band<const N: usize, W: Watch>(
     rates: &mut Rates,
     watch: &mut W,
 ) {
-    let commands = commands(law, band);
+    let commands = Commands::<FOLLOWS>::over::<N>(law, band, part);
     for i in 0..N {
         let cap = sheet.caps[i];
         let row = &band.rows[i];
         let (lower, upper) = (part.lower[i], part.upper[i]);
         if lower <= depths.upper[i] {
             part.upper[i] = upper.min(depths.upper[i]);
-            let numerator = least_numerator::<N>(row, part, commands) - i64::from(row.d);
+            let command = commands.least_term(row.b, i, part.upper[i] - upper, watch);
+            let numerator = least_numerator::<N>(row, part, command) - i64::from(row.d);
             watch.change(Change::new(i, Face::Lower, numerator, row.q, cap));
             rates.lower[i] = least_so_far(numerator, row.q, cap, rates.lower[i]);
             part.upper[i] = upper;
         }
         if depths.lower[i] <= upper {
             part.lower[i] = lower.max(depths.lower[i]);
-            let numerator = greatest_numerator::<N>(row, part, commands) + i64::from(row.d);
+            let command = commands.greatest_term(row.b, i, part.lower[i] - lower, watch);
+            let numerator = greatest_numerator::<N>(row, part, command) + i64::from(row.d);
             watch.change(Change::new(i, Face::Upper, numerator, row.q, cap));
             rates.upper[i] = greatest_so_far(numerator, row.q, cap, rates.upper[i]);
             part.lower[i] = lower;
@@ -231,7 +335,7 @@ fn bound_band<const N: usize, W: Watch>(
 /// One round: the rate of every face over its neighborhood within the enclosure,
 /// each band's row over the part of the neighborhood that lies in that band.
 #[inline]
-fn round<const N: usize, W: Watch>(
+fn round<const N: usize, const FOLLOWS: bool, W: Watch>(
     sheet: &Sheet,
     law: Law,
     start: &StateBox,
@@ -252,7 +356,7 @@ fn round<const N: usize, W: Watch>(
             continue;
         }
         part.lower[v] = enclosure.lower[v].max(edge);
-        bound_band::<N, W>(sheet, law, band, &depths, &mut part, &mut rates, watch);
+        bound_band::<N, FOLLOWS, W>(sheet, law, band, &depths, &mut part, &mut rates, watch);
         if edge <= enclosure.lower[v] {
             break;
         }
@@ -275,7 +379,7 @@ fn moved<const N: usize>(start: &StateBox, rates: &Rates, times: u32) -> StateBo
 
 /// One lifted step from a start box; nothing where the allowance ends first.
 #[inline]
-fn step<const N: usize, W: Watch>(
+fn step<const N: usize, const FOLLOWS: bool, W: Watch>(
     sheet: &Sheet,
     law: Law,
     start: &StateBox,
@@ -295,7 +399,7 @@ fn step<const N: usize, W: Watch>(
             let rates = if W::WHOLE {
                 whole::round(sheet, law, start, &enclosure, ticks)
             } else {
-                round::<N, W>(sheet, law, start, &enclosure, ticks, watch)
+                round::<N, FOLLOWS, W>(sheet, law, start, &enclosure, ticks, watch)
             };
             let on_the_way = start.hull_in::<N>(&moved::<N>(start, &rates, ticks - 1));
             if on_the_way.inside_in::<N>(&enclosure) {
@@ -331,11 +435,30 @@ pub fn advance<W: Watch>(
         1 => advance_in::<1, W>(sheet, law, start, ticks, width, budget, watch),
         2 => advance_in::<2, W>(sheet, law, start, ticks, width, budget, watch),
         3 => advance_in::<3, W>(sheet, law, start, ticks, width, budget, watch),
-        _ => advance_in::<4, W>(sheet, law, start, ticks, width, budget, watch),
+        4 => advance_in::<4, W>(sheet, law, start, ticks, width, budget, watch),
+        5 => advance_in::<5, W>(sheet, law, start, ticks, width, budget, watch),
+        _ => advance_in::<6, W>(sheet, law, start, ticks, width, budget, watch),
     }
 }
 
+/// And for each of these once with commands that follow the state and once without.
 fn advance_in<const N: usize, W: Watch>(
+    sheet: &Sheet,
+    law: Law,
+    start: &StateBox,
+    ticks: u32,
+    width: u32,
+    budget: &mut Budget,
+    watch: &mut W,
+) -> Result<StateBox, Stop> {
+    if follows(law, sheet) {
+        advance_by::<N, true, W>(sheet, law, start, ticks, width, budget, watch)
+    } else {
+        advance_by::<N, false, W>(sheet, law, start, ticks, width, budget, watch)
+    }
+}
+
+fn advance_by<const N: usize, const FOLLOWS: bool, W: Watch>(
     sheet: &Sheet,
     law: Law,
     start: &StateBox,
@@ -347,8 +470,9 @@ fn advance_in<const N: usize, W: Watch>(
     let mut at = *start;
     let mut left = ticks;
     while left > 0 {
-        let step =
-            step::<N, W>(sheet, law, &at, width.min(left), budget, watch).ok_or(Stop::Spent)?;
+        let width = width.min(left);
+        let step = step::<N, FOLLOWS, W>(sheet, law, &at, width, budget, watch);
+        let step = step.ok_or(Stop::Spent)?;
         if watch.settled(&step).is_break() {
             return Err(Stop::Failed);
         }

@@ -23,11 +23,13 @@ const DIVISOR_LIMIT: i32 = 4_096;
 const HEAD: usize = 20;
 
 /// How many numbers `Sheet::numbers` lists, and where its parts begin.
-pub const NUMBERS: usize = 365;
+pub const NUMBERS: usize = 691;
 const CAPS_AT: usize = 9;
 const BANDS_AT: usize = CAPS_AT + VARIABLES;
+const LAW_AT: usize = 3;
+const ROWS_AT: usize = LAW_AT + VARIABLES + 2;
 const ROW_NUMBERS: usize = VARIABLES + 4;
-const BAND_NUMBERS: usize = 3 + VARIABLES * ROW_NUMBERS;
+const BAND_NUMBERS: usize = ROWS_AT + VARIABLES * ROW_NUMBERS;
 const RECOVERY_AT: usize = BANDS_AT + BANDS * BAND_NUMBERS;
 pub const UNSAFE_AT: usize = RECOVERY_AT + 2 * VARIABLES;
 
@@ -98,11 +100,57 @@ pub struct Row {
     pub q: i32,
 }
 
+/// How a band's plain commands follow the state: (Σ coefficient·x + constant)/divisor.
+#[derive(Clone, Copy, Debug, Default, PartialEq, Eq)]
+pub struct BandLaw {
+    pub coefficients: [i32; VARIABLES],
+    pub constant: i32,
+    pub divisor: i32,
+}
+
+/// Where a sheet's plain commands come from; the bands' mark tells it.
+#[derive(Clone, Copy, Debug, PartialEq, Eq)]
+pub enum Kind {
+    /// `BD`: the band's safety range. No law number is looked at.
+    Fixed,
+    /// `BF`: the band's law, clamped to its safety range.
+    Following,
+}
+
+impl Kind {
+    /// The kind of a file with n variables, by the first band's mark where the file reaches it.
+    fn of_file(bytes: &[u8], n: usize) -> Kind {
+        let mark = bytes.get(HEAD + 2 * n..).and_then(<[u8]>::first_chunk);
+        if mark == Some(Kind::Following.mark()) {
+            Kind::Following
+        } else {
+            Kind::Fixed
+        }
+    }
+
+    /// The mark of every band.
+    pub fn mark(self) -> &'static [u8; 2] {
+        match self {
+            Kind::Fixed => b"BD",
+            Kind::Following => b"BF",
+        }
+    }
+
+    /// The bytes of a band's law.
+    fn law_length(self, n: usize) -> usize {
+        match self {
+            Kind::Fixed => 0,
+            Kind::Following => 2 * n + 6,
+        }
+    }
+}
+
 /// One mode of the machine: it runs from its edge to just below the next one's.
 #[derive(Clone, Copy, Debug, Default)]
 pub struct Band {
     pub edge: i32,
     pub safety: CommandRange,
+    pub law: BandLaw,
     pub rows: [Row; VARIABLES],
 }
 
@@ -135,10 +183,38 @@ fn require(holds: bool, refusal: Refusal) -> Result<(), Refusal> {
     }
 }
 
-/// The length in bytes of a sheet with these counts.
-pub fn length(variables: usize, bands: usize, unsafe_boxes: usize) -> usize {
+/// All coefficients are in range.
+fn coefficients_within(coefficients: &[i32]) -> bool {
+    coefficients
+        .iter()
+        .all(|&a| within(a, -COEFFICIENT_LIMIT, COEFFICIENT_LIMIT))
+}
+
+impl BandLaw {
+    /// All numbers for n variables are in range.
+    fn in_range(&self, n: usize) -> bool {
+        coefficients_within(&self.coefficients[..n])
+            && within(self.constant, -OFFSET_LIMIT, OFFSET_LIMIT)
+            && within(self.divisor, 1, DIVISOR_LIMIT)
+    }
+}
+
+impl Row {
+    /// All numbers for n variables are in range.
+    fn in_range(&self, n: usize) -> bool {
+        coefficients_within(&self.a[..n])
+            && within(self.b, -COEFFICIENT_LIMIT, COEFFICIENT_LIMIT)
+            && within(self.c, -OFFSET_LIMIT, OFFSET_LIMIT)
+            && within(self.d, 0, OFFSET_LIMIT)
+            && within(self.q, 1, DIVISOR_LIMIT)
+    }
+}
+
+/// The length in bytes of a sheet of this kind with these counts.
+pub fn length(kind: Kind, variables: usize, bands: usize, unsafe_boxes: usize) -> usize {
     let n = variables;
-    HEAD + 2 * n + bands * (14 + n * (2 * n + 12)) + (2 + 8 * n) * (unsafe_boxes + 1)
+    let band = 14 + kind.law_length(n) + n * (2 * n + 12);
+    HEAD + 2 * n + bands * band + (2 + 8 * n) * (unsafe_boxes + 1)
 }
 
 impl Sheet {
@@ -157,9 +233,23 @@ impl Sheet {
         &self.unsafe_boxes[..self.unsafe_count as usize]
     }
 
+    /// The kind, by the first band's divisor.
+    pub fn kind(&self) -> Kind {
+        match self.bands[0].law.divisor {
+            0 => Kind::Fixed,
+            _ => Kind::Following,
+        }
+    }
+
     /// The sheet's length in bytes; the counts are in range.
     pub fn length(&self) -> usize {
+        self.length_as(self.kind())
+    }
+
+    /// The same for a kind.
+    fn length_as(&self, kind: Kind) -> usize {
         length(
+            kind,
             self.n(),
             self.band_count as usize,
             self.unsafe_count as usize,
@@ -190,7 +280,7 @@ impl Sheet {
         )
     }
 
-    fn test_band(&self, k: usize) -> Result<(), Refusal> {
+    fn test_band(&self, kind: Kind, k: usize) -> Result<(), Refusal> {
         let band = &self.bands[k];
         let edge = match k {
             0 => band.edge == FIRST_EDGE,
@@ -202,15 +292,8 @@ impl Sheet {
             self.commands.least <= least && least <= greatest && greatest <= self.commands.greatest;
         require(safety, Refusal::SafetyRange)?;
         let n = self.n();
-        let rows = band.rows[..n].iter().all(|row| {
-            row.a[..n]
-                .iter()
-                .all(|&a| within(a, -COEFFICIENT_LIMIT, COEFFICIENT_LIMIT))
-                && within(row.b, -COEFFICIENT_LIMIT, COEFFICIENT_LIMIT)
-                && within(row.c, -OFFSET_LIMIT, OFFSET_LIMIT)
-                && within(row.d, 0, OFFSET_LIMIT)
-                && within(row.q, 1, DIVISOR_LIMIT)
-        });
+        let law = kind == Kind::Fixed || band.law.in_range(n);
+        let rows = law && band.rows[..n].iter().all(|row| row.in_range(n));
         require(rows, Refusal::Row)
     }
 
@@ -247,7 +330,7 @@ impl Sheet {
         self.test_head()?;
         self.test_caps()?;
         for k in 0..self.bands().len() {
-            self.test_band(k)?;
+            self.test_band(self.kind(), k)?;
         }
         for j in 0..self.unsafe_boxes().len() {
             self.test_unsafe_box(j)?;
@@ -273,12 +356,11 @@ impl Sheet {
         out[CAPS_AT..BANDS_AT].copy_from_slice(&self.caps);
         for (k, band) in self.bands.iter().enumerate() {
             let slots = &mut out[BANDS_AT + k * BAND_NUMBERS..][..BAND_NUMBERS];
-            slots[..3].copy_from_slice(&[band.edge, band.safety.least, band.safety.greatest]);
-            for (row, slots) in band
-                .rows
-                .iter()
-                .zip(slots[3..].chunks_exact_mut(ROW_NUMBERS))
-            {
+            slots[..LAW_AT].copy_from_slice(&[band.edge, band.safety.least, band.safety.greatest]);
+            let (law, rows) = slots[LAW_AT..].split_at_mut(VARIABLES + 2);
+            law[..VARIABLES].copy_from_slice(&band.law.coefficients);
+            law[VARIABLES..].copy_from_slice(&[band.law.constant, band.law.divisor]);
+            for (row, slots) in band.rows.iter().zip(rows.chunks_exact_mut(ROW_NUMBERS)) {
                 slots[..VARIABLES].copy_from_slice(&row.a);
                 slots[VARIABLES..].copy_from_slice(&[row.b, row.c, row.d, row.q]);
             }
@@ -311,13 +393,19 @@ impl Sheet {
             d: numbers[at + VARIABLES + 2],
             q: numbers[at + VARIABLES + 3],
         };
+        let law = |at: usize| BandLaw {
+            coefficients: coefficients(at),
+            constant: numbers[at + VARIABLES],
+            divisor: numbers[at + VARIABLES + 1],
+        };
         let band = |at: usize| Band {
             edge: numbers[at],
             safety: CommandRange {
                 least: numbers[at + 1],
                 greatest: numbers[at + 2],
             },
-            rows: std::array::from_fn(|i| row(at + 3 + i * ROW_NUMBERS)),
+            law: law(at + LAW_AT),
+            rows: std::array::from_fn(|i| row(at + ROWS_AT + i * ROW_NUMBERS)),
         };
         Sheet {
             variables: numbers[0],
@@ -347,6 +435,7 @@ impl PartialEq for Sheet {
                 (sheet.variables, sheet.band_count, sheet.unsafe_count),
                 (sheet.band_variable, sheet.delta, sheet.alpha, sheet.rho),
                 sheet.commands,
+                sheet.kind(),
             )
         };
         if head(self) != head(other) {
@@ -358,8 +447,14 @@ impl PartialEq for Sheet {
         let same_row = |(x, y): (&Row, &Row)| {
             x.a[..n] == y.a[..n] && (x.b, x.c, x.d, x.q) == (y.b, y.c, y.d, y.q)
         };
+        let kind = self.kind();
+        let same_law = |x: &BandLaw, y: &BandLaw| {
+            x.coefficients[..n] == y.coefficients[..n]
+                && (x.constant, x.divisor) == (y.constant, y.divisor)
+        };
         let same_band = |(x, y): (&Band, &Band)| {
             (x.edge, x.safety) == (y.edge, y.safety)
+                && (kind == Kind::Fixed || same_law(&x.law, &y.law))
                 && x.rows[..n].iter().zip(&y.rows[..n]).all(same_row)
         };
         let same_box = |(x, y): (&StateBox, &StateBox)| {
@@ -406,6 +501,32 @@ impl Fields<'_> {
 
     fn i16(&mut self) -> i32 {
         i32::from(i16::from_be_bytes(self.take()))
+    }
+
+    fn coefficients(&mut self, n: usize) -> [i32; VARIABLES] {
+        let mut coefficients = [0; VARIABLES];
+        for coefficient in &mut coefficients[..n] {
+            *coefficient = self.i16();
+        }
+        coefficients
+    }
+
+    fn law(&mut self, n: usize) -> BandLaw {
+        BandLaw {
+            coefficients: self.coefficients(n),
+            constant: self.i32(),
+            divisor: self.u16(),
+        }
+    }
+
+    fn row(&mut self, n: usize) -> Row {
+        Row {
+            a: self.coefficients(n),
+            b: self.i16(),
+            c: self.i32(),
+            d: self.i32(),
+            q: self.u16(),
+        }
     }
 
     pub(crate) fn u32(&mut self) -> u32 {
@@ -455,28 +576,26 @@ pub fn read(bytes: &[u8]) -> Result<Sheet, Refusal> {
         ..Sheet::default()
     };
     sheet.test_head()?;
-    require(bytes.len() == sheet.length(), Refusal::Length)?;
     let n = sheet.n();
+    let kind = Kind::of_file(bytes, n);
+    require(bytes.len() == sheet.length_as(kind), Refusal::Length)?;
     for cap in &mut sheet.caps[..n] {
         *cap = fields.u16();
     }
     sheet.test_caps()?;
     for k in 0..sheet.band_count as usize {
-        require(fields.mark(b"BD"), Refusal::Mark)?;
+        require(fields.mark(kind.mark()), Refusal::Mark)?;
         let band = &mut sheet.bands[k];
         band.edge = fields.i32();
         band.safety.least = fields.i32();
         band.safety.greatest = fields.i32();
-        for row in &mut band.rows[..n] {
-            for a in &mut row.a[..n] {
-                *a = fields.i16();
-            }
-            row.b = fields.i16();
-            row.c = fields.i32();
-            row.d = fields.i32();
-            row.q = fields.u16();
+        if kind == Kind::Following {
+            band.law = fields.law(n);
         }
-        sheet.test_band(k)?;
+        for row in &mut band.rows[..n] {
+            *row = fields.row(n);
+        }
+        sheet.test_band(kind, k)?;
     }
     for j in 0..sheet.unsafe_count as usize {
         require(fields.mark(b"NG"), Refusal::Mark)?;
@@ -514,6 +633,26 @@ impl Pen<'_> {
         self.put(value.to_be_bytes());
     }
 
+    fn coefficients(&mut self, coefficients: &[i32]) {
+        for &coefficient in coefficients {
+            self.two(coefficient);
+        }
+    }
+
+    fn law(&mut self, law: &BandLaw, n: usize) {
+        self.coefficients(&law.coefficients[..n]);
+        self.i32(law.constant);
+        self.two(law.divisor);
+    }
+
+    fn row(&mut self, row: &Row, n: usize) {
+        self.coefficients(&row.a[..n]);
+        self.two(row.b);
+        self.i32(row.c);
+        self.i32(row.d);
+        self.two(row.q);
+    }
+
     fn sides(&mut self, sides: &StateBox, n: usize) {
         for i in 0..n {
             self.i32(sides.lower[i] as i32);
@@ -531,7 +670,7 @@ pub fn write(sheet: &Sheet, buffer: &mut [u8], place: u64) -> Result<usize, Refu
         .ok()
         .and_then(|place| buffer.get_mut(place..)?.get_mut(..length));
     let mut pen = Pen(room.ok_or(Refusal::Room)?);
-    let n = sheet.n();
+    let (n, kind) = (sheet.n(), sheet.kind());
     pen.put(*b"SH");
     pen.u8(sheet.variables);
     pen.u8(sheet.band_count);
@@ -546,18 +685,15 @@ pub fn write(sheet: &Sheet, buffer: &mut [u8], place: u64) -> Result<usize, Refu
         pen.two(cap);
     }
     for band in sheet.bands() {
-        pen.put(*b"BD");
+        pen.put(*kind.mark());
         pen.i32(band.edge);
         pen.i32(band.safety.least);
         pen.i32(band.safety.greatest);
+        if kind == Kind::Following {
+            pen.law(&band.law, n);
+        }
         for row in &band.rows[..n] {
-            for &a in &row.a[..n] {
-                pen.two(a);
-            }
-            pen.two(row.b);
-            pen.i32(row.c);
-            pen.i32(row.d);
-            pen.two(row.q);
+            pen.row(row, n);
         }
     }
     for unsafe_box in sheet.unsafe_boxes() {

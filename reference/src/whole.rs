@@ -4,7 +4,8 @@
 use crate::boxes::{StateBox, VARIABLES};
 use crate::machine::{greatest_change, least_change};
 use crate::neighborhoods::{neighborhoods, Face, Neighborhood};
-use crate::reach::{commands, greatest_numerator, least_numerator, Law, Rates, Watch};
+use crate::reach::{follows, greatest_numerator, least_numerator};
+use crate::reach::{Commands, Law, NoWatch, Rates, Watch};
 use crate::sheet::{Band, Sheet};
 
 /// Sees nothing, and has the rule of before.
@@ -27,6 +28,11 @@ pub(crate) fn round(
         let i = around.variable;
         let cap = sheet.caps[i];
         let bands = &sheet.bands[around.bands.clone()];
+        let bound = if follows(law, sheet) {
+            bound::<true>
+        } else {
+            bound::<false>
+        };
         let changes = bands.iter().map(|band| bound(law, band, &around, cap));
         match around.face {
             Face::Lower => rates.lower[i] = changes.min().unwrap_or(cap.into()),
@@ -36,17 +42,20 @@ pub(crate) fn round(
     rates
 }
 
-/// The least or the greatest change by one band's row over the whole neighborhood, clamped.
-fn bound(law: Law, band: &Band, around: &Neighborhood, cap: i32) -> i64 {
-    let row = &band.rows[around.variable];
-    let (over, commands) = (&around.sides, commands(law, band));
+/// The least or the greatest change by one band's row and law over the whole neighborhood, clamped.
+fn bound<const FOLLOWS: bool>(law: Law, band: &Band, around: &Neighborhood, cap: i32) -> i64 {
+    let (i, over, uncut) = (around.variable, &around.sides, 0);
+    let row = &band.rows[i];
+    let commands = Commands::<FOLLOWS>::over::<VARIABLES>(law, band, over);
     match around.face {
         Face::Lower => {
-            let numerator = least_numerator::<VARIABLES>(row, over, commands);
+            let command = commands.least_term(row.b, i, uncut, &mut NoWatch);
+            let numerator = least_numerator::<VARIABLES>(row, over, command);
             least_change(row, numerator, cap)
         }
         Face::Upper => {
-            let numerator = greatest_numerator::<VARIABLES>(row, over, commands);
+            let command = commands.greatest_term(row.b, i, uncut, &mut NoWatch);
+            let numerator = greatest_numerator::<VARIABLES>(row, over, command);
             greatest_change(row, numerator, cap)
         }
     }

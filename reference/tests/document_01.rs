@@ -1,7 +1,7 @@
 //! The checks of document 01 against the second guard: sheet A and its six lines,
 //! every refusal, the order of refusals, and the round trip of writer and reader.
 
-use second_guard::boxes::StateBox;
+use second_guard::boxes::{StateBox, VARIABLES};
 use second_guard::decision::{
     check_recovery, decide, decide_watched, read_question, trace, trace_recovery, Decision, Faults,
     Question, RecoveryCheck,
@@ -11,7 +11,7 @@ use second_guard::machine::{
     allowed_change, band_of, bands_met, ceil_div, floor_div, greatest_change, least_change,
 };
 use second_guard::reach::{reach, Law, NoWatch, Reach};
-use second_guard::sheet::{self, CommandRange, Refusal, Row, Sheet, NUMBERS};
+use second_guard::sheet::{self, CommandRange, Kind, Refusal, Row, Sheet, NUMBERS};
 
 /// Sheet A, written by hand from its values.
 #[rustfmt::skip]
@@ -58,10 +58,17 @@ fn five_questions() -> [Vec<u8>; 5] {
     ]
 }
 
+/// These numbers, and 0 for the variables beyond them.
+fn padded<T: Copy + Default, const M: usize>(first: [T; M]) -> [T; VARIABLES] {
+    let mut all = [T::default(); VARIABLES];
+    all[..M].copy_from_slice(&first);
+    all
+}
+
 fn interval(lower: i64, upper: i64) -> StateBox {
     StateBox {
-        lower: [lower, 0, 0, 0],
-        upper: [upper, 0, 0, 0],
+        lower: padded([lower]),
+        upper: padded([upper]),
     }
 }
 
@@ -83,20 +90,20 @@ fn sheet_of_two() -> Sheet {
     sheet.band_count = 2;
     sheet.unsafe_count = 2;
     sheet.band_variable = 1;
-    sheet.caps = [5, 7, 0, 0];
+    sheet.caps = padded([5, 7]);
     let row = Row {
-        a: [-1, 2, 0, 0],
+        a: padded([-1, 2]),
         b: 4,
         c: -3,
         d: 1,
         q: 20,
     };
-    sheet.bands[0].rows = [row, row, Row::default(), Row::default()];
+    sheet.bands[0].rows = padded([row, row]);
     sheet.bands[1] = sheet.bands[0];
     sheet.bands[1].edge = 0;
     let sides = |lower, upper| StateBox {
-        lower: [lower, lower, 0, 0],
-        upper: [upper, upper, 0, 0],
+        lower: padded([lower, lower]),
+        upper: padded([upper, upper]),
     };
     sheet.unsafe_boxes[0] = sides(-2_000_000, -130);
     sheet.unsafe_boxes[1] = sides(130, 2_000_000);
@@ -208,17 +215,14 @@ fn clamped_change() {
     assert_eq!(changes(7), (-7, -6));
     assert_eq!(changes(6), (-6, -6));
     assert_eq!(changes(5), (-5, -5));
-    assert_eq!(
-        allowed_change(&sheet, &[131, 0, 0, 0], 0, 0),
-        Some((-5, -5))
-    );
-    assert_eq!(allowed_change(&sheet, &[0, 0, 0, 0], 25, 0), Some((5, 5)));
-    assert_eq!(allowed_change(&sheet, &[1, 0, 0, 0], 0, 0), Some((-1, 0)));
-    assert_eq!(allowed_change(&sheet, &[-1, 0, 0, 0], 0, 0), Some((0, 1)));
-    assert_eq!(allowed_change(&sheet, &[-2_000_001, 0, 0, 0], 0, 0), None);
+    assert_eq!(allowed_change(&sheet, &padded([131]), 0, 0), Some((-5, -5)));
+    assert_eq!(allowed_change(&sheet, &padded([0]), 25, 0), Some((5, 5)));
+    assert_eq!(allowed_change(&sheet, &padded([1]), 0, 0), Some((-1, 0)));
+    assert_eq!(allowed_change(&sheet, &padded([-1]), 0, 0), Some((0, 1)));
+    assert_eq!(allowed_change(&sheet, &padded([-2_000_001]), 0, 0), None);
     let mut spread = sheet;
     spread.bands[0].rows[0].d = 30;
-    assert_eq!(allowed_change(&spread, &[1, 0, 0, 0], 0, 0), Some((-2, 2)));
+    assert_eq!(allowed_change(&spread, &padded([1]), 0, 0), Some((-2, 2)));
 }
 
 #[test]
@@ -338,8 +342,8 @@ fn lengths() {
     let longer = [&SHEET_A[..], &[0]].concat();
     assert_eq!(longer.len(), 71);
     assert_eq!(sheet::read(&longer).err(), Some(Refusal::Length));
-    assert_eq!(sheet::length(1, 1, 1), 70);
-    assert_eq!(sheet::length(4, 8, 8), 1_086);
+    assert_eq!(sheet::length(Kind::Fixed, 1, 1, 1), 70);
+    assert_eq!(sheet::length(Kind::Fixed, 4, 8, 8), 1_086);
 }
 
 // The shortcuts that let the sledge through.
@@ -359,7 +363,7 @@ fn neighborhoods_are_measured_from_the_start_box() {
     let mut sheet = sheet_a();
     sheet.caps[0] = 2;
     sheet.bands[0].rows[0] = Row {
-        a: [-1, 0, 0, 0],
+        a: padded([-1]),
         b: 0,
         c: 9,
         d: 0,
@@ -598,15 +602,26 @@ fn cut_sheets_pair_with_other_faults() {
     }
 }
 
+// The slots of a sheet's numbers, counted by hand: the first two bands; in a band its law's divisor and
+// its first two rows; in a row b, c, d and q; the recovery box and the first no-go box, lower sides first.
+const BAND_1: usize = 15;
+const BAND_2: usize = BAND_1 + 71;
+const DIVISOR: usize = 10;
+const ROW_1: usize = 11;
+const ROW_2: usize = ROW_1 + 10;
+const B: usize = 6;
+const C: usize = 7;
+const D: usize = 8;
+const Q: usize = 9;
+const RECOVERY: usize = 583;
+const BOX_1: usize = 595;
+
 /// Values at and just beyond each bound: slot, value, refusal or 0.
 #[test]
 fn bounds_of_the_values() {
-    const BAND_2: usize = 13 + 35;
-    const RECOVERY: usize = 293;
-    const BOX_1: usize = 301;
     let head = [
         (0, 0, 2),
-        (0, 5, 2),
+        (0, 7, 2),
         (0, -1, 2),
         (0, 258, 2),
         (1, 0, 2),
@@ -635,8 +650,8 @@ fn bounds_of_the_values() {
         (11, 5_000, 0),
     ];
     let bands = [
-        (13, -2_000_001, 8),
-        (13, -1_999_999, 8),
+        (BAND_1, -2_000_001, 8),
+        (BAND_1, -1_999_999, 8),
         (BAND_2, -2_000_000, 8),
         (BAND_2, -1_999_999, 0),
         (BAND_2, 2_000_000, 0),
@@ -647,26 +662,26 @@ fn bounds_of_the_values() {
         (BAND_2 + 2, 25, 0),
         (BAND_2 + 2, 26, 9),
         (BAND_2 + 2, -1, 9),
-        (BAND_2 + 3, -1_000, 0),
-        (BAND_2 + 3, -1_001, 10),
-        (BAND_2 + 4, 1_000, 0),
-        (BAND_2 + 4, 1_001, 10),
-        (BAND_2 + 5, 1_001, 0),
-        (BAND_2 + 7, 1_001, 10),
-        (BAND_2 + 7, -1_000, 0),
-        (BAND_2 + 8, -100_000_000, 0),
-        (BAND_2 + 8, -100_000_001, 10),
-        (BAND_2 + 8, 100_000_000, 0),
-        (BAND_2 + 8, 100_000_001, 10),
-        (BAND_2 + 9, -1, 10),
-        (BAND_2 + 9, 0, 0),
-        (BAND_2 + 9, 100_000_000, 0),
-        (BAND_2 + 9, 100_000_001, 10),
-        (BAND_2 + 10, 0, 10),
-        (BAND_2 + 10, 1, 0),
-        (BAND_2 + 10, 4_096, 0),
-        (BAND_2 + 10, 4_097, 10),
-        (BAND_2 + 35, 7, 0),
+        (BAND_2 + ROW_1, -1_000, 0),
+        (BAND_2 + ROW_1, -1_001, 10),
+        (BAND_2 + ROW_1 + 1, 1_000, 0),
+        (BAND_2 + ROW_1 + 1, 1_001, 10),
+        (BAND_2 + ROW_1 + 2, 1_001, 0),
+        (BAND_2 + ROW_1 + B, 1_001, 10),
+        (BAND_2 + ROW_1 + B, -1_000, 0),
+        (BAND_2 + ROW_1 + C, -100_000_000, 0),
+        (BAND_2 + ROW_1 + C, -100_000_001, 10),
+        (BAND_2 + ROW_1 + C, 100_000_000, 0),
+        (BAND_2 + ROW_1 + C, 100_000_001, 10),
+        (BAND_2 + ROW_1 + D, -1, 10),
+        (BAND_2 + ROW_1 + D, 0, 0),
+        (BAND_2 + ROW_1 + D, 100_000_000, 0),
+        (BAND_2 + ROW_1 + D, 100_000_001, 10),
+        (BAND_2 + ROW_1 + Q, 0, 10),
+        (BAND_2 + ROW_1 + Q, 1, 0),
+        (BAND_2 + ROW_1 + Q, 4_096, 0),
+        (BAND_2 + ROW_1 + Q, 4_097, 10),
+        (BAND_2 + 71, 7, 0),
     ];
     let boxes = [
         (RECOVERY, -1_000_000, 0),
@@ -674,14 +689,14 @@ fn bounds_of_the_values() {
         (RECOVERY + 1, 101, 11),
         (RECOVERY + 1, 100, 0),
         (RECOVERY + 2, 7, 0),
-        (RECOVERY + 5, 1_000_000, 0),
-        (RECOVERY + 5, 1_000_001, 11),
+        (RECOVERY + 7, 1_000_000, 0),
+        (RECOVERY + 7, 1_000_001, 11),
         (BOX_1, -2_000_001, 11),
-        (BOX_1 + 4, -2_000_000, 0),
-        (BOX_1 + 8, 2_000_000, 0),
-        (BOX_1 + 8, 2_000_001, 11),
-        (BOX_1 + 8 + 5, 2_000_001, 11),
-        (BOX_1 + 16, i32::MIN, 0),
+        (BOX_1 + 6, -2_000_000, 0),
+        (BOX_1 + 12, 2_000_000, 0),
+        (BOX_1 + 12, 2_000_001, 11),
+        (BOX_1 + 12 + 7, 2_000_001, 11),
+        (BOX_1 + 24, i32::MIN, 0),
     ];
     for (slot, value, expected) in head.into_iter().chain(bands).chain(boxes) {
         let mut numbers = sheet_of_two().numbers();
@@ -792,14 +807,14 @@ fn values_of_sheet_a() {
         (7, -25),
         (8, 25),
         (9, 5),
-        (13, -2_000_000),
-        (16, -1),
-        (20, 4),
-        (23, 20),
-        (293, -100),
-        (297, 100),
-        (301, 130),
-        (305, 2_000_000),
+        (BAND_1, -2_000_000),
+        (BAND_1 + ROW_1, -1),
+        (BAND_1 + ROW_1 + B, 4),
+        (BAND_1 + ROW_1 + Q, 20),
+        (RECOVERY, -100),
+        (RECOVERY + 6, 100),
+        (BOX_1, 130),
+        (BOX_1 + 6, 2_000_000),
     ];
     for (slot, value) in values {
         numbers[slot] = value;
@@ -817,14 +832,17 @@ fn sameness_is_up_to_the_counts() {
         let other = Sheet::from_numbers(&numbers);
         let counted = match slot {
             0..=10 => true,
-            11..=12 => false,
-            13..=292 => {
-                let (band, inner) = ((slot - 13) / 35, (slot - 13) % 35);
-                let row = inner.saturating_sub(3) / 8;
-                let column = inner.saturating_sub(3) % 8;
-                band < 2 && (inner < 3 || row < 2 && !(2..4).contains(&column))
+            11..=14 => false,
+            15..=582 => {
+                let (band, inner) = ((slot - BAND_1) / 71, (slot - BAND_1) % 71);
+                match inner {
+                    0..=2 => band < 2,
+                    // With the first band's divisor it is a sheet with other marks.
+                    3..=10 => band == 0 && inner == DIVISOR,
+                    _ => band < 2 && inner < ROW_1 + 20 && !(2..B).contains(&((inner - 1) % 10)),
+                }
             }
-            _ => (slot - 293) / 8 < 3 && (slot - 293) % 4 < 2,
+            _ => (slot - RECOVERY) / 12 < 3 && (slot - RECOVERY) % 6 < 2,
         };
         assert_eq!(other != sheet, counted, "slot {slot}");
     }
@@ -863,14 +881,14 @@ fn writer_tests_in_file_order() {
         (4, 0, 3),
         (8, 10_001, 4),
         (10, 0, 6),
-        (13, 0, 8),
-        (14, 7, 9),
-        (13 + 3 + 8 + 7, 0, 10),
-        (48, -2_000_000, 8),
-        (50, -7, 9),
-        (48 + 3 + 6, -1, 10),
-        (301 + 5, 2_000_001, 11),
-        (293 + 5, 1_000_001, 11),
+        (BAND_1, 0, 8),
+        (BAND_1 + 1, 7, 9),
+        (BAND_1 + ROW_2 + Q, 0, 10),
+        (BAND_2, -2_000_000, 8),
+        (BAND_2 + 2, -7, 9),
+        (BAND_2 + ROW_1 + D, -1, 10),
+        (BOX_1 + 7, 2_000_001, 11),
+        (RECOVERY + 7, 1_000_001, 11),
     ];
     for (i, &(slot, value, number)) in faults.iter().enumerate() {
         for &(other, wrong, _) in &faults[i..] {

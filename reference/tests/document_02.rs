@@ -5,7 +5,7 @@
 //! Paper 6: a change is compared with its cap first and divided only strictly between.
 //! Paper 8: a recovery box that shares a state with a no-go box is refused, and would fail its check.
 
-use second_guard::boxes::{State, StateBox};
+use second_guard::boxes::{State, StateBox, VARIABLES};
 use second_guard::changes::{Change, Place};
 use second_guard::decision::{
     check_recovery, check_recovery_watched, decide, decide_watched, question_length, read_question,
@@ -22,18 +22,25 @@ use second_guard::sheet::{self, Band, CommandRange, Refusal, Row, Sheet, FIRST_E
 use second_guard::whole::WholeNeighborhoods;
 use std::ops::ControlFlow;
 
+/// These numbers, and 0 for the variables beyond them.
+fn padded<T: Copy + Default, const M: usize>(first: [T; M]) -> [T; VARIABLES] {
+    let mut all = [T::default(); VARIABLES];
+    all[..M].copy_from_slice(&first);
+    all
+}
+
 /// The box of two variables.
 fn sides(x: (i64, i64), z: (i64, i64)) -> StateBox {
     StateBox {
-        lower: [x.0, z.0, 0, 0],
-        upper: [x.1, z.1, 0, 0],
+        lower: padded([x.0, z.0]),
+        upper: padded([x.1, z.1]),
     }
 }
 
 /// A row of two variables without command and spread.
 fn row(a: [i32; 2], c: i32, q: i32) -> Row {
     Row {
-        a: [a[0], a[1], 0, 0],
+        a: padded(a),
         b: 0,
         c,
         d: 0,
@@ -51,15 +58,15 @@ fn machine(bands: &[(i32, Row, Row)]) -> Sheet {
         delta: 1,
         alpha: 1,
         rho: 1,
-        caps: [5, 5, 0, 0],
+        caps: padded([5, 5]),
         recovery: sides((-10, 100), (-10, 100)),
         ..Sheet::default()
     };
     for (k, &(edge, x, z)) in bands.iter().enumerate() {
         sheet.bands[k] = Band {
             edge,
-            safety: CommandRange::default(),
-            rows: [x, z, Row::default(), Row::default()],
+            rows: padded([x, z]),
+            ..Band::default()
         };
     }
     sheet.unsafe_boxes[0] = sides((1_000, 1_000), (1_000, 1_000));
@@ -82,9 +89,9 @@ fn still(n: usize, boxes: &[StateBox]) -> Sheet {
     let mut sheet = machine(&[(FIRST_EDGE, STILL, STILL)]);
     sheet.variables = n as i32;
     sheet.band_variable = 0;
-    sheet.caps = [5; 4];
-    sheet.bands[0].rows = [STILL; 4];
-    sheet.recovery = box_of(&[(-1_000, -900); 4]);
+    sheet.caps = [5; VARIABLES];
+    sheet.bands[0].rows = [STILL; VARIABLES];
+    sheet.recovery = box_of(&[(-1_000, -900); VARIABLES]);
     sheet.unsafe_count = boxes.len() as i32;
     sheet.unsafe_boxes[..boxes.len()].copy_from_slice(boxes);
     sheet
@@ -100,9 +107,9 @@ fn record(sheet: &Sheet, j: usize) -> usize {
 fn bytes_of(sheet: &Sheet) -> Vec<u8> {
     let (n, mut ascending) = (sheet.n(), *sheet);
     for (j, sides) in (0..).zip(&mut ascending.unsafe_boxes) {
-        *sides = box_of(&[(j, j); 4]);
+        *sides = box_of(&[(j, j); VARIABLES]);
     }
-    ascending.recovery = box_of(&[(-1, -1); 4]);
+    ascending.recovery = box_of(&[(-1, -1); VARIABLES]);
     let mut bytes = vec![0; sheet.length()];
     sheet::write(&ascending, &mut bytes, 0).expect("ascending boxes");
     let boxes = sheet.unsafe_boxes().iter().chain([&sheet.recovery]);
@@ -558,7 +565,7 @@ fn moved(sheet: &Sheet, start: StateBox) -> StateBox {
 }
 
 const STILL: Row = Row {
-    a: [0; 4],
+    a: [0; VARIABLES],
     b: 0,
     c: 0,
     d: 0,
@@ -1052,17 +1059,17 @@ fn any_machine(numbers: &mut Numbers) -> Sheet {
     sheet.band_count = numbers.between(1, 3);
     sheet.rho = numbers.between(1, 60);
     sheet.band_variable = numbers.between(0, n as i32 - 1);
-    sheet.caps = [(); 4].map(|()| numbers.between(1, 300));
+    sheet.caps = [(); VARIABLES].map(|()| numbers.between(1, 300));
     for (k, band) in sheet.bands[..3].iter_mut().enumerate() {
         band.edge = [FIRST_EDGE, -20, 15][k];
         for row in &mut band.rows {
-            row.a = [(); 4].map(|()| numbers.between(-3, 3));
+            row.a = [(); VARIABLES].map(|()| numbers.between(-3, 3));
             (row.c, row.d) = (numbers.between(-30, 30), numbers.between(0, 9));
             row.q = numbers.between(1, 24);
         }
     }
     let pair = |numbers: &mut Numbers| numbers.pair((-40, 30), 25);
-    sheet.recovery = box_of(&[(); 4].map(|()| pair(numbers))[..n]);
+    sheet.recovery = box_of(&[(); VARIABLES].map(|()| pair(numbers))[..n]);
     sheet
 }
 
@@ -1223,7 +1230,7 @@ fn steered() -> Sheet {
     };
     let mut sheet = machine(&[(FIRST_EDGE, by(1), STILL), (1, by(1), by(-5))]);
     (sheet.band_variable, sheet.delta) = (0, 2);
-    sheet.caps = [1, 5, 0, 0];
+    sheet.caps = padded([1, 5]);
     sheet.commands = span(-1, 1);
     sheet.recovery = sides((-3, 3), (-20, 4));
     sheet.unsafe_boxes[0] = sides((-3, 3), (5, 9));
@@ -1248,7 +1255,7 @@ fn a_span_is_more_than_each_of_its_commands() {
     }
     assert!(matches!(decided(span(-1, 0)), Decision::Keep { .. }));
     assert!(matches!(decided(span(-1, 1)), Decision::Finest { .. }));
-    let mut state = [0; 4];
+    let mut state = State::default();
     tick(&mut Numbers(1), &sheet, &mut state, 1);
     tick(&mut Numbers(1), &sheet, &mut state, -1);
     assert!(sheet.unsafe_boxes[0].holds(&state));

@@ -1,7 +1,7 @@
 //! Prints `examples.txt`: worked examples with the answers of the second guard.
 //! Each one names what it covers, and the program stops where it does not cover it.
 
-use second_guard::boxes::StateBox;
+use second_guard::boxes::{StateBox, VARIABLES};
 use second_guard::changes::{At, Change, Place, ALL_AT};
 use second_guard::decision::{
     check_recovery_watched, decide, decide_watched, read_question, Bounded, Decision, Faults,
@@ -291,7 +291,7 @@ fn sides<const N: usize>(pairs: [(i64, i64); N]) -> StateBox {
 
 fn row<const N: usize>(a: [i32; N], b: i32, c: i32, d: i32, q: i32) -> Row {
     let mut row = Row {
-        a: [0; 4],
+        a: [0; VARIABLES],
         b,
         c,
         d,
@@ -1230,9 +1230,9 @@ fn with_allowed(sheet: &Sheet) -> Sheet {
     let mut allowed = *sheet;
     let rows = allowed.bands.iter_mut().flat_map(|band| &mut band.rows);
     rows.for_each(|row| row.q = row.q.min(4_096));
-    allowed.recovery = sides([(0, 0); 4]);
+    allowed.recovery = sides([(0, 0); VARIABLES]);
     for (number, unsafe_box) in (1..).zip(&mut allowed.unsafe_boxes) {
-        *unsafe_box = sides([(number, number); 4]);
+        *unsafe_box = sides([(number, number); VARIABLES]);
     }
     allowed
 }

@@ -640,10 +640,9 @@ fn largest_changes() -> Vec<Reach> {
 
 /// The box of one variable.
 fn interval(sides: (i32, i32)) -> StateBox {
-    StateBox {
-        lower: [sides.0.into(), 0, 0, 0],
-        upper: [sides.1.into(), 0, 0, 0],
-    }
+    let mut interval = StateBox::default();
+    (interval.lower[0], interval.upper[0]) = (sides.0.into(), sides.1.into());
+    interval
 }
 
 fn print_reaches() {

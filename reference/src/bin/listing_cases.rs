@@ -1,7 +1,7 @@
 //! `make_listing_cases FOLDER`: the cases on which the floor listing is compared, a folder for each.
 //! A case names text that its listing has, and the program stops where the second guard's listing has it not.
 
-use second_guard::boxes::StateBox;
+use second_guard::boxes::{StateBox, VARIABLES};
 use second_guard::listing::{listing, questions as questions_of};
 use second_guard::sheet::{self, Band, CommandRange, Row, Sheet};
 use std::path::Path;
@@ -47,11 +47,11 @@ fn sheet_a() -> Sheet {
     a.caps[0] = 5;
     a.bands[0].edge = sheet::FIRST_EDGE;
     a.bands[0].rows[0] = Row {
-        a: [-1, 0, 0, 0],
         b: 4,
         q: 20,
         ..Row::default()
     };
+    a.bands[0].rows[0].a[0] = -1;
     a.unsafe_boxes[0] = interval(130, 2_000_000);
     a
 }
@@ -59,25 +59,25 @@ fn sheet_a() -> Sheet {
 /// A sheet as long as any: every count is the greatest.
 fn longest() -> Sheet {
     let mut all = sheet_a();
-    all.variables = 4;
+    all.variables = VARIABLES as i32;
     all.band_count = 8;
     all.unsafe_count = 8;
     all.band_variable = 2;
-    all.caps = [5; 4];
-    all.recovery.lower = [-100; 4];
-    all.recovery.upper = [100; 4];
+    all.caps = [5; VARIABLES];
+    all.recovery.lower = [-100; VARIABLES];
+    all.recovery.upper = [100; VARIABLES];
     for k in 0..8 {
         all.bands[k] = Band {
             edge: [sheet::FIRST_EDGE, -300, -200, -50, 0, 50, 200, 300][k],
             ..Band::default()
         };
-        for i in 0..4 {
+        for i in 0..VARIABLES {
             all.bands[k].rows[i].a[i] = -1;
             all.bands[k].rows[i].b = 4;
             all.bands[k].rows[i].q = 20 + k as i32;
         }
-        all.unsafe_boxes[k].lower = [130 + k as i64; 4];
-        all.unsafe_boxes[k].upper = [2_000_000; 4];
+        all.unsafe_boxes[k].lower = [130 + k as i64; VARIABLES];
+        all.unsafe_boxes[k].upper = [2_000_000; VARIABLES];
     }
     all
 }
@@ -218,8 +218,8 @@ fn file_cases() -> Vec<Case> {
     cases
 }
 
-/// The bytes of a box's record of four variables.
-const RECORD: usize = 34;
+/// The bytes of a box's record where n is the greatest.
+const RECORD: usize = 2 + 8 * VARIABLES;
 
 /// The longest sheet with its last two no-go boxes the other way round.
 fn out_of_order() -> Vec<u8> {
@@ -232,7 +232,8 @@ fn out_of_order() -> Vec<u8> {
 /// The longest sheet with a recovery box that is clear of the no-go boxes by its last variable alone.
 fn clear_by_last_variable() -> Sheet {
     let mut sheet = longest();
-    sheet.recovery.upper = [137, 137, 137, 129];
+    sheet.recovery.upper = [137; VARIABLES];
+    sheet.recovery.upper[VARIABLES - 1] = 129;
     sheet
 }
 
@@ -247,10 +248,11 @@ fn on_the_first_box() -> Vec<u8> {
 /// A sheet whose recovery box shares a state with the last no-go box alone: 137, and 0 in the others.
 fn on_the_last_box() -> Vec<u8> {
     let mut sheet = longest();
-    sheet.recovery.upper = [137, 129, 129, 129];
+    sheet.recovery.upper = [129; VARIABLES];
+    sheet.recovery.upper[0] = 137;
     let mut sheet = bytes(&sheet);
     let second_pair = sheet.len() - 2 * RECORD + 2 + 8;
-    sheet[second_pair..second_pair + 3 * 8].fill(0);
+    sheet[second_pair..second_pair + 8 * (VARIABLES - 1)].fill(0);
     sheet
 }
 
