@@ -2,9 +2,8 @@
 //! gives a face one numerator, which is compared with −q·cap and q·cap before it is divided. A law that
 //! follows the state gives it one sum, compared with divisor·least and divisor·greatest likewise.
 
-use crate::machine::limit;
+use crate::machine::{limit, Clamp};
 use crate::neighborhoods::Face;
-use crate::sheet::Band;
 
 /// Where a dividend lies between two limits. Only one strictly between them is divided.
 #[derive(Clone, Copy, Debug, PartialEq, Eq)]
@@ -18,7 +17,7 @@ pub enum Place {
 }
 
 impl Place {
-    fn of(dividend: i64, least: i64, greatest: i64) -> Place {
+    pub(crate) fn of(dividend: i64, least: i64, greatest: i64) -> Place {
         if dividend <= least {
             Place::Least
         } else if dividend >= greatest {
@@ -133,23 +132,19 @@ pub enum End {
     Greatest,
 }
 
-/// The end that a face of a variable looks at in one band, where the law follows the state and the
-/// row has a term of the command.
+/// The end that a face looks at in one band, where the law follows the state and the face's row has a
+/// term of the command.
 #[derive(Clone, Copy, Debug)]
-pub struct CommandEnd<'a> {
-    pub variable: usize,
-    pub face: Face,
+pub struct CommandEnd {
     pub end: End,
     /// The law's sum, at its least or at its greatest.
     pub sum: i64,
-    pub band: &'a Band,
+    pub clamp: Clamp,
 }
 
-impl CommandEnd<'_> {
+impl CommandEnd {
     /// Where the sum lies between divisor·least and divisor·greatest of the safety range.
     pub fn place(&self) -> Place {
-        let (divisor, safety) = (i64::from(self.band.law.divisor), self.band.safety);
-        let (least, greatest) = (i64::from(safety.least), i64::from(safety.greatest));
-        Place::of(self.sum, divisor * least, divisor * greatest)
+        self.clamp.place(self.sum)
     }
 }

@@ -4,6 +4,7 @@
 //! likewise with divisor·least and divisor·greatest of the safety range.
 
 use crate::boxes::State;
+use crate::changes::Place;
 use crate::sheet::{CommandRange, Kind, Row, Sheet};
 use std::ops::Range;
 
@@ -93,32 +94,57 @@ pub fn bands_met(sheet: &Sheet, least: i64, greatest: i64) -> Range<usize> {
     first..end
 }
 
-/// The least command of a law with this sum: the quotient rounded down, clamped to the safety range.
-/// What is divided is above 0 and at most divisor·(greatest − least), 81,920,000.
-#[inline]
-pub fn least_command(sum: i64, divisor: i32, safety: CommandRange) -> i64 {
-    let (least, greatest) = (i64::from(safety.least), i64::from(safety.greatest));
-    let above_least = sum - i64::from(divisor) * least;
-    if above_least <= 0 {
-        least
-    } else if sum >= i64::from(divisor) * greatest {
-        greatest
-    } else {
-        least + i64::from(above_least as u32 / divisor as u32)
-    }
+/// A law's divisor and the safety range that its commands are clamped to.
+#[derive(Clone, Copy, Debug)]
+pub struct Clamp {
+    divisor: u32,
+    least: i64,
+    greatest: i64,
+    /// divisor·least and divisor·greatest. They differ by at most 81,920,000.
+    least_sum: i64,
+    greatest_sum: i64,
 }
 
-/// The greatest command likewise: the quotient rounded up, clamped.
-#[inline]
-pub fn greatest_command(sum: i64, divisor: i32, safety: CommandRange) -> i64 {
-    let (least, greatest) = (i64::from(safety.least), i64::from(safety.greatest));
-    let below_greatest = i64::from(divisor) * greatest - sum;
-    if below_greatest <= 0 {
-        greatest
-    } else if sum <= i64::from(divisor) * least {
-        least
-    } else {
-        greatest - i64::from(below_greatest as u32 / divisor as u32)
+impl Clamp {
+    #[inline]
+    pub fn new(divisor: i32, safety: CommandRange) -> Clamp {
+        let (least, greatest) = (i64::from(safety.least), i64::from(safety.greatest));
+        Clamp {
+            divisor: divisor as u32,
+            least,
+            greatest,
+            least_sum: i64::from(divisor) * least,
+            greatest_sum: i64::from(divisor) * greatest,
+        }
+    }
+
+    /// The least command at this sum: the quotient rounded down, clamped.
+    #[inline]
+    pub fn least_command(&self, sum: i64) -> i64 {
+        if sum <= self.least_sum {
+            self.least
+        } else if sum >= self.greatest_sum {
+            self.greatest
+        } else {
+            self.least + i64::from((sum - self.least_sum) as u32 / self.divisor)
+        }
+    }
+
+    /// The greatest command at this sum: the quotient rounded up, clamped.
+    #[inline]
+    pub fn greatest_command(&self, sum: i64) -> i64 {
+        if sum >= self.greatest_sum {
+            self.greatest
+        } else if sum <= self.least_sum {
+            self.least
+        } else {
+            self.greatest - i64::from((self.greatest_sum - sum) as u32 / self.divisor)
+        }
+    }
+
+    /// Where the sum lies between divisor·least and divisor·greatest.
+    pub fn place(&self, sum: i64) -> Place {
+        Place::of(sum, self.least_sum, self.greatest_sum)
     }
 }
 
@@ -133,9 +159,10 @@ pub fn plain_commands(sheet: &Sheet, state: &State) -> Option<CommandRange> {
     for (&coefficient, &x) in law.coefficients.iter().zip(state).take(sheet.n()) {
         sum += i64::from(coefficient) * x;
     }
+    let clamp = Clamp::new(law.divisor, band.safety);
     Some(CommandRange {
-        least: least_command(sum, law.divisor, band.safety) as i32,
-        greatest: greatest_command(sum, law.divisor, band.safety) as i32,
+        least: clamp.least_command(sum) as i32,
+        greatest: clamp.greatest_command(sum) as i32,
     })
 }
 

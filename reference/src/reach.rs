@@ -3,9 +3,9 @@
 
 use crate::boxes::{State, StateBox, VARIABLES};
 use crate::changes::{Change, CommandEnd, End};
-use crate::machine::{greatest_command, greatest_so_far, least_command, least_so_far};
+use crate::machine::{greatest_so_far, least_so_far, Clamp};
 use crate::neighborhoods::Face;
-use crate::sheet::{Band, BandLaw, CommandRange, Kind, Refusal, Row, Sheet};
+use crate::sheet::{Band, CommandRange, Kind, Refusal, Row, Sheet};
 use crate::sheet::{START_LIMIT, TICKS_LIMIT};
 use crate::whole;
 use std::ops::ControlFlow;
@@ -182,7 +182,8 @@ fn fixed_commands(law: Law, band: &Band) -> (i64, i64) {
 /// A band's commands over a box. Where they follow the state, the box may be cut at one side and each
 /// end is worked out from the law's sum: over the box, and what the cut changes in one term.
 pub(crate) struct Commands<'a, const FOLLOWS: bool> {
-    band: &'a Band,
+    coefficients: &'a [i32; VARIABLES],
+    clamp: Clamp,
     /// The commands, or the law's sum: its least and its greatest value.
     least: i64,
     greatest: i64,
@@ -191,84 +192,71 @@ pub(crate) struct Commands<'a, const FOLLOWS: bool> {
 impl<'a, const FOLLOWS: bool> Commands<'a, FOLLOWS> {
     #[inline]
     pub(crate) fn over<const N: usize>(law: Law, band: &'a Band, over: &StateBox) -> Self {
+        let coefficients = &band.law.coefficients;
         let (least, greatest) = if FOLLOWS {
-            let BandLaw {
-                coefficients,
-                constant,
-                ..
-            } = &band.law;
+            let constant = i64::from(band.law.constant);
             (
-                i64::from(*constant) + least_sum::<N>(coefficients, over),
-                i64::from(*constant) + greatest_sum::<N>(coefficients, over),
+                constant + least_sum::<N>(coefficients, over),
+                constant + greatest_sum::<N>(coefficients, over),
             )
         } else {
             fixed_commands(law, band)
         };
         Commands {
-            band,
+            coefficients,
+            clamp: Clamp::new(band.law.divisor, band.safety),
             least,
             greatest,
         }
     }
 
-    /// The end of the law's commands that a face of variable i needs, which moved the box's side by
-    /// `cut`: the sum's term of i changes where it is taken at that side.
+    /// The least command at the least sum, of which the cut has changed this much.
     #[inline]
-    fn end<W: Watch>(&self, face: Face, end: End, i: usize, cut: i64, watch: &mut W) -> i64 {
-        let BandLaw {
-            coefficients,
-            divisor,
-            ..
-        } = &self.band.law;
-        let coefficient = i64::from(coefficients[i]);
-        let at_cut = match (face, end) {
-            (Face::Lower, End::Least) | (Face::Upper, End::Greatest) => coefficient.min(0),
-            (Face::Lower, End::Greatest) | (Face::Upper, End::Least) => coefficient.max(0),
-        };
-        let uncut = match end {
-            End::Least => self.least,
-            End::Greatest => self.greatest,
-        };
-        let sum = uncut + at_cut * cut;
-        watch.command(CommandEnd {
-            variable: i,
-            face,
-            end,
-            sum,
-            band: self.band,
-        });
-        match end {
-            End::Least => least_command(sum, *divisor, self.band.safety),
-            End::Greatest => greatest_command(sum, *divisor, self.band.safety),
-        }
+    fn least_end<W: Watch>(&self, change: i64, watch: &mut W) -> i64 {
+        let (sum, clamp) = (self.least + change, self.clamp);
+        let end = End::Least;
+        watch.command(CommandEnd { end, sum, clamp });
+        clamp.least_command(sum)
     }
 
-    /// The least value of b·u over what variable i's lower face looks at.
+    /// The greatest command at the greatest sum, likewise.
+    #[inline]
+    fn greatest_end<W: Watch>(&self, change: i64, watch: &mut W) -> i64 {
+        let (sum, clamp) = (self.greatest + change, self.clamp);
+        let end = End::Greatest;
+        watch.command(CommandEnd { end, sum, clamp });
+        clamp.greatest_command(sum)
+    }
+
+    /// The least value of b·u where variable i's upper side is moved by `cut`, below 0 or 0: the sum's
+    /// term of i changes where it is taken at that side.
     #[inline]
     pub(crate) fn least_term<W: Watch>(&self, b: i32, i: usize, cut: i64, watch: &mut W) -> i64 {
+        let coefficient = i64::from(self.coefficients[i]);
         if !FOLLOWS {
-            return least_product(b, self.least, self.greatest);
+            least_product(b, self.least, self.greatest)
+        } else if b > 0 {
+            i64::from(b) * self.least_end(coefficient.min(0) * cut, watch)
+        } else if b < 0 {
+            i64::from(b) * self.greatest_end(coefficient.max(0) * cut, watch)
+        } else {
+            0
         }
-        let end = match b.signum() {
-            1 => End::Least,
-            -1 => End::Greatest,
-            _ => return 0,
-        };
-        i64::from(b) * self.end(Face::Lower, end, i, cut, watch)
     }
 
-    /// The greatest value over what the upper face looks at.
+    /// The greatest value where the lower side is moved by `cut`, above 0 or 0.
     #[inline]
     pub(crate) fn greatest_term<W: Watch>(&self, b: i32, i: usize, cut: i64, watch: &mut W) -> i64 {
+        let coefficient = i64::from(self.coefficients[i]);
         if !FOLLOWS {
-            return greatest_product(b, self.least, self.greatest);
+            greatest_product(b, self.least, self.greatest)
+        } else if b > 0 {
+            i64::from(b) * self.greatest_end(coefficient.min(0) * cut, watch)
+        } else if b < 0 {
+            i64::from(b) * self.least_end(coefficient.max(0) * cut, watch)
+        } else {
+            0
         }
-        let end = match b.signum() {
-            1 => End::Greatest,
-            -1 => End::Least,
-            _ => return 0,
-        };
-        i64::from(b) * self.end(Face::Upper, end, i, cut, watch)
     }
 }
 
@@ -309,9 +297,8 @@ fn bound_band<const N: usize, const FOLLOWS: bool, W: Watch>(
     watch: &mut W,
 ) {
     let commands = Commands::<FOLLOWS>::over::<N>(law, band, part);
-    for i in 0..N {
+    for (i, row) in band.rows[..N].iter().enumerate() {
         let cap = sheet.caps[i];
-        let row = &band.rows[i];
         let (lower, upper) = (part.lower[i], part.upper[i]);
         if lower <= depths.upper[i] {
             part.upper[i] = upper.min(depths.upper[i]);

@@ -503,30 +503,27 @@ impl Fields<'_> {
         i32::from(i16::from_be_bytes(self.take()))
     }
 
-    fn coefficients(&mut self, n: usize) -> [i32; VARIABLES] {
-        let mut coefficients = [0; VARIABLES];
-        for coefficient in &mut coefficients[..n] {
+    #[inline(always)]
+    fn coefficients(&mut self, coefficients: &mut [i32]) {
+        for coefficient in coefficients {
             *coefficient = self.i16();
         }
-        coefficients
     }
 
-    fn law(&mut self, n: usize) -> BandLaw {
-        BandLaw {
-            coefficients: self.coefficients(n),
-            constant: self.i32(),
-            divisor: self.u16(),
-        }
+    #[inline(always)]
+    fn law(&mut self, law: &mut BandLaw, n: usize) {
+        self.coefficients(&mut law.coefficients[..n]);
+        law.constant = self.i32();
+        law.divisor = self.u16();
     }
 
-    fn row(&mut self, n: usize) -> Row {
-        Row {
-            a: self.coefficients(n),
-            b: self.i16(),
-            c: self.i32(),
-            d: self.i32(),
-            q: self.u16(),
-        }
+    #[inline(always)]
+    fn row(&mut self, row: &mut Row, n: usize) {
+        self.coefficients(&mut row.a[..n]);
+        row.b = self.i16();
+        row.c = self.i32();
+        row.d = self.i32();
+        row.q = self.u16();
     }
 
     pub(crate) fn u32(&mut self) -> u32 {
@@ -537,14 +534,19 @@ impl Fields<'_> {
         i32::from_be_bytes(self.take())
     }
 
-    /// n pairs of lower and upper side.
+    /// n pairs of lower and upper side; those beyond n are 0.
     pub(crate) fn sides(&mut self, n: usize) -> StateBox {
         let mut sides = StateBox::default();
+        self.put_sides(&mut sides, n);
+        sides
+    }
+
+    /// The same in the place of zeros.
+    fn put_sides(&mut self, sides: &mut StateBox, n: usize) {
         for i in 0..n {
             sides.lower[i] = i64::from(self.i32());
             sides.upper[i] = i64::from(self.i32());
         }
-        sides
     }
 }
 
@@ -557,55 +559,68 @@ impl StateBox {
 
 /// Reads a sheet from all of these bytes.
 pub fn read(bytes: &[u8]) -> Result<Sheet, Refusal> {
-    let mut fields = Fields(bytes);
-    if bytes.len() < HEAD || !fields.mark(b"SH") {
-        return Err(Refusal::Head);
-    }
-    let mut sheet = Sheet {
-        variables: fields.u8(),
-        band_count: fields.u8(),
-        unsafe_count: fields.u8(),
-        band_variable: fields.u8(),
-        delta: fields.u16(),
-        alpha: fields.u16(),
-        rho: fields.u16(),
-        commands: CommandRange {
-            least: fields.i32(),
-            greatest: fields.i32(),
-        },
-        ..Sheet::default()
-    };
-    sheet.test_head()?;
-    let n = sheet.n();
-    let kind = Kind::of_file(bytes, n);
-    require(bytes.len() == sheet.length_as(kind), Refusal::Length)?;
-    for cap in &mut sheet.caps[..n] {
-        *cap = fields.u16();
-    }
-    sheet.test_caps()?;
-    for k in 0..sheet.band_count as usize {
-        require(fields.mark(kind.mark()), Refusal::Mark)?;
-        let band = &mut sheet.bands[k];
-        band.edge = fields.i32();
-        band.safety.least = fields.i32();
-        band.safety.greatest = fields.i32();
-        if kind == Kind::Following {
-            band.law = fields.law(n);
-        }
-        for row in &mut band.rows[..n] {
-            *row = fields.row(n);
-        }
-        sheet.test_band(kind, k)?;
-    }
-    for j in 0..sheet.unsafe_count as usize {
-        require(fields.mark(b"NG"), Refusal::Mark)?;
-        sheet.unsafe_boxes[j] = fields.sides(n);
-        sheet.test_unsafe_box(j)?;
-    }
-    require(fields.mark(b"RC"), Refusal::Mark)?;
-    sheet.recovery = fields.sides(n);
-    sheet.test_recovery()?;
+    let mut sheet = Sheet::default();
+    sheet.read(bytes)?;
     Ok(sheet)
+}
+
+impl Sheet {
+    /// Puts the values of these bytes in the place of zeros.
+    #[inline(always)]
+    fn read(&mut self, bytes: &[u8]) -> Result<(), Refusal> {
+        let mut fields = Fields(bytes);
+        require(bytes.len() >= HEAD && fields.mark(b"SH"), Refusal::Head)?;
+        self.read_head(&mut fields);
+        self.test_head()?;
+        let n = self.n();
+        let kind = Kind::of_file(bytes, n);
+        require(bytes.len() == self.length_as(kind), Refusal::Length)?;
+        for cap in &mut self.caps[..n] {
+            *cap = fields.u16();
+        }
+        self.test_caps()?;
+        for k in 0..self.band_count as usize {
+            require(fields.mark(kind.mark()), Refusal::Mark)?;
+            self.bands[k].read(&mut fields, kind, n);
+            self.test_band(kind, k)?;
+        }
+        for j in 0..self.unsafe_count as usize {
+            require(fields.mark(b"NG"), Refusal::Mark)?;
+            fields.put_sides(&mut self.unsafe_boxes[j], n);
+            self.test_unsafe_box(j)?;
+        }
+        require(fields.mark(b"RC"), Refusal::Mark)?;
+        fields.put_sides(&mut self.recovery, n);
+        self.test_recovery()
+    }
+
+    #[inline(always)]
+    fn read_head(&mut self, fields: &mut Fields) {
+        self.variables = fields.u8();
+        self.band_count = fields.u8();
+        self.unsafe_count = fields.u8();
+        self.band_variable = fields.u8();
+        self.delta = fields.u16();
+        self.alpha = fields.u16();
+        self.rho = fields.u16();
+        self.commands.least = fields.i32();
+        self.commands.greatest = fields.i32();
+    }
+}
+
+impl Band {
+    #[inline(always)]
+    fn read(&mut self, fields: &mut Fields, kind: Kind, n: usize) {
+        self.edge = fields.i32();
+        self.safety.least = fields.i32();
+        self.safety.greatest = fields.i32();
+        if kind == Kind::Following {
+            fields.law(&mut self.law, n);
+        }
+        for row in &mut self.rows[..n] {
+            fields.row(row, n);
+        }
+    }
 }
 
 /// Puts big-endian fields at the front; the room was tested before.

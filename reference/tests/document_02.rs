@@ -333,9 +333,13 @@ fn marks_and_sides_around_20() {
 
 /// A number put into a slot of the values, and the refusal, in the order in which they are found.
 fn wrong_numbers() -> Vec<(u8, usize, i32)> {
-    const BAND: usize = 13;
-    const RECOVERY: usize = 293;
-    const BOXES: usize = 301;
+    const BAND: usize = 15;
+    const FIRST_ROW: usize = BAND + 11;
+    const RECOVERY: usize = 583;
+    const BOXES: usize = 595;
+    // The lower sides, then the upper ones.
+    const BOX: usize = 12;
+    const UPPER: usize = 6;
     let mut list = vec![
         (2, 3, 2),
         (3, 6, 0),
@@ -343,16 +347,16 @@ fn wrong_numbers() -> Vec<(u8, usize, i32)> {
         (6, 10, 1_001),
         (8, BAND, 0),
         (9, BAND + 1, 1),
-        (10, BAND + 3, 1_001),
+        (10, FIRST_ROW, 1_001),
     ];
     for j in 0..3 {
-        list.push((11, BOXES + 8 * j + 5, 2_000_001));
+        list.push((11, BOXES + BOX * j + UPPER + 1, 2_000_001));
         if j > 0 {
-            list.push((20, BOXES + 8 * j, -100 - j as i32));
+            list.push((20, BOXES + BOX * j, -100 - j as i32));
         }
     }
-    list.push((11, RECOVERY + 5, 1_000_001));
-    list.push((22, RECOVERY + 4, 10));
+    list.push((11, RECOVERY + UPPER + 1, 1_000_001));
+    list.push((22, RECOVERY + UPPER, 10));
     list
 }
 
