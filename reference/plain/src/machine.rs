@@ -1,8 +1,8 @@
-//! The machine on a sheet: bands, divisions and the allowed changes. Every change is
-//! divided and then clamped, as document 01 says it; paper 6 of document 02, which
-//! compares first, changes no answer (READINGS.md, 13).
+//! The machine on a sheet: bands, divisions, the plain commands and the allowed changes.
+//! Every change is divided and then clamped, as document 01 says it; paper 6 of document
+//! 02, which compares first, changes no answer (READINGS.md, 13).
 
-use crate::sheet::Sheet;
+use crate::sheet::{band_mark, Band, Sheet};
 
 /// p / q rounded down, q at least 1.
 pub fn floor_div(p: i64, q: i64) -> i64 {
@@ -22,15 +22,20 @@ pub fn ceil_div(p: i64, q: i64) -> i64 {
     }
 }
 
-/// y clamped to -cap..cap.
-pub fn clamp(y: i64, cap: i64) -> i64 {
-    if y < -cap {
-        -cap
-    } else if y > cap {
-        cap
+/// y clamped to least..greatest.
+pub fn clamp_to(y: i64, least: i64, greatest: i64) -> i64 {
+    if y < least {
+        least
+    } else if y > greatest {
+        greatest
     } else {
         y
     }
+}
+
+/// y clamped to -cap..cap.
+pub fn clamp(y: i64, cap: i64) -> i64 {
+    clamp_to(y, -cap, cap)
 }
 
 /// The least allowed change: floor((N - d)/q), clamped.
@@ -66,6 +71,40 @@ pub fn band_of(sheet: &Sheet, value: i64) -> Option<usize> {
         }
     }
     None
+}
+
+/// The floor of sum / divisor, clamped to the band's safety range.
+pub fn least_command(sum: i64, band: &Band) -> i64 {
+    clamp_to(
+        floor_div(sum, band.law.divisor as i64),
+        band.safety_least as i64,
+        band.safety_greatest as i64,
+    )
+}
+
+/// The ceil of sum / divisor, clamped to the band's safety range.
+pub fn greatest_command(sum: i64, band: &Band) -> i64 {
+    clamp_to(
+        ceil_div(sum, band.law.divisor as i64),
+        band.safety_least as i64,
+        band.safety_greatest as i64,
+    )
+}
+
+/// Least and greatest plain command at one state: of a band marked `BD` the safety range,
+/// of one marked `BF` from floor to ceil of (sum of coefficient * x + constant) / divisor,
+/// clamped to the safety range (document 02, paper 9).
+pub fn plain_commands(sheet: &Sheet, state: &[i64]) -> Option<(i64, i64)> {
+    let k = band_of(sheet, state[sheet.band_variable as usize])?;
+    let band = &sheet.band[k];
+    if band_mark(sheet) == *b"BD" {
+        return Some((band.safety_least as i64, band.safety_greatest as i64));
+    }
+    let mut sum = band.law.constant as i64;
+    for j in 0..sheet.n as usize {
+        sum += band.law.coefficients[j] as i64 * state[j];
+    }
+    Some((least_command(sum, band), greatest_command(sum, band)))
 }
 
 /// The allowed changes of variable i at one state under one command.

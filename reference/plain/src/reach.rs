@@ -1,7 +1,7 @@
 //! One lifted step, and the reach.
 
-use crate::machine::{greatest_change, least_change, meets_band};
-use crate::sheet::{test_command, test_values, Sheet, Sides};
+use crate::machine::{greatest_change, greatest_command, least_change, least_command, meets_band};
+use crate::sheet::{band_mark, test_command, test_values, Sheet, Sides};
 
 /// n pairs of lower and upper side.
 pub type StateBox = Vec<(i64, i64)>;
@@ -83,6 +83,27 @@ fn part_in_band(sheet: &Sheet, k: usize, slab: &StateBox) -> StateBox {
     part
 }
 
+/// Least and greatest plain command over a slab's part in band k. Where the law follows
+/// the state, "the ends are bounded like a rate" (document 02, paper 9): the sum's least
+/// and greatest side by side, then floor and ceil, then the clamp.
+fn plain_commands_over(sheet: &Sheet, k: usize, part: &StateBox) -> (i64, i64) {
+    let band = &sheet.band[k];
+    if band_mark(sheet) == *b"BD" {
+        return (band.safety_least as i64, band.safety_greatest as i64);
+    }
+    let mut sum_lower = band.law.constant as i64;
+    let mut sum_upper = band.law.constant as i64;
+    for j in 0..sheet.n as usize {
+        let (lower, upper) = term(band.law.coefficients[j] as i64, part[j].0, part[j].1);
+        sum_lower += lower;
+        sum_upper += upper;
+    }
+    (
+        least_command(sum_lower, band),
+        greatest_command(sum_upper, band),
+    )
+}
+
 /// Least and greatest command of a coach's span, of which each tick may use any;
 /// none is the plain law.
 pub type Law = Option<(i32, i32)>;
@@ -99,15 +120,14 @@ pub fn rates(sheet: &Sheet, i: usize, slab: &StateBox, law: Law) -> (i64, i64) {
         if !meets_band(sheet, k, slab_lower, slab_upper) {
             continue;
         }
-        let band = &sheet.band[k];
-        let (u_lower, u_upper) = match law {
-            Some((least, greatest)) => (least as i64, greatest as i64),
-            None => (band.safety_least as i64, band.safety_greatest as i64),
-        };
         // The row bounded over the part of the slab that lies in this band, side
         // by side (document 02, paper 3).
         let part = part_in_band(sheet, k, slab);
-        let row = &band.rows[i];
+        let (u_lower, u_upper) = match law {
+            Some((least, greatest)) => (least as i64, greatest as i64),
+            None => plain_commands_over(sheet, k, &part),
+        };
+        let row = &sheet.band[k].rows[i];
         let (mut n_lower, mut n_upper) = term(row.b as i64, u_lower, u_upper);
         n_lower += row.c as i64;
         n_upper += row.c as i64;

@@ -1,16 +1,26 @@
 //! Sheet layout, reader, writer, and a question's layout.
 
 /// n pairs of lower and upper side; only the first n count.
-pub type Sides = [(i32, i32); 4];
+pub type Sides = [(i32, i32); 6];
 
 /// One row of a band: N = sum of a[j] * x[j] + b * u + c, spread d, divisor q.
 #[derive(Clone, Copy, Debug, Default, PartialEq, Eq)]
 pub struct Row {
-    pub a: [i16; 4],
+    pub a: [i16; 6],
     pub b: i16,
     pub c: i32,
     pub d: i32,
     pub q: u16,
+}
+
+/// What a band marked `BF` adds (document 02, paper 9): its plain commands come from
+/// (sum of coefficients[j] * x[j] + constant) / divisor. A value's divisor may be one
+/// that no file can hold.
+#[derive(Clone, Copy, Debug, Default, PartialEq, Eq)]
+pub struct BandLaw {
+    pub coefficients: [i16; 6],
+    pub constant: i32,
+    pub divisor: i32,
 }
 
 #[derive(Clone, Copy, Debug, Default)]
@@ -18,7 +28,8 @@ pub struct Band {
     pub edge: i32,
     pub safety_least: i32,
     pub safety_greatest: i32,
-    pub rows: [Row; 4],
+    pub law: BandLaw,
+    pub rows: [Row; 6],
 }
 
 /// A sheet's value. Array places behind the counts carry no meaning.
@@ -35,10 +46,20 @@ pub struct Sheet {
     pub rho: u16,
     pub least: i32,
     pub greatest: i32,
-    pub caps: [u16; 4],
+    pub caps: [u16; 6],
     pub band: [Band; 8],
     pub no_go_box: [Sides; 8],
     pub recovery: Sides,
+}
+
+/// The bands' mark of a value: with the divisor 0 in the first band it is `BD`, and no
+/// law number counts (READINGS.md, 38).
+pub fn band_mark(sheet: &Sheet) -> [u8; 2] {
+    if sheet.band[0].law.divisor == 0 {
+        *b"BD"
+    } else {
+        *b"BF"
+    }
 }
 
 /// "Two sheets are the same when their values up to their counts are."
@@ -55,8 +76,11 @@ impl PartialEq for Sheet {
         if (self.least, self.greatest) != (other.least, other.greatest) {
             return false;
         }
+        if band_mark(self) != band_mark(other) {
+            return false;
+        }
         // Counts out of range go no further than the arrays.
-        let n = (self.n as usize).min(4);
+        let n = (self.n as usize).min(6);
         let bands = (self.bands as usize).min(8);
         let no_go = (self.no_go as usize).min(8);
         if self.caps[..n] != other.caps[..n] {
@@ -66,6 +90,13 @@ impl PartialEq for Sheet {
             let (p, q) = (&self.band[k], &other.band[k]);
             if (p.edge, p.safety_least, p.safety_greatest)
                 != (q.edge, q.safety_least, q.safety_greatest)
+            {
+                return false;
+            }
+            if band_mark(self) == *b"BF"
+                && (p.law.coefficients[..n] != q.law.coefficients[..n]
+                    || p.law.constant != q.law.constant
+                    || p.law.divisor != q.law.divisor)
             {
                 return false;
             }
@@ -87,10 +118,27 @@ impl PartialEq for Sheet {
 
 impl Eq for Sheet {}
 
-/// "Length: 20 + 2n + bands*(14 + n(2n + 12)) + (2 + 8n)*(no-go + 1)".
-pub fn sheet_length(n: u8, bands: u8, no_go: u8) -> usize {
+/// "Length: 20 + 2n + bands*(14 + n(2n + 12)) + (2 + 8n)*(no-go + 1)". A band marked
+/// `BF` has n coefficients of two bytes, a constant of four and a divisor of two more.
+pub fn sheet_length(mark: [u8; 2], n: u8, bands: u8, no_go: u8) -> usize {
     let (n, bands, no_go) = (n as usize, bands as usize, no_go as usize);
-    20 + 2 * n + bands * (14 + n * (2 * n + 12)) + (2 + 8 * n) * (no_go + 1)
+    let mut length = 20 + 2 * n + bands * (14 + n * (2 * n + 12)) + (2 + 8 * n) * (no_go + 1);
+    if mark == *b"BF" {
+        length += bands * (2 * n + 4 + 2);
+    }
+    length
+}
+
+/// The mark that a file's bands have to carry: "if it is there and reads `BF`, the longer
+/// form, otherwise `BD`'s" (document 02, paper 9). The first band's mark stands behind the
+/// head's 20 bytes and the n caps.
+fn mark_of_file(bytes: &[u8], n: u8) -> [u8; 2] {
+    let at = 20 + 2 * n as usize;
+    if at + 2 <= bytes.len() && bytes[at] == b'B' && bytes[at + 1] == b'F' {
+        *b"BF"
+    } else {
+        *b"BD"
+    }
 }
 
 /// `QS` has 10 + 8n bytes, `QR` 14 + 8n (document 02, paper 4). Other marks have
@@ -107,9 +155,9 @@ pub fn question_length(mark: [u8; 2], n: u8) -> Option<usize> {
 
 // ---- The values' ranges, one test for each refusal number ----
 
-/// n 1-4, bands 1-8, no-go boxes 1-8, band variable below n.
+/// n 1-6, bands 1-8, no-go boxes 1-8, band variable below n.
 fn test_counts(sheet: &Sheet) -> Result<(), u8> {
-    if sheet.n < 1 || sheet.n > 4 {
+    if sheet.n < 1 || sheet.n > 6 {
         return Err(2);
     }
     if sheet.bands < 1 || sheet.bands > 8 {
@@ -156,8 +204,24 @@ fn test_caps(sheet: &Sheet) -> Result<(), u8> {
     Ok(())
 }
 
-/// Band k's edge, then its safety range, then its rows.
-fn test_band(sheet: &Sheet, k: usize) -> Result<(), u8> {
+/// Law coefficients +-1,000, constant +-100,000,000, divisor 1-4,096.
+fn test_law(law: &BandLaw, n: u8) -> Result<(), u8> {
+    for j in 0..n as usize {
+        if law.coefficients[j] < -1_000 || law.coefficients[j] > 1_000 {
+            return Err(10);
+        }
+    }
+    if law.constant < -100_000_000 || law.constant > 100_000_000 {
+        return Err(10);
+    }
+    if law.divisor < 1 || law.divisor > 4_096 {
+        return Err(10);
+    }
+    Ok(())
+}
+
+/// Band k's edge, then its safety range, then its law if the mark is `BF`, then its rows.
+fn test_band(sheet: &Sheet, mark: [u8; 2], k: usize) -> Result<(), u8> {
     let band = &sheet.band[k];
     if k == 0 {
         if band.edge != -2_000_000 {
@@ -171,6 +235,9 @@ fn test_band(sheet: &Sheet, k: usize) -> Result<(), u8> {
         || band.safety_greatest > sheet.greatest
     {
         return Err(9);
+    }
+    if mark == *b"BF" {
+        test_law(&band.law, sheet.n)?;
     }
     for i in 0..sheet.n as usize {
         let row = &band.rows[i];
@@ -265,7 +332,7 @@ pub fn test_values(sheet: &Sheet) -> Result<(), u8> {
     test_commands(sheet)?;
     test_caps(sheet)?;
     for k in 0..sheet.bands as usize {
-        test_band(sheet, k)?;
+        test_band(sheet, band_mark(sheet), k)?;
     }
     for k in 0..sheet.no_go as usize {
         test_sides(&sheet.no_go_box[k], sheet.n, 2_000_000, 11)?;
@@ -315,6 +382,16 @@ impl Bytes<'_> {
         [self.u8(), self.u8()]
     }
 
+    fn law(&mut self, n: u8) -> BandLaw {
+        let mut law = BandLaw::default();
+        for j in 0..n as usize {
+            law.coefficients[j] = self.i16();
+        }
+        law.constant = self.i32();
+        law.divisor = self.u16() as i32;
+        law
+    }
+
     fn sides(&mut self, n: u8) -> Sides {
         let mut sides = Sides::default();
         for i in 0..n as usize {
@@ -351,8 +428,9 @@ pub fn read(bytes: &[u8]) -> Result<Sheet, u8> {
     test_counts(&sheet)?;
     test_ticks(&sheet)?;
     test_commands(&sheet)?;
-    // 5: length.
-    if bytes.len() != sheet_length(sheet.n, sheet.bands, sheet.no_go) {
+    // 5: length, which the first band's mark fixes.
+    let mark = mark_of_file(bytes, sheet.n);
+    if bytes.len() != sheet_length(mark, sheet.n, sheet.bands, sheet.no_go) {
         return Err(5);
     }
     // 6: a cap.
@@ -362,12 +440,15 @@ pub fn read(bytes: &[u8]) -> Result<Sheet, u8> {
     test_caps(&sheet)?;
     // Then the file's order, a record's mark before its fields.
     for k in 0..sheet.bands as usize {
-        if from.mark() != *b"BD" {
+        if from.mark() != mark {
             return Err(7);
         }
         sheet.band[k].edge = from.i32();
         sheet.band[k].safety_least = from.i32();
         sheet.band[k].safety_greatest = from.i32();
+        if mark == *b"BF" {
+            sheet.band[k].law = from.law(sheet.n);
+        }
         for i in 0..sheet.n as usize {
             let row = &mut sheet.band[k].rows[i];
             for j in 0..sheet.n as usize {
@@ -378,7 +459,7 @@ pub fn read(bytes: &[u8]) -> Result<Sheet, u8> {
             row.d = from.i32();
             row.q = from.u16();
         }
-        test_band(&sheet, k)?;
+        test_band(&sheet, mark, k)?;
     }
     for k in 0..sheet.no_go as usize {
         if from.mark() != *b"NG" {
@@ -421,10 +502,18 @@ pub fn write(sheet: &Sheet) -> Result<Vec<u8>, u8> {
     }
     for k in 0..sheet.bands as usize {
         let band = &sheet.band[k];
-        out.extend(b"BD");
+        out.extend(band_mark(sheet));
         out.extend(band.edge.to_be_bytes());
         out.extend(band.safety_least.to_be_bytes());
         out.extend(band.safety_greatest.to_be_bytes());
+        if band_mark(sheet) == *b"BF" {
+            for j in 0..n {
+                out.extend(band.law.coefficients[j].to_be_bytes());
+            }
+            out.extend(band.law.constant.to_be_bytes());
+            // Tested: 1 to 4,096.
+            out.extend((band.law.divisor as u16).to_be_bytes());
+        }
         for i in 0..n {
             let row = &band.rows[i];
             for j in 0..n {

@@ -3,10 +3,10 @@
 
 use plain_guard::decision::{decide_values, pack, recovery_values, unpack};
 use plain_guard::machine::{
-    allowed_change, band_of, ceil_div, floor_div, greatest_change, least_change,
+    allowed_change, band_of, ceil_div, floor_div, greatest_change, least_change, plain_commands,
 };
 use plain_guard::reach::{lies_in, rates, shares_a_state, step, to_box, Count};
-use plain_guard::sheet::{question_length, sheet_length, Question, Sides};
+use plain_guard::sheet::{band_mark, question_length, sheet_length, Question, Sides};
 use plain_guard::*;
 
 /// Sheet A.
@@ -171,7 +171,7 @@ fn delta_and_alpha() {
 fn lengths() {
     let a = bytes_a();
     assert_eq!(a.len(), 70);
-    assert_eq!(sheet_length(1, 1, 1), 70);
+    assert_eq!(sheet_length(*b"BD", 1, 1, 1), 70);
     assert_eq!(question_length(*b"QS", 1), Some(18));
     assert_eq!(read(&a[..19]), Err(1));
     assert_eq!(read(&a[..69]), Err(5));
@@ -204,7 +204,7 @@ fn reader_refusals() {
     let cases: Vec<(usize, Vec<u8>, u8)> = vec![
         (0, b"SG".to_vec(), 1),
         (2, vec![0], 2),
-        (2, vec![5], 2),
+        (2, vec![7], 2),
         (3, vec![0], 2),
         (3, vec![9], 2),
         (4, vec![0], 2),
@@ -445,7 +445,7 @@ fn with_bands(cap: u16, bands: &[(i32, (i32, i32), Row)]) -> Sheet {
 
 fn row_of_one(a: i16, b: i16, c: i32, d: i32, q: u16) -> Row {
     Row {
-        a: [a, 0, 0, 0],
+        a: [a, 0, 0, 0, 0, 0],
         b,
         c,
         d,
@@ -521,7 +521,7 @@ fn another_variable_is_cut_by_the_band_variable() {
 // ---- No-go records in order (document 02, paper 2) ----
 
 /// Sheet A with n variables, these no-go boxes and a recovery box beside them.
-fn with_no_go(n: u8, boxes: &[[(i32, i32); 4]]) -> Sheet {
+fn with_no_go(n: u8, boxes: &[Sides]) -> Sheet {
     let mut s = sheet_a();
     s.n = n;
     s.no_go = boxes.len() as u8;
@@ -530,23 +530,23 @@ fn with_no_go(n: u8, boxes: &[[(i32, i32); 4]]) -> Sheet {
         s.band[0].rows[i].q = 1;
     }
     s.no_go_box[..boxes.len()].copy_from_slice(boxes);
-    s.recovery = [(200, 300); 4];
+    s.recovery = [(200, 300); 6];
     s
 }
 
 /// The place of no-go record k, and behind the last one that of the recovery record.
 fn place_of_record(s: &Sheet, k: usize) -> usize {
     let record = 2 + 8 * s.n as usize;
-    sheet_length(s.n, s.bands, s.no_go) - (s.no_go as usize + 1 - k) * record
+    sheet_length(band_mark(s), s.n, s.bands, s.no_go) - (s.no_go as usize + 1 - k) * record
 }
 
 /// The bytes of a sheet whose no-go boxes need neither be in order nor clear of the recovery box.
 fn bytes_as_they_are(s: &Sheet) -> Vec<u8> {
     let mut accepted = *s;
     for k in 0..s.no_go as usize {
-        accepted.no_go_box[k] = [(k as i32, k as i32); 4];
+        accepted.no_go_box[k] = [(k as i32, k as i32); 6];
     }
-    accepted.recovery = [(100, 100); 4];
+    accepted.recovery = [(100, 100); 6];
     let mut bytes = write(&accepted).unwrap();
     for k in 0..=s.no_go as usize {
         let sides = if k == s.no_go as usize {
@@ -577,8 +577,8 @@ fn read_and_written(s: &Sheet) -> u8 {
 fn no_go_records_now_ascend_strictly() {
     // "No-go records now ascend strictly, compared by first lower side, first upper side, second
     // lower side and so on."
-    let base = [(10, 20), (30, 40), (50, 60), (70, 80)];
-    for n in 1..=4 {
+    let base = [10, 30, 50, 70, 90, 110].map(|from| (from, from + 10));
+    for n in 1..=6 {
         for i in 0..n as usize {
             for (lower, upper) in [(1, 0), (0, 1)] {
                 // Greater in this side alone.
@@ -608,8 +608,9 @@ fn no_go_records_now_ascend_strictly() {
 
 #[test]
 fn only_the_sheets_variables_are_compared() {
-    let one = [(10, 20), (0, 0), (0, 0), (9, 9)];
-    let two = [(10, 20), (1, 1), (-5, 7), (i32::MAX, i32::MIN)];
+    let one = [(10, 20), (0, 0), (0, 0), (9, 9), (0, 0), (0, 0)];
+    let turned = (i32::MAX, i32::MIN);
+    let two = [(10, 20), (1, 1), (-5, 7), turned, turned, turned];
     assert_eq!(write(&with_no_go(1, &[one, two])), Err(20));
     assert_eq!(write(&with_no_go(1, &[two, one])), Err(20));
     assert!(write(&with_no_go(2, &[one, two])).is_ok());
@@ -618,7 +619,7 @@ fn only_the_sheets_variables_are_compared() {
 #[test]
 fn each_record_against_the_one_before() {
     let of = |numbers: &[i32]| {
-        let boxes: Vec<[(i32, i32); 4]> = numbers.iter().map(|&x| [(x, 99); 4]).collect();
+        let boxes: Vec<Sides> = numbers.iter().map(|&x| [(x, 99); 6]).collect();
         read_and_written(&with_no_go(2, &boxes))
     };
     // One record has none before it.
@@ -634,7 +635,7 @@ fn each_record_against_the_one_before() {
 fn after_that_records_own_sides() {
     // "It refuses with 20 a no-go record not greater than the one before, after that record's own
     // sides." Record two is less than record one.
-    let s = with_no_go(2, &[[(5, 9); 4], [(3, 9); 4], [(7, 9); 4]]);
+    let s = with_no_go(2, &[[(5, 9); 6], [(3, 9); 6], [(7, 9); 6]]);
     let bytes = bytes_as_they_are(&s);
     let with = |faults: &[(usize, usize, &[u8])]| {
         let mut bytes = bytes.clone();
@@ -662,7 +663,7 @@ fn after_that_records_own_sides() {
     assert_eq!(listing(Some(&bytes), None), b"sheet refused 20\n");
     assert_eq!(reach(&s, 1_001, 0, Some(26), &[(1, 0)]), Err(20));
     assert_eq!(write_at(&s, &mut [], 0), Err(20));
-    let ordered = with_no_go(2, &[[(3, 9); 4], [(5, 9); 4]]);
+    let ordered = with_no_go(2, &[[(3, 9); 6], [(5, 9); 6]]);
     assert_eq!(write_at(&ordered, &mut [], 0), Err(17));
 }
 
@@ -793,23 +794,23 @@ fn comparing_first_changes_no_answer() {
 const HOME: (i32, i32) = (-7, 12);
 
 /// Reader and writer on a sheet with that recovery box.
-fn at_home(n: u8, boxes: &[[(i32, i32); 4]]) -> u8 {
+fn at_home(n: u8, boxes: &[Sides]) -> u8 {
     let mut s = with_no_go(n, boxes);
-    s.recovery = [HOME; 4];
+    s.recovery = [HOME; 6];
     read_and_written(&s)
 }
 
 #[test]
 fn shares_a_state_with_a_no_go_box() {
     // "It refuses with 22 a sheet whose recovery box shares a state with a no-go box."
-    for n in 1..=4 {
+    for n in 1..=6 {
         // One box in the other, either way, and the same box.
         for pair in [(-2_000_000, 2_000_000), (-8, 13), (3, 3), (-6, 11), HOME] {
-            assert_eq!(at_home(n, &[[pair; 4]]), 22);
+            assert_eq!(at_home(n, &[[pair; 6]]), 22);
         }
         for i in 0..n as usize {
             let with = |other, pair| {
-                let mut sides = [other; 4];
+                let mut sides = [other; 6];
                 sides[i] = pair;
                 at_home(n, &[sides])
             };
@@ -826,10 +827,10 @@ fn shares_a_state_with_a_no_go_box() {
 
 #[test]
 fn every_no_go_box_up_to_the_count() {
-    for n in 1..=4 {
+    for n in 1..=6 {
         for k in 0..8 {
             // Only box k goes further down than 13 in the last variable; in variable one they ascend.
-            let mut boxes = [[(-90, 90); 4]; 8];
+            let mut boxes = [[(-90, 90); 6]; 8];
             for (at, sides) in boxes.iter_mut().enumerate() {
                 sides[0].0 += at as i32;
                 sides[n as usize - 1] = (13 + at as i32, 90);
@@ -844,7 +845,7 @@ fn every_no_go_box_up_to_the_count() {
             // Behind the count it is not looked at.
             if k > 0 {
                 let mut s = with_no_go(n, &boxes);
-                s.recovery = [HOME; 4];
+                s.recovery = [HOME; 6];
                 s.no_go = k as u8;
                 assert!(write(&s).is_ok());
             }
@@ -854,8 +855,10 @@ fn every_no_go_box_up_to_the_count() {
 
 #[test]
 fn only_the_sheets_variables_are_shared() {
-    let mut s = with_no_go(2, &[[(0, 90), (0, 90), (13, 90), (i32::MAX, i32::MIN)]]);
-    s.recovery = [HOME, HOME, HOME, (1, 0)];
+    let turned = (i32::MAX, i32::MIN);
+    let no_go = [(0, 90), (0, 90), (13, 90), turned, turned, turned];
+    let mut s = with_no_go(2, &[no_go]);
+    s.recovery = [HOME, HOME, HOME, (1, 0), (1, 0), (1, 0)];
     assert_eq!(write(&s), Err(22));
     s.n = 1;
     assert_eq!(write(&s), Err(22));
@@ -870,8 +873,8 @@ fn only_the_sheets_variables_are_shared() {
 
 #[test]
 fn after_the_last_recovery_side() {
-    let mut s = with_no_go(2, &[[(5, 9); 4], [(7, 9); 4]]);
-    s.recovery = [HOME; 4];
+    let mut s = with_no_go(2, &[[(5, 9); 6], [(7, 9); 6]]);
+    s.recovery = [HOME; 6];
     let bytes = bytes_as_they_are(&s);
     let with = |record: usize, at: usize, new: &[u8]| {
         let mut bytes = bytes.clone();
@@ -966,7 +969,7 @@ fn a_question_marked_qr() {
         b'Q', b'R', 0, 0, 0, 100, 255, 255, 255, 255, 0, 0, 0, 2,
         0, 0, 0, 0, 0, 0, 0, 0,
     ]);
-    for n in 1..=4 {
+    for n in 1..=6 {
         assert_eq!(question_length(*b"QR", n), Some(14 + 8 * n as usize));
         assert_eq!(question_length(*b"QS", n), Some(10 + 8 * n as usize));
         assert_eq!(question_length(*b"QT", n), None);
@@ -1106,12 +1109,11 @@ fn keeps_clear_and_comes_back(dice: &mut Dice, s: &Sheet, q: &Question) -> bool 
         state.push(dice.from_to(q.measured[i].0 as i64, q.measured[i].1 as i64));
     }
     for time in 0..s.delta + s.alpha {
-        let band = &s.band[band_of(s, state[s.band_variable as usize]).unwrap()];
         let (least, greatest) = match time < s.delta {
-            true => (q.least, q.greatest),
-            false => (band.safety_least, band.safety_greatest),
+            true => (q.least as i64, q.greatest as i64),
+            false => plain_commands(s, &state).unwrap(),
         };
-        let u = dice.from_to(least as i64, greatest as i64);
+        let u = dice.from_to(least, greatest);
         tick(dice, s, &mut state, u);
         if (0..s.no_go as usize).any(|k| holds(&s.no_go_box[k], &state)) {
             return false;
@@ -1148,6 +1150,267 @@ fn a_keep_covers_any_command_of_the_span_at_each_tick() {
     assert!(kept > 200, "{kept}");
 }
 
+// ---- Six variables, and a plain law that follows the state (document 02, paper 9) ----
+
+fn law_of_one(coefficient: i16, constant: i32, divisor: i32) -> BandLaw {
+    BandLaw {
+        coefficients: [coefficient, 0, 0, 0, 0, 0],
+        constant,
+        divisor,
+    }
+}
+
+/// Sheet A with these bands marked `BF`: edge, safety range, law, row.
+fn with_laws(cap: u16, bands: &[(i32, (i32, i32), BandLaw, Row)]) -> Sheet {
+    let plain: Vec<_> = bands.iter().map(|band| (band.0, band.1, band.3)).collect();
+    let mut s = with_bands(cap, &plain);
+    for (k, band) in bands.iter().enumerate() {
+        s.band[k].law = band.2;
+    }
+    s
+}
+
+#[test]
+fn n_may_be_up_to_6() {
+    for n in 1..=6 {
+        let s = with_no_go(n, &[[(5, 9); 6]]);
+        assert_eq!(read(&write(&s).unwrap()).unwrap(), s);
+    }
+    let mut s = with_no_go(6, &[[(5, 9); 6]]);
+    s.n = 7;
+    assert_eq!(write(&s), Err(2));
+    let mut a = bytes_a();
+    a[2] = 7;
+    assert_eq!(read(&a), Err(2));
+    // 20 + 12 + 8 * (14 + 6 * 24) + 50 * 9, and 18 more for each of 8 laws.
+    assert_eq!(sheet_length(*b"BD", 6, 8, 8), 1_746);
+    assert_eq!(sheet_length(*b"BF", 6, 8, 8), 1_890);
+    assert_eq!(question_length(*b"QS", 6), Some(58));
+    assert_eq!(question_length(*b"QR", 6), Some(62));
+}
+
+#[test]
+fn a_band_marked_bf_adds_its_law_before_its_rows() {
+    let mut s = sheet_a();
+    s.band[0].law = law_of_one(-2, 3, 4);
+    let bytes = write(&s).unwrap();
+    let a = bytes_a();
+    assert_eq!(bytes.len(), 78);
+    assert_eq!(bytes[..22], a[..22]);
+    assert_eq!(bytes[22..24], *b"BF");
+    // Edge and safety range, then the law, then the row and all else.
+    assert_eq!(bytes[24..36], a[24..36]);
+    assert_eq!(bytes[36..44], [255, 254, 0, 0, 0, 3, 0, 4]);
+    assert_eq!(bytes[44..], a[36..]);
+    assert_eq!(read(&bytes).unwrap(), s);
+    // "70 bytes for n, bands and no-go all 1", and all law numbers are 0.
+    assert_eq!(read(&a).unwrap().band[0].law, BandLaw::default());
+}
+
+#[test]
+fn from_floor_to_ceil_clamped_to_the_safety_range() {
+    // -x / 2, commands -10..10.
+    let row = row_of_one(0, 1, 0, 0, 1);
+    let law = law_of_one(-1, 0, 2);
+    let s = with_laws(1_000, &[(-2_000_000, (-10, 10), law, row)]);
+    let at = |x: i64| plain_commands(&s, &[x]).unwrap();
+    assert_eq!(at(0), (0, 0));
+    assert_eq!(at(7), (-4, -3));
+    assert_eq!(at(8), (-4, -4));
+    assert_eq!(at(-7), (3, 4));
+    // -9.5, -10, -10.5 and far beyond.
+    assert_eq!(at(19), (-10, -9));
+    assert_eq!(at(20), (-10, -10));
+    assert_eq!(at(21), (-10, -10));
+    assert_eq!(at(1_000_000), (-10, -10));
+    assert_eq!(at(-19), (9, 10));
+    assert_eq!(at(-21), (10, 10));
+    // A safety range of one command leaves no other, and one away from 0 none near 0.
+    let one = with_laws(1_000, &[(-2_000_000, (3, 3), law, row)]);
+    assert_eq!(plain_commands(&one, &[7]), Some((3, 3)));
+    let away = with_laws(1_000, &[(-2_000_000, (3, 5), law, row)]);
+    assert_eq!(plain_commands(&away, &[7]), Some((3, 3)));
+    assert_eq!(plain_commands(&away, &[-9]), Some((4, 5)));
+    assert_eq!(plain_commands(&away, &[-13]), Some((5, 5)));
+    // `BD`: the safety range, whatever the state.
+    let mut plain = away;
+    plain.band[0].law.divisor = 0;
+    assert_eq!(plain_commands(&plain, &[7]), Some((3, 5)));
+    assert_eq!(plain_commands(&plain, &[-2_000_001]), None);
+}
+
+#[test]
+fn over_a_slabs_part_the_ends_are_bounded_like_a_rate() {
+    // Band one up to -1: x / 2, commands -5..5, N = u. Band two from 0: (1 - 3x) / 2,
+    // commands -4..4, N = x - 2u.
+    let s = with_laws(
+        1_000,
+        &[
+            (
+                -2_000_000,
+                (-5, 5),
+                law_of_one(1, 0, 2),
+                row_of_one(0, 1, 0, 0, 1),
+            ),
+            (0, (-4, 4), law_of_one(-3, 1, 2), row_of_one(1, -2, 0, 0, 1)),
+        ],
+    );
+    let over = |lower, upper| rates(&s, 0, &vec![(lower, upper)], None);
+    // Sums -10..-1, commands -5..0.
+    assert_eq!(over(-10, -1), (-5, 0));
+    // Band one over -3..-1: commands -2..0. Band two over 0..2: sums -5..1, commands
+    // -3..1, N -2..8. Over -3..2 its sums would go to 10 and its commands to 4.
+    assert_eq!(over(-3, 2), (-2, 8));
+    // Sums -26..-8: below the safety range with both ends.
+    assert_eq!(over(3, 9), (11, 17));
+    // Sums -26..-5: the least end is clamped, the greatest is -2.
+    assert_eq!(over(2, 9), (6, 17));
+    // Under a span the span alone.
+    assert_eq!(rates(&s, 0, &vec![(-3, 2)], Some((1, 2))), (-4, 2));
+    // Of two variables each is taken at its own side: (x - y) / 1 over 0..3 and 1..2 runs
+    // from -2 to 2.
+    let law = BandLaw {
+        coefficients: [1, -1, 0, 0, 0, 0],
+        constant: 0,
+        divisor: 1,
+    };
+    let row = row_of_one(0, 1, 0, 0, 1);
+    let mut two = with_laws(1_000, &[(-2_000_000, (-9, 9), law, row)]);
+    (two.n, two.caps[1]) = (2, 5);
+    assert_eq!(rates(&two, 0, &vec![(0, 3), (1, 2)], None), (-2, 2));
+}
+
+#[test]
+fn the_slab_is_cut_before_the_law_is_bounded() {
+    // Start 0..100, cap 4, k = 1: the lower slab is 0..8, the upper one 92..100. -x / 4
+    // is from -2 there, and below the safety range, -20..0, here. Over all of 0..100 the
+    // lower rate would be -4.
+    let law = law_of_one(-1, 0, 4);
+    let row = row_of_one(0, 1, 0, 0, 1);
+    let s = with_laws(4, &[(-2_000_000, (-20, 0), law, row)]);
+    let reached = reach(&s, 1, 1, None, &[(0, 100)]).unwrap();
+    assert_eq!(reached, (vec![(-2, 96)], vec![(-2, 100)], 1));
+}
+
+/// Sheet A's bands twice, with marks `BF`, and the places of the two marks.
+fn two_laws() -> (Sheet, [usize; 2]) {
+    let law = law_of_one(-1, 0, 2);
+    let row = row_of_one(-1, 4, 0, 0, 20);
+    let s = with_laws(5, &[(-2_000_000, (0, 0), law, row), (50, (0, 0), law, row)]);
+    (s, [22, 22 + 36])
+}
+
+#[test]
+fn the_first_bands_mark_fixes_the_length() {
+    let (s, [first, second]) = two_laws();
+    let long = write(&s).unwrap();
+    let mut plain = s;
+    plain.band[0].law.divisor = 0;
+    let short = write(&plain).unwrap();
+    assert_eq!((long.len(), short.len()), (70 + 28 + 16, 70 + 28));
+    let marked = |bytes: &[u8], place: usize, mark: &[u8; 2]| {
+        let mut bytes = bytes.to_vec();
+        bytes[place..place + 2].copy_from_slice(mark);
+        read(&bytes).err().unwrap_or(0)
+    };
+    // The other mark on the first band asks for the other length.
+    assert_eq!(marked(&long, first, b"BF"), 0);
+    assert_eq!(marked(&long, first, b"BD"), 5);
+    assert_eq!(marked(&short, first, b"BD"), 0);
+    assert_eq!(marked(&short, first, b"BF"), 5);
+    // "another mark is then 7": on the first band with `BD`'s length, on the second with
+    // that of the first band's mark.
+    for other in [b"XY", b"BG", b"AF", b"FB", b"bf"] {
+        assert_eq!(marked(&short, first, other), 7);
+        assert_eq!(marked(&long, first, other), 5);
+        assert_eq!(marked(&short, second - 8, other), 7);
+        assert_eq!(marked(&long, second, other), 7);
+    }
+    assert_eq!(marked(&short, second - 8, b"BF"), 7);
+    assert_eq!(marked(&long, second, b"BD"), 7);
+    // "if it is there": a file that ends before the mark's second letter has `BD`'s length.
+    for end in [20, first, first + 1, first + 2, long.len() - 1] {
+        assert_eq!(read(&long[..end]), Err(5));
+    }
+    // Length comes before the cap, the cap before the second mark.
+    let mut both = long.clone();
+    both[20..22].fill(0);
+    both[second] = b'X';
+    assert_eq!(read(&both), Err(6));
+    assert_eq!(read(&both[..long.len() - 1]), Err(5));
+}
+
+#[test]
+fn bad_law_numbers_are_10() {
+    let (s, marks) = two_laws();
+    let bytes = write(&s).unwrap();
+    let with = |faults: &[(usize, &[u8])]| {
+        let mut bytes = bytes.clone();
+        for (place, new) in faults {
+            bytes[*place..place + new.len()].copy_from_slice(new);
+        }
+        read(&bytes).err().unwrap_or(0)
+    };
+    let coefficient = |number: i16| number.to_be_bytes();
+    let constant = |number: i32| number.to_be_bytes();
+    for mark in marks {
+        let law = mark + 14;
+        for (number, refusal) in [(-1_001, 10), (-1_000, 0), (1_000, 0), (1_001, 10)] {
+            assert_eq!(with(&[(law, &coefficient(number))]), refusal);
+        }
+        for (number, refusal) in [(-100_000_001, 10), (-100_000_000, 0), (100_000_001, 10)] {
+            assert_eq!(with(&[(law + 2, &constant(number))]), refusal);
+        }
+        for (number, refusal) in [(0, 10), (1, 0), (4_096, 0), (4_097, 10), (-1, 10)] {
+            assert_eq!(with(&[(law + 6, &coefficient(number))]), refusal);
+        }
+    }
+    // After the band's mark, edge and safety range, before the next band's mark.
+    let (first, second) = (marks[0], marks[1]);
+    let bad: (usize, &[u8]) = (first + 20, &[0, 0]);
+    assert_eq!(with(&[bad, (first + 2, &constant(0))]), 8);
+    assert_eq!(with(&[bad, (first + 6, &constant(1))]), 9);
+    assert_eq!(with(&[bad, (second, b"XX")]), 10);
+    assert_eq!(with(&[bad, (second + 2, &constant(-2_000_000))]), 10);
+    assert_eq!(with(&[(second + 20, &[0, 0]), (second, b"XX")]), 7);
+}
+
+#[test]
+fn a_value_is_bd_by_its_first_divisor() {
+    let (s, _) = two_laws();
+    // Not 0 and out of range: 10.
+    for divisor in [-1, 4_097, i32::MIN, i32::MAX] {
+        let mut other = s;
+        other.band[0].law.divisor = divisor;
+        assert_eq!(write(&other), Err(10));
+    }
+    let mut other = s;
+    other.band[1].law.divisor = 0;
+    assert_eq!(write(&other), Err(10));
+    // 0: the other law numbers are not looked at.
+    let mut rubbish = s;
+    rubbish.band[0].law = law_of_one(i16::MAX, i32::MIN, 0);
+    rubbish.band[1].law = law_of_one(i16::MIN, i32::MAX, -7);
+    let bytes = write(&rubbish).unwrap();
+    assert_eq!(bytes[22..24], *b"BD");
+    let again = read(&bytes).unwrap();
+    assert_eq!(again, rubbish);
+    assert_eq!(again.band[1].law, BandLaw::default());
+    // Numbers behind n or the count are not looked at either.
+    let mut behind = s;
+    behind.band[0].law.coefficients[1] = i16::MAX;
+    behind.band[2].law.divisor = -1;
+    assert_eq!(behind, s);
+    assert_eq!(write(&behind), write(&s));
+    for change in [(1, 0, 0), (0, 1, 0), (0, 0, 1)] {
+        let mut other = s;
+        other.band[1].law.coefficients[0] += change.0;
+        other.band[1].law.constant += change.1;
+        other.band[1].law.divisor += change.2;
+        assert_ne!(other, s);
+    }
+}
+
 // ---- The boxes hold every run of the machine ----
 
 struct Dice(u64);
@@ -1162,9 +1425,22 @@ impl Dice {
     }
 }
 
+/// A law whose commands are sometimes within the safety range and sometimes clamped.
+fn random_law(dice: &mut Dice, n: usize) -> BandLaw {
+    let mut law = BandLaw {
+        constant: dice.from_to(-200, 200) as i32,
+        divisor: dice.from_to(1, 60) as i32,
+        ..BandLaw::default()
+    };
+    for j in 0..n {
+        law.coefficients[j] = dice.from_to(-9, 9) as i16;
+    }
+    law
+}
+
 fn random_sheet(dice: &mut Dice) -> Sheet {
     let mut s = Sheet {
-        n: dice.from_to(1, 4) as u8,
+        n: dice.from_to(1, 6) as u8,
         bands: dice.from_to(1, 8) as u8,
         no_go: dice.from_to(1, 8) as u8,
         delta: dice.from_to(1, 12) as u16,
@@ -1181,12 +1457,16 @@ fn random_sheet(dice: &mut Dice) -> Sheet {
         let lower = dice.from_to(-200, -50) as i32;
         s.recovery[i] = (lower, dice.from_to(50, 200) as i32);
     }
+    let follows = dice.from_to(0, 1) == 1;
     let mut edge = -2_000_000;
     for k in 0..s.bands as usize {
         s.band[k].edge = edge;
         edge = edge.max(-150) + dice.from_to(1, 60) as i32;
         s.band[k].safety_least = dice.from_to(s.least as i64, 0) as i32;
         s.band[k].safety_greatest = dice.from_to(0, s.greatest as i64) as i32;
+        if follows {
+            s.band[k].law = random_law(dice, n);
+        }
         for i in 0..n {
             let row = &mut s.band[k].rows[i];
             for j in 0..n {
@@ -1256,10 +1536,10 @@ fn boxes_hold_random_runs() {
             let lean = dice.from_to(0, 2);
             for _ in 0..ticks {
                 assert!(inside(&state, &swept));
-                let band = &s.band[band_of(&s, state[s.band_variable as usize]).unwrap()];
+                let (least, greatest) = plain_commands(&s, &state).unwrap();
                 let u = match command {
                     Some(u) => u as i64,
-                    None => dice.from_to(band.safety_least as i64, band.safety_greatest as i64),
+                    None => dice.from_to(least, greatest),
                 };
                 let mut next = state.clone();
                 for i in 0..n {

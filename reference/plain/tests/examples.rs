@@ -95,23 +95,36 @@ fn reach(words: &Words) -> String {
     }
 }
 
-/// Slots of a sheet's numbers: rho, and the no-go boxes with four lower and four upper sides each.
+/// Slots of a sheet's numbers: rho, the bands, a law's constant and divisor in a band, and the no-go
+/// boxes with six lower and six upper sides each.
 const RHO: usize = 6;
-const NO_GO: usize = 301;
+const BANDS: usize = 15;
+const BAND: usize = 71;
+const CONSTANT: usize = 9;
+const DIVISOR: usize = 10;
+const NO_GO: usize = 595;
 
 /// Puts a number into its slot.
-fn set(sheet: &mut plain_guard::Sheet, slot: usize, number: &str) {
+fn set(sheet: &mut plain_guard::Sheet, slot: usize, number: i32) {
     if slot == RHO {
-        sheet.rho = number.parse().expect("a number");
-        return;
+        sheet.rho = number as u16;
+    } else if slot < NO_GO {
+        let place = slot.checked_sub(BANDS).expect("a law number");
+        let law = &mut sheet.band[place / BAND].law;
+        match place % BAND {
+            at @ 3..=8 => law.coefficients[at - 3] = number as i16,
+            CONSTANT => law.constant = number,
+            DIVISOR => law.divisor = number,
+            _ => panic!("no law number: slot {slot}"),
+        }
+    } else {
+        let place = slot - NO_GO;
+        let pair = &mut sheet.no_go_box[place / 12][place % 6];
+        match place % 12 {
+            0..=5 => pair.0 = number,
+            _ => pair.1 = number,
+        }
     }
-    let place = slot.checked_sub(NO_GO).expect("rho or a no-go side");
-    let pair = &mut sheet.no_go_box[place / 8][place % 4];
-    let side = match place % 8 {
-        0..=3 => &mut pair.0,
-        _ => &mut pair.1,
-    };
-    *side = number.parse().expect("a number");
 }
 
 /// A named sheet's numbers, with others in some slots.
@@ -121,6 +134,7 @@ fn write(words: &Words) -> String {
     let mut sheet = plain_guard::read(&base(name)).expect("an accepted sheet");
     for part in parts {
         let (slot, number) = part.split_once(':').expect("a slot");
+        let number = number.parse().expect("a number");
         set(&mut sheet, slot.parse().expect("a slot"), number);
     }
     let mut buffer = vec![0; words["room"].parse().expect("a length")];
