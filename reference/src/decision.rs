@@ -4,6 +4,7 @@
 use crate::boxes::StateBox;
 use crate::changes::{Change, CommandEnd};
 use crate::reach::{advance, Budget, Law, NoWatch, Step, Stop, Watch};
+use crate::rules::Rule;
 use crate::sheet::{self, CommandRange, Fields, Refusal, Sheet, START_LIMIT};
 use std::ops::ControlFlow;
 
@@ -144,7 +145,7 @@ struct Safety<'a, W> {
 }
 
 impl<W: Watch> Watch for Safety<'_, W> {
-    const WHOLE: bool = W::WHOLE;
+    const RULE: Rule = W::RULE;
 
     #[inline]
     fn round(&mut self, sheet: &Sheet, start: &StateBox, enclosure: &StateBox, ticks: u32) {

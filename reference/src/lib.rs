@@ -9,5 +9,6 @@ pub mod listing;
 pub mod machine;
 pub mod neighborhoods;
 pub mod reach;
+pub mod rules;
 pub mod sheet;
 pub mod whole;

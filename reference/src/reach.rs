@@ -5,9 +5,9 @@ use crate::boxes::{State, StateBox, VARIABLES};
 use crate::changes::{Change, CommandEnd, End};
 use crate::machine::{greatest_so_far, least_so_far, Clamp};
 use crate::neighborhoods::Face;
-use crate::sheet::{Band, CommandRange, Kind, Refusal, Row, Sheet};
+use crate::rules::{self, Rule};
+use crate::sheet::{Band, BandLaw, CommandRange, Kind, Refusal, Row, Sheet};
 use crate::sheet::{START_LIMIT, TICKS_LIMIT};
-use crate::whole;
 use std::ops::ControlFlow;
 
 /// A step that has not settled after this many rounds begins again with half its ticks.
@@ -55,8 +55,8 @@ pub struct Reach {
 
 /// Sees what the engine does. What is left as it is costs nothing.
 pub trait Watch {
-    /// Rows are bounded over whole neighborhoods, as before paper 3 of document 02.
-    const WHOLE: bool = false;
+    /// The rule by which rates are bounded.
+    const RULE: Rule = Rule::Parts;
 
     /// A round begins over this enclosure, in a step of so many ticks from the start box.
     #[inline]
@@ -124,13 +124,13 @@ pub(crate) struct Rates {
 
 /// The least value of coefficient · x for x from `lower` to `upper`.
 #[inline]
-fn least_product(coefficient: i32, lower: i64, upper: i64) -> i64 {
+pub(crate) fn least_product(coefficient: i32, lower: i64, upper: i64) -> i64 {
     i64::from(coefficient) * if coefficient >= 0 { lower } else { upper }
 }
 
 /// The greatest value likewise.
 #[inline]
-fn greatest_product(coefficient: i32, lower: i64, upper: i64) -> i64 {
+pub(crate) fn greatest_product(coefficient: i32, lower: i64, upper: i64) -> i64 {
     i64::from(coefficient) * if coefficient >= 0 { upper } else { lower }
 }
 
@@ -171,7 +171,7 @@ pub(crate) fn follows(law: Law, sheet: &Sheet) -> bool {
 
 /// The least and the greatest command that the law has in a band, where they do not follow the state.
 #[inline]
-fn fixed_commands(law: Law, band: &Band) -> (i64, i64) {
+pub(crate) fn fixed_commands(law: Law, band: &Band) -> (i64, i64) {
     let (least, greatest) = match law {
         Law::Baseline => (band.safety.least, band.safety.greatest),
         Law::Span { least, greatest } => (least, greatest),
@@ -179,9 +179,19 @@ fn fixed_commands(law: Law, band: &Band) -> (i64, i64) {
     (i64::from(least), i64::from(greatest))
 }
 
+/// The least and the greatest value of a law's sum over a box.
+#[inline]
+pub(crate) fn law_sums<const N: usize>(law: &BandLaw, over: &StateBox) -> (i64, i64) {
+    let constant = i64::from(law.constant);
+    (
+        constant + least_sum::<N>(&law.coefficients, over),
+        constant + greatest_sum::<N>(&law.coefficients, over),
+    )
+}
+
 /// A band's commands over a box. Where they follow the state, the box may be cut at one side and each
 /// end is worked out from the law's sum: over the box, and what the cut changes in one term.
-pub(crate) struct Commands<'a, const FOLLOWS: bool> {
+struct Commands<'a, const FOLLOWS: bool> {
     coefficients: &'a [i32; VARIABLES],
     clamp: Clamp,
     /// The commands, or the law's sum: its least and its greatest value.
@@ -191,19 +201,14 @@ pub(crate) struct Commands<'a, const FOLLOWS: bool> {
 
 impl<'a, const FOLLOWS: bool> Commands<'a, FOLLOWS> {
     #[inline]
-    pub(crate) fn over<const N: usize>(law: Law, band: &'a Band, over: &StateBox) -> Self {
-        let coefficients = &band.law.coefficients;
+    fn over<const N: usize>(law: Law, band: &'a Band, over: &StateBox) -> Self {
         let (least, greatest) = if FOLLOWS {
-            let constant = i64::from(band.law.constant);
-            (
-                constant + least_sum::<N>(coefficients, over),
-                constant + greatest_sum::<N>(coefficients, over),
-            )
+            law_sums::<N>(&band.law, over)
         } else {
             fixed_commands(law, band)
         };
         Commands {
-            coefficients,
+            coefficients: &band.law.coefficients,
             clamp: Clamp::new(band.law.divisor, band.safety),
             least,
             greatest,
@@ -231,7 +236,7 @@ impl<'a, const FOLLOWS: bool> Commands<'a, FOLLOWS> {
     /// The least value of b·u where variable i's upper side is moved by `cut`, below 0 or 0: the sum's
     /// term of i changes where it is taken at that side.
     #[inline]
-    pub(crate) fn least_term<W: Watch>(&self, b: i32, i: usize, cut: i64, watch: &mut W) -> i64 {
+    fn least_term<W: Watch>(&self, b: i32, i: usize, cut: i64, watch: &mut W) -> i64 {
         let coefficient = i64::from(self.coefficients[i]);
         if !FOLLOWS {
             least_product(b, self.least, self.greatest)
@@ -246,7 +251,7 @@ impl<'a, const FOLLOWS: bool> Commands<'a, FOLLOWS> {
 
     /// The greatest value where the lower side is moved by `cut`, above 0 or 0.
     #[inline]
-    pub(crate) fn greatest_term<W: Watch>(&self, b: i32, i: usize, cut: i64, watch: &mut W) -> i64 {
+    fn greatest_term<W: Watch>(&self, b: i32, i: usize, cut: i64, watch: &mut W) -> i64 {
         let coefficient = i64::from(self.coefficients[i]);
         if !FOLLOWS {
             greatest_product(b, self.least, self.greatest)
@@ -383,10 +388,9 @@ fn step<const N: usize, const FOLLOWS: bool, W: Watch>(
                 return None;
             }
             budget.rounds += 1;
-            let rates = if W::WHOLE {
-                whole::round(sheet, law, start, &enclosure, ticks)
-            } else {
-                round::<N, FOLLOWS, W>(sheet, law, start, &enclosure, ticks, watch)
+            let rates = match W::RULE {
+                Rule::Parts => round::<N, FOLLOWS, W>(sheet, law, start, &enclosure, ticks, watch),
+                rule => rules::round(rule, sheet, law, start, &enclosure, ticks),
             };
             let on_the_way = start.hull_in::<N>(&moved::<N>(start, &rates, ticks - 1));
             if on_the_way.inside_in::<N>(&enclosure) {

@@ -377,36 +377,7 @@ impl Sheet {
 
     /// The inverse of `numbers`; nothing is tested.
     pub fn from_numbers(numbers: &[i32; NUMBERS]) -> Sheet {
-        let sides = |at: usize| {
-            let mut sides = StateBox::default();
-            for i in 0..VARIABLES {
-                sides.lower[i] = i64::from(numbers[at + i]);
-                sides.upper[i] = i64::from(numbers[at + VARIABLES + i]);
-            }
-            sides
-        };
-        let coefficients = |at: usize| std::array::from_fn(|i| numbers[at + i]);
-        let row = |at: usize| Row {
-            a: coefficients(at),
-            b: numbers[at + VARIABLES],
-            c: numbers[at + VARIABLES + 1],
-            d: numbers[at + VARIABLES + 2],
-            q: numbers[at + VARIABLES + 3],
-        };
-        let law = |at: usize| BandLaw {
-            coefficients: coefficients(at),
-            constant: numbers[at + VARIABLES],
-            divisor: numbers[at + VARIABLES + 1],
-        };
-        let band = |at: usize| Band {
-            edge: numbers[at],
-            safety: CommandRange {
-                least: numbers[at + 1],
-                greatest: numbers[at + 2],
-            },
-            law: law(at + LAW_AT),
-            rows: std::array::from_fn(|i| row(at + ROWS_AT + i * ROW_NUMBERS)),
-        };
+        let slots = Slots(numbers);
         Sheet {
             variables: numbers[0],
             band_count: numbers[1],
@@ -415,15 +386,79 @@ impl Sheet {
             delta: numbers[4],
             alpha: numbers[5],
             rho: numbers[6],
-            commands: CommandRange {
-                least: numbers[7],
-                greatest: numbers[8],
-            },
-            caps: coefficients(CAPS_AT),
-            bands: std::array::from_fn(|k| band(BANDS_AT + k * BAND_NUMBERS)),
-            recovery: sides(RECOVERY_AT),
-            unsafe_boxes: std::array::from_fn(|j| sides(UNSAFE_AT + j * 2 * VARIABLES)),
+            commands: slots.commands(7),
+            caps: slots.one_each(CAPS_AT),
+            bands: std::array::from_fn(|k| slots.band(BANDS_AT + k * BAND_NUMBERS)),
+            recovery: slots.sides(RECOVERY_AT),
+            unsafe_boxes: std::array::from_fn(|j| slots.sides(UNSAFE_AT + j * 2 * VARIABLES)),
         }
+    }
+}
+
+/// The numbers of a sheet's parts, each from a slot on.
+struct Slots<'a>(&'a [i32; NUMBERS]);
+
+impl Slots<'_> {
+    /// A number for each variable.
+    fn one_each(&self, at: usize) -> [i32; VARIABLES] {
+        std::array::from_fn(|i| self.0[at + i])
+    }
+
+    fn commands(&self, at: usize) -> CommandRange {
+        CommandRange {
+            least: self.0[at],
+            greatest: self.0[at + 1],
+        }
+    }
+
+    fn sides(&self, at: usize) -> StateBox {
+        StateBox {
+            lower: self.one_each(at).map(i64::from),
+            upper: self.one_each(at + VARIABLES).map(i64::from),
+        }
+    }
+
+    fn law(&self, at: usize) -> BandLaw {
+        BandLaw {
+            coefficients: self.one_each(at),
+            constant: self.0[at + VARIABLES],
+            divisor: self.0[at + VARIABLES + 1],
+        }
+    }
+
+    fn row(&self, at: usize) -> Row {
+        Row {
+            a: self.one_each(at),
+            b: self.0[at + VARIABLES],
+            c: self.0[at + VARIABLES + 1],
+            d: self.0[at + VARIABLES + 2],
+            q: self.0[at + VARIABLES + 3],
+        }
+    }
+
+    fn band(&self, at: usize) -> Band {
+        Band {
+            edge: self.0[at],
+            safety: self.commands(at + 1),
+            law: self.law(at + LAW_AT),
+            rows: std::array::from_fn(|i| self.row(at + ROWS_AT + i * ROW_NUMBERS)),
+        }
+    }
+}
+
+impl BandLaw {
+    /// The numbers for n variables are the same.
+    fn same(&self, other: &BandLaw, n: usize) -> bool {
+        self.coefficients[..n] == other.coefficients[..n]
+            && (self.constant, self.divisor) == (other.constant, other.divisor)
+    }
+}
+
+impl Row {
+    /// The numbers for n variables are the same.
+    fn same(&self, other: &Row, n: usize) -> bool {
+        let rest = |row: &Row| (row.b, row.c, row.d, row.q);
+        self.a[..n] == other.a[..n] && rest(self) == rest(other)
     }
 }
 
@@ -444,18 +479,11 @@ impl PartialEq for Sheet {
         let n = self.variables.clamp(0, VARIABLES as i32) as usize;
         let bands = self.band_count.clamp(0, BANDS as i32) as usize;
         let boxes = self.unsafe_count.clamp(0, UNSAFE_BOXES as i32) as usize;
-        let same_row = |(x, y): (&Row, &Row)| {
-            x.a[..n] == y.a[..n] && (x.b, x.c, x.d, x.q) == (y.b, y.c, y.d, y.q)
-        };
         let kind = self.kind();
-        let same_law = |x: &BandLaw, y: &BandLaw| {
-            x.coefficients[..n] == y.coefficients[..n]
-                && (x.constant, x.divisor) == (y.constant, y.divisor)
-        };
         let same_band = |(x, y): (&Band, &Band)| {
             (x.edge, x.safety) == (y.edge, y.safety)
-                && (kind == Kind::Fixed || same_law(&x.law, &y.law))
-                && x.rows[..n].iter().zip(&y.rows[..n]).all(same_row)
+                && (kind == Kind::Fixed || x.law.same(&y.law, n))
+                && (0..n).all(|i| x.rows[i].same(&y.rows[i], n))
         };
         let same_box = |(x, y): (&StateBox, &StateBox)| {
             x.lower[..n] == y.lower[..n] && x.upper[..n] == y.upper[..n]

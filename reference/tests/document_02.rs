@@ -4,21 +4,25 @@
 //! Paper 4: a question `QR` is about a span of commands, and the program cuts its file by mark.
 //! Paper 6: a change is compared with its cap first and divided only strictly between.
 //! Paper 8: a recovery box that shares a state with a no-go box is refused, and would fail its check.
+//! Paper 9: up to six variables, and bands `BF` whose plain commands follow the state.
 
 use second_guard::boxes::{State, StateBox, VARIABLES};
-use second_guard::changes::{Change, Place};
+use second_guard::changes::{Change, CommandEnd, End, Place};
 use second_guard::decision::{
     check_recovery, check_recovery_watched, decide, decide_watched, question_length, read_question,
     trace, trace_recovery, Bounded, Decision, Faults, Question, RecoveryCheck,
 };
 use second_guard::listing::{listing, questions};
 use second_guard::machine::{
-    allowed_change, band_of, ceil_div, floor_div, greatest_change, greatest_so_far, least_change,
-    least_so_far,
+    allowed_change, ceil_div, floor_div, greatest_change, greatest_so_far, least_change,
+    least_so_far, plain_commands, Clamp,
 };
 use second_guard::neighborhoods::Face;
 use second_guard::reach::{advance, reach, Budget, Law, NoWatch, Reach, Step, Watch};
-use second_guard::sheet::{self, Band, CommandRange, Refusal, Row, Sheet, FIRST_EDGE};
+use second_guard::rules::Rule;
+use second_guard::sheet::{
+    self, Band, BandLaw, CommandRange, Kind, Refusal, Row, Sheet, BANDS, FIRST_EDGE, UNSAFE_BOXES,
+};
 use second_guard::whole::WholeNeighborhoods;
 use std::ops::ControlFlow;
 
@@ -152,8 +156,11 @@ fn ascending_boxes_are_accepted() {
 
 #[test]
 fn equal_boxes_are_refused() {
-    for n in 1..=4 {
-        let (low, high) = (box_of(&[(1, 2); 4][..n]), box_of(&[(3, 3); 4][..n]));
+    for n in 1..=VARIABLES {
+        let (low, high) = (
+            box_of(&[(1, 2); VARIABLES][..n]),
+            box_of(&[(3, 3); VARIABLES][..n]),
+        );
         for boxes in [vec![low, low], vec![low, high, high], vec![high; 8]] {
             assert_eq!(refusal(&still(n, &boxes)), 20);
         }
@@ -174,8 +181,8 @@ fn with_side(mut sides: StateBox, side: usize, more: i64) -> StateBox {
 
 #[test]
 fn one_side_decides() {
-    for n in 1..=4 {
-        let base = box_of(&[(10, 20); 4][..n]);
+    for n in 1..=VARIABLES {
+        let base = box_of(&[(10, 20); VARIABLES][..n]);
         for side in 0..2 * n {
             let greater = with_side(base, side, 1);
             assert_eq!(refusal(&still(n, &[base, greater])), 0);
@@ -186,8 +193,8 @@ fn one_side_decides() {
 
 #[test]
 fn the_first_differing_side_decides() {
-    for n in 1..=4 {
-        let base = box_of(&[(10, 20); 4][..n]);
+    for n in 1..=VARIABLES {
+        let base = box_of(&[(10, 20); VARIABLES][..n]);
         for side in 0..2 * n {
             // All sides after it are less.
             let later = side + 1..2 * n;
@@ -760,8 +767,9 @@ fn changes_around_the_caps() {
 
 #[test]
 fn far_beyond_the_caps() {
-    // The greatest numerators that a sheet can have: four variables, command, offset and spread.
-    let far = 4 * 1_000 * 2_000_000 + 1_000 * 10_000 + 200_000_000;
+    // The greatest numerator that a sheet can have: six variables, command, offset and spread.
+    let far = 6 * 1_000 * 1_999_000 + 1_000 * 10_000 + 200_000_000;
+    assert_eq!(far, 12_204_000_000);
     for (q, cap) in [(1, 1), (1, 1_000), (4_096, 1), (4_096, 1_000)] {
         let most = i64::from(cap);
         assert_eq!(changes(-far, q, cap), (-most, -most));
@@ -871,7 +879,7 @@ const SHARED: (i64, i64) = (25, 60);
 /// A machine of n variables with that recovery box and these no-go boxes.
 fn beside(n: usize, boxes: &[StateBox]) -> Sheet {
     let mut sheet = still(n, boxes);
-    sheet.recovery = box_of(&[BACK; 4]);
+    sheet.recovery = box_of(&[BACK; VARIABLES]);
     sheet
 }
 
@@ -886,10 +894,10 @@ const TOUCHING: [(i64, i64); 4] = [(30, 40), (30, 30), (-20, -10), (-10, -10)];
 
 #[test]
 fn a_box_that_only_touches_is_refused() {
-    for n in 1..=4 {
+    for n in 1..=VARIABLES {
         for i in 0..n {
             let with = |pair| {
-                let mut pairs = [SHARED; 4];
+                let mut pairs = [SHARED; VARIABLES];
                 pairs[i] = pair;
                 with_box(&pairs[..n])
             };
@@ -901,7 +909,7 @@ fn a_box_that_only_touches_is_refused() {
 
 #[test]
 fn a_box_at_a_corner_is_refused() {
-    for n in 1..=4 {
+    for n in 1..=VARIABLES {
         for corner in 0..1 << n {
             // Only the corner's own state is in both boxes.
             let pair = |i: usize| TOUCHING[if corner >> i & 1 == 1 { 0 } else { 2 }];
@@ -918,11 +926,11 @@ fn a_box_at_a_corner_is_refused() {
 
 #[test]
 fn sharing_values_in_all_variables_but_one_is_accepted() {
-    for n in 1..=4 {
+    for n in 1..=VARIABLES {
         for i in 0..n {
             for shared in [SHARED, BACK, (0, 0), (-2_000_000, 2_000_000)] {
                 for far in [(-2_000_000, -2_000_000), (31, 2_000_000), (999, 1_000)] {
-                    let mut pairs = [shared; 4];
+                    let mut pairs = [shared; VARIABLES];
                     pairs[i] = far;
                     assert_eq!(with_box(&pairs[..n]), 0);
                 }
@@ -935,13 +943,13 @@ fn sharing_values_in_all_variables_but_one_is_accepted() {
 fn one_box_inside_the_other_is_refused() {
     let around = [(-2_000_000, 2_000_000), (-11, 31), (-10, 31), (-11, 30)];
     let inside = [(0, 0), (-9, 29), (-10, 29), (-9, 30), (30, 30)];
-    for n in 1..=4 {
+    for n in 1..=VARIABLES {
         for pair in around.into_iter().chain(inside).chain([BACK]) {
-            assert_eq!(with_box(&[pair; 4][..n]), 22);
+            assert_eq!(with_box(&[pair; VARIABLES][..n]), 22);
         }
         // Around it in one variable and inside it in the others.
         for i in 0..n {
-            let mut pairs = [(0, 0); 4];
+            let mut pairs = [(0, 0); VARIABLES];
             pairs[i] = (-500, 500);
             assert_eq!(with_box(&pairs[..n]), 22);
         }
@@ -960,7 +968,7 @@ fn eight_boxes(n: usize, j: usize) -> Vec<StateBox> {
             return box_of(&[one_variable(k)]);
         }
         // All share values in the variables before the last.
-        let mut pairs = [(-100 + k as i64, 100); 4];
+        let mut pairs = [(-100 + k as i64, 100); VARIABLES];
         pairs[n - 1] = if k == j { (30, 40) } else { (31, 40) };
         box_of(&pairs[..n])
     };
@@ -969,7 +977,7 @@ fn eight_boxes(n: usize, j: usize) -> Vec<StateBox> {
 
 #[test]
 fn each_box_is_compared_with_the_recovery_box() {
-    for n in 1..=4 {
+    for n in 1..=VARIABLES {
         // At 8 none of them is on it.
         assert_eq!(refusal(&beside(n, &eight_boxes(n, 8))), 0);
         for j in 0..8 {
@@ -992,7 +1000,7 @@ fn writes(sheet: &Sheet) -> Result<usize, u8> {
 
 #[test]
 fn boxes_beyond_the_count_are_not_compared_with_the_recovery_box() {
-    for n in 1..=4 {
+    for n in 1..=VARIABLES {
         for count in 1..8 {
             let mut sheet = beside(n, &eight_boxes(n, count));
             sheet.unsafe_count = count as i32;
@@ -1009,8 +1017,8 @@ fn sides_beyond_n_neither_part_boxes_nor_join_them() {
     let beyond = [(7, 7), (1, 0), (least, least), (greatest, least), BACK];
     for n in 1..4 {
         for (no_go, back) in beyond.into_iter().flat_map(|x| beyond.map(|y| (x, y))) {
-            let mut sheet = beside(n, &[box_of(&[no_go; 4])]);
-            sheet.recovery = box_of(&[back; 4]);
+            let mut sheet = beside(n, &[box_of(&[no_go; VARIABLES])]);
+            sheet.recovery = box_of(&[back; VARIABLES]);
             for i in 0..n {
                 (sheet.recovery.lower[i], sheet.recovery.upper[i]) = BACK;
                 (
@@ -1058,7 +1066,7 @@ fn overlap_comes_before_all_of_a_call() {
 /// A machine whose changes are anything, with one or more bands, so that its long steps halve now and
 /// then; up to 60 ticks from a recovery box of some length in each variable.
 fn any_machine(numbers: &mut Numbers) -> Sheet {
-    let n = numbers.between(1, 4) as usize;
+    let n = numbers.between(1, VARIABLES as i32) as usize;
     let mut sheet = still(n, &[]);
     sheet.band_count = numbers.between(1, 3);
     sheet.rho = numbers.between(1, 60);
@@ -1140,7 +1148,7 @@ fn without_the_test_each_attempt_fails_at_its_first_step() {
         let mut sheet = any_machine(&mut numbers);
         let (n, back) = (sheet.n(), sheet.recovery);
         let on = any_shared(&mut numbers, &back, n);
-        let far = box_of(&[(500, 600); 4][..n]);
+        let far = box_of(&[(500, 600); VARIABLES][..n]);
         (sheet.unsafe_boxes[0], sheet.unsafe_boxes[1]) = (on, far);
         sheet.unsafe_count = numbers.between(1, 2);
         assert_eq!(refusal(&sheet), 22);
@@ -1267,7 +1275,7 @@ fn a_span_is_more_than_each_of_its_commands() {
 
 #[test]
 fn lengths_by_mark() {
-    for n in 1..=4 {
+    for n in 1..=VARIABLES {
         assert_eq!(question_length(b"QS", n), Some(10 + 8 * n));
         assert_eq!(question_length(b"QR and more", n), Some(14 + 8 * n));
         for unknown in [&b""[..], b"Q", b"QT", b"RR", b"sq", b"SQ", b"qs", b"RQ"] {
@@ -1426,15 +1434,14 @@ fn tick(numbers: &mut Numbers, sheet: &Sheet, state: &mut State, command: i32) {
 /// A run of a period under any commands of the span and then of alpha plain ticks. Answers whether it
 /// kept clear of the no-go boxes and came back.
 fn comes_back(numbers: &mut Numbers, sheet: &Sheet, question: &Question) -> bool {
-    let (at, v) = (&question.measured, sheet.band_variable as usize);
+    let at = &question.measured;
     let corner = |i: usize| [at.lower[i], at.upper[i]][numbers.between(0, 1) as usize];
     let mut state: State = std::array::from_fn(corner);
     for time in 0..sheet.delta + sheet.alpha {
-        let band = band_of(sheet, state[v]).expect("a band");
         let commands = if time < sheet.delta {
             question.span
         } else {
-            sheet.bands[band].safety
+            plain_commands(sheet, &state).expect("a band")
         };
         let command = numbers.between(commands.least, commands.greatest);
         tick(numbers, sheet, &mut state, command);
@@ -1546,4 +1553,789 @@ fn a_listing_of_both_marks() {
     let more = "6 refused 12\n";
     let text = format!("sheet pass 1 1\n{answers}{more}");
     assert_eq!(listing(&sheet, &unknown), text);
+}
+
+// ---- Paper 9
+
+/// The law (Σ coefficient·x + constant)/divisor.
+fn law<const M: usize>(coefficients: [i32; M], constant: i32, divisor: i32) -> BandLaw {
+    BandLaw {
+        coefficients: padded(coefficients),
+        constant,
+        divisor,
+    }
+}
+
+/// x and z as in `machine`, of which x changes by b·u; each band has its edge, safety range, law and b.
+fn by_laws(bands: &[(i32, CommandRange, BandLaw, i32)]) -> Sheet {
+    let rows = bands.iter().map(|&(edge, _, _, b)| {
+        let pushed = Row { b, ..STILL };
+        (edge, pushed, STILL)
+    });
+    let mut sheet = machine(&rows.collect::<Vec<_>>());
+    sheet.commands = span(-20, 20);
+    sheet.caps = padded([1_000, 5]);
+    for (band, &(_, safety, law, _)) in sheet.bands.iter_mut().zip(bands) {
+        (band.safety, band.law) = (safety, law);
+    }
+    sheet
+}
+
+/// The plain commands at x and z.
+fn commands_at(sheet: &Sheet, x: i64, z: i64) -> (i32, i32) {
+    let CommandRange { least, greatest } = plain_commands(sheet, &padded([x, z])).expect("a band");
+    (least, greatest)
+}
+
+#[test]
+fn a_laws_commands_at_a_state() {
+    // (2x - 3z + 1) / 4 within -6..9.
+    let sheet = by_laws(&[(FIRST_EDGE, span(-6, 9), law([2, -3], 1, 4), 1)]);
+    // Whole quotients, and those around a number.
+    assert_eq!(commands_at(&sheet, 0, 3), (-2, -2));
+    assert_eq!(commands_at(&sheet, 4, 3), (0, 0));
+    assert_eq!(commands_at(&sheet, 0, 0), (0, 1));
+    assert_eq!(commands_at(&sheet, 0, 1), (-1, 0));
+    assert_eq!(commands_at(&sheet, -2, 1), (-2, -1));
+    // -7/4 and -5/4 have floor -2, ceil -1.
+    assert_eq!(commands_at(&sheet, -4, 0), (-2, -1));
+    assert_eq!(commands_at(&sheet, -3, 0), (-2, -1));
+    // Clamped at the least command: -23/4, -6 and -25/4 on both sides of it.
+    assert_eq!(commands_at(&sheet, -12, 0), (-6, -5));
+    assert_eq!(commands_at(&sheet, -11, 1), (-6, -6));
+    assert_eq!(commands_at(&sheet, -13, 0), (-6, -6));
+    assert_eq!(commands_at(&sheet, -2_000_000, 2_000_000), (-6, -6));
+    // At the greatest: 35/4, 9, 37/4.
+    assert_eq!(commands_at(&sheet, 17, 0), (8, 9));
+    assert_eq!(commands_at(&sheet, 16, -1), (9, 9));
+    assert_eq!(commands_at(&sheet, 18, 0), (9, 9));
+    assert_eq!(commands_at(&sheet, 1_999_000, -1_999_000), (9, 9));
+}
+
+#[test]
+fn a_safety_range_of_one_command_or_away_from_the_law() {
+    let of = |safety| by_laws(&[(FIRST_EDGE, safety, law([1, 0], 0, 3), 1)]);
+    for x in [-100, -10, -3, 0, 1, 3, 100] {
+        assert_eq!(commands_at(&of(span(2, 2)), x, 0), (2, 2));
+        let floor = (x as i32).div_euclid(3).clamp(-20, 20);
+        assert_eq!(commands_at(&of(span(-20, 20)), x, 0).0, floor);
+    }
+    // A law between 0 and 1: below, within and above the safety range.
+    assert_eq!(commands_at(&of(span(1, 5)), 1, 0), (1, 1));
+    assert_eq!(commands_at(&of(span(0, 5)), 1, 0), (0, 1));
+    assert_eq!(commands_at(&of(span(-5, 1)), 1, 0), (0, 1));
+    assert_eq!(commands_at(&of(span(-5, 0)), 1, 0), (0, 0));
+    assert_eq!(commands_at(&of(span(-5, -2)), 1, 0), (-2, -2));
+}
+
+#[test]
+fn each_band_has_its_law_and_a_bd_sheet_its_safety_range() {
+    let mut sheet = by_laws(&[
+        (FIRST_EDGE, span(-6, 9), law([1, 0], 0, 2), 1),
+        (0, span(-4, 4), law([-1, 0], 0, 1), 1),
+    ]);
+    assert_eq!(commands_at(&sheet, 3, -1), (1, 2));
+    assert_eq!(commands_at(&sheet, 3, 0), (-3, -3));
+    assert_eq!(plain_commands(&sheet, &padded([3, -2_000_001])), None);
+    assert_eq!(sheet.kind(), Kind::Following);
+    sheet.bands[0].law.divisor = 0;
+    assert_eq!(sheet.kind(), Kind::Fixed);
+    assert_eq!(commands_at(&sheet, 3, -1), (-6, 9));
+    assert_eq!(commands_at(&sheet, 3, 0), (-4, 4));
+}
+
+#[test]
+fn a_law_is_bounded_over_the_part_in_its_band() {
+    // x changes by u in the first band, z / 2, and by -2u in the second, z - 10, within -4..6 each.
+    let laws = [law([0, 1], 0, 2), law([0, 1], -10, 1)];
+    let sheet = by_laws(&[
+        (FIRST_EDGE, span(-4, 6), laws[0], 1),
+        (10, span(-4, 6), laws[1], -2),
+    ]);
+    let end = |z: (i64, i64)| {
+        let end = moved(&sheet, sides((0, 0), z));
+        (end.lower[0], end.upper[0])
+    };
+    // Within one band: 3/2 to 4 is 1..4; clamped below, above and at both ends.
+    assert_eq!(end((3, 8)), (1, 4));
+    assert_eq!(end((-50, 3)), (-4, 2));
+    assert_eq!(end((-50, -9)), (-4, -4));
+    assert_eq!(end((11, 50)), (-12, -2));
+    assert_eq!(end((16, 50)), (-12, -12));
+    // Both bands: over 5..9 the first law has 2..5, over 10..12 the second 0..2, so -4..0. Over 5..12
+    // they would have 2..6 and -4..2.
+    assert_eq!(end((5, 12)), (-4, 5));
+    let whole = moved_by::<OverWhole>(&sheet, sides((0, 0), (5, 12)));
+    assert_eq!((whole.lower[0], whole.upper[0]), (-4, 8));
+    // Under a span its ends, in every band.
+    let law = Law::span(span(-1, 2));
+    let spanned = reach(&sheet, 1, 1, law, &sides((0, 0), (5, 12))).unwrap();
+    assert_eq!(spanned.end, sides((-4, 2), (5, 12)));
+}
+
+/// One tick by another rule.
+fn moved_by<W: Watch + Default>(sheet: &Sheet, start: StateBox) -> StateBox {
+    let (mut budget, mut watch) = (Budget::unlimited(), W::default());
+    advance(sheet, Law::Baseline, &start, 1, 1, &mut budget, &mut watch).unwrap()
+}
+
+#[test]
+fn a_faces_own_side_is_cut_before_its_law_is_bounded() {
+    // x from 0 to 100 with cap 10: its lower face looks at 0..20, its upper one at 80..100.
+    let of = |law, b| {
+        let mut sheet = by_laws(&[(FIRST_EDGE, span(-20, 20), law, b)]);
+        sheet.caps[0] = 10;
+        let end = moved(&sheet, sides((0, 100), (3, 5)));
+        (end.lower[0], end.upper[0] - 100)
+    };
+    // -x/10: 0 down to -2 there, -8 down to -10 here; x/10 likewise.
+    assert_eq!(of(law([-1, 0], 0, 10), 1), (-2, -8));
+    assert_eq!(of(law([1, 0], 0, 10), 1), (0, 10));
+    // With b = -1 the other end counts: the greatest of -x/10 over 0..20 is 0, its least over
+    // 80..100 is -10.
+    assert_eq!(of(law([-1, 0], 0, 10), -1), (0, 10));
+    assert_eq!(of(law([1, 0], 0, 10), -1), (-2, -8));
+    // z's sides are not cut: (x + 4z)/10 from 12/10 to 40/10 and from 92/10 to 12.
+    assert_eq!(of(law([1, 4], 0, 10), 1), (1, 10));
+    assert_eq!(of(law([-1, 4], 0, 10), 1), (-1, -6));
+    // Without a term of the command the law has no part in it.
+    assert_eq!(of(law([1_000, 1_000], 5, 1), 0), (0, 0));
+}
+
+/// A face that is cut by its depth and by an edge; the rest of the slab is in the other band.
+#[test]
+fn the_band_variables_law_is_cut_twice() {
+    // z changes by u: -z below 4 and -8 - z from there on, within -20..20.
+    let laws = [law([0, -1], 0, 1), law([0, -1], -8, 1)];
+    let mut sheet = by_laws(&[
+        (FIRST_EDGE, span(-20, 20), laws[0], 0),
+        (4, span(-20, 20), laws[1], 0),
+    ]);
+    for band in &mut sheet.bands[..2] {
+        band.rows[1].b = 1;
+    }
+    // The lower face of 0..40 looks at 0..10: 0 to -3, and -12 to -18. The upper one at 30..40.
+    let end = moved(&sheet, sides((7, 7), (0, 40)));
+    assert_eq!(end, sides((7, 7), (-5, 35)));
+    sheet.caps[1] = 100;
+    let end = moved(&sheet, sides((7, 7), (0, 3)));
+    assert_eq!(end, sides((7, 7), (-3, 3)));
+    let end = moved(&sheet, sides((7, 7), (2, 5)));
+    assert_eq!(end, sides((7, 7), (2 - 13, 3)));
+}
+
+/// The ends that the faces of one round look at.
+#[derive(Default)]
+struct Ends(Vec<(End, i64, Place)>);
+
+impl Watch for Ends {
+    fn command(&mut self, end: CommandEnd) {
+        self.0.push((end.end, end.sum, end.place()));
+    }
+}
+
+#[test]
+fn the_watch_sees_every_end_that_is_needed() {
+    let laws = [law([1, -1], 0, 2), law([0, 3], 0, 1)];
+    let mut sheet = by_laws(&[
+        (FIRST_EDGE, span(-4, 6), laws[0], 1),
+        (10, span(-4, 6), laws[1], -2),
+    ]);
+    let ends = |sheet: &Sheet, law: Law| {
+        let (mut ends, mut budget) = (Ends::default(), Budget::unlimited());
+        let start = sides((0, 3), (8, 12));
+        advance(sheet, law, &start, 1, 1, &mut budget, &mut ends).unwrap();
+        ends.0
+    };
+    // The last band first, over z from 10 to 12: b is below 0, so the lower face needs the greatest
+    // end. Then x - z over 8..9.
+    let expected = [
+        (End::Greatest, 36, Place::Greatest),
+        (End::Least, 30, Place::Greatest),
+        (End::Least, -9, Place::Least),
+        (End::Greatest, -5, Place::Between),
+    ];
+    assert_eq!(ends(&sheet, Law::Baseline), expected);
+    assert_eq!(ends(&sheet, Law::command(3)), []);
+    sheet.bands[0].law.divisor = 0;
+    assert_eq!(ends(&sheet, Law::Baseline), []);
+}
+
+#[test]
+fn ends_around_the_safety_range() {
+    for (safety, divisor) in [(span(-3, 5), 7), (span(-20, 20), 1), (span(2, 2), 4_096)] {
+        let clamp = Clamp::new(divisor, safety);
+        let (least, greatest) = (i64::from(safety.least), i64::from(safety.greatest));
+        let q = i64::from(divisor);
+        for sum in (least - 2) * q..=(greatest + 2) * q {
+            let floor = sum.div_euclid(q).clamp(least, greatest);
+            let ceil = -(-sum).div_euclid(q).clamp(-greatest, -least);
+            assert_eq!(clamp.least_command(sum), floor);
+            assert_eq!(clamp.greatest_command(sum), ceil);
+        }
+    }
+    // The widest safety range, and the greatest sums that a sheet can have.
+    let clamp = Clamp::new(4_096, span(-10_000, 10_000));
+    let far = 6 * 1_000 * 1_999_000 + 100_000_000;
+    assert_eq!(far, 12_094_000_000);
+    assert_eq!(
+        (clamp.least_command(-far), clamp.greatest_command(-far)),
+        (-10_000, -10_000)
+    );
+    assert_eq!(
+        (clamp.least_command(far), clamp.greatest_command(far)),
+        (10_000, 10_000)
+    );
+    let edge = 4_096 * 10_000;
+    assert_eq!(clamp.least_command(edge - 1), 9_999);
+    assert_eq!(clamp.greatest_command(edge - 1), 10_000);
+    assert_eq!(clamp.least_command(1 - edge), -10_000);
+    assert_eq!(clamp.greatest_command(1 - edge), -9_999);
+}
+
+#[test]
+fn lengths_of_both_kinds() {
+    for n in 1..=VARIABLES {
+        for (bands, boxes) in [(1, 1), (1, 8), (3, 2), (8, 8)] {
+            let fixed = sheet::length(Kind::Fixed, n, bands, boxes);
+            let following = sheet::length(Kind::Following, n, bands, boxes);
+            assert_eq!(following, fixed + bands * (2 * n + 6));
+        }
+    }
+    assert_eq!(sheet::length(Kind::Following, 1, 1, 1), 78);
+    let longest = |kind| sheet::length(kind, VARIABLES, BANDS, UNSAFE_BOXES);
+    assert_eq!(longest(Kind::Fixed), 1_746);
+    assert_eq!(longest(Kind::Following), 1_890);
+}
+
+/// The boxes of `sheet_of_three` with two bands, which follow the state.
+fn following_three() -> Sheet {
+    let mut sheet = sheet_of_three();
+    sheet.band_count = 2;
+    sheet.bands[1] = sheet.bands[0];
+    sheet.bands[1].edge = 5;
+    for (band, constant) in sheet.bands.iter_mut().zip([7, -7]) {
+        band.law = law([2, -3], constant, 4);
+    }
+    sheet
+}
+
+/// Where the marks of its two bands stand, and what follows a mark: the law's coefficients, constant
+/// and divisor, and the second row's b.
+const MARKS: [usize; 2] = [24, 80];
+const LAW: usize = 14;
+const CONSTANT: usize = LAW + 4;
+const DIVISOR: usize = LAW + 8;
+const LATER_B: usize = LAW + 10 + 16 + 4;
+
+#[test]
+fn a_band_with_its_law_in_bytes() {
+    let sheet = following_three();
+    let bytes = bytes_of(&sheet);
+    assert_eq!(bytes.len(), 80 + 56 + 4 * 18);
+    for (mark, constant) in MARKS.into_iter().zip([7_i32, -7]) {
+        assert_eq!(bytes[mark..mark + 2], *b"BF");
+        let law = [&[0, 2, 255, 253], &constant.to_be_bytes()[..], &[0, 4]].concat();
+        assert_eq!(bytes[mark + LAW..mark + LAW + 10], law);
+    }
+    let read = sheet::read(&bytes).expect("a sheet");
+    assert!(read == sheet && read.kind() == Kind::Following);
+    // In the numbers: six coefficients, constant and divisor between the safety range and the rows.
+    for (band, constant) in [(15, 7), (86, -7)] {
+        let law = [2, -3, 0, 0, 0, 0, constant, 4];
+        assert_eq!(read.numbers()[band + 3..band + 11], law);
+    }
+    // The same without laws is shorter, and is read with zeros.
+    let mut fixed = sheet;
+    fixed.bands[0].law.divisor = 0;
+    let bytes = bytes_of(&fixed);
+    assert_eq!(bytes.len(), 80 + 56 + 4 * 18 - 2 * 10);
+    assert_eq!(bytes[24..26], *b"BD");
+    let read = sheet::read(&bytes).expect("a sheet");
+    assert!(read == fixed && read.kind() == Kind::Fixed);
+    assert!(read.bands.iter().all(|band| band.law == BandLaw::default()));
+}
+
+/// By which number these bytes are refused; 0 is none.
+fn refused(bytes: &[u8]) -> u8 {
+    sheet::read(bytes).err().map_or(0, Refusal::number)
+}
+
+/// The bytes with others at some places.
+fn with_bytes(bytes: &[u8], others: &[(usize, &[u8])]) -> Vec<u8> {
+    let mut bytes = bytes.to_vec();
+    for (at, new) in others {
+        bytes[*at..at + new.len()].copy_from_slice(new);
+    }
+    bytes
+}
+
+/// `following_three` as it is, and with all marks `BD`.
+fn both_kinds() -> (Vec<u8>, Vec<u8>) {
+    let following = following_three();
+    let mut fixed = following;
+    fixed.bands[0].law.divisor = 0;
+    (bytes_of(&following), bytes_of(&fixed))
+}
+
+#[test]
+fn the_first_mark_fixes_the_length_and_the_other_marks() {
+    let (following, fixed) = both_kinds();
+    let marked = |bytes: &[u8], at, mark: &[u8]| refused(&with_bytes(bytes, &[(at, mark)]));
+    let later = [MARKS[1], MARKS[1] - 10];
+    // The other mark first, with this length.
+    assert_eq!(marked(&following, MARKS[0], b"BD"), 5);
+    assert_eq!(marked(&fixed, MARKS[0], b"BF"), 5);
+    // The other mark later.
+    assert_eq!(marked(&following, later[0], b"BD"), 7);
+    assert_eq!(marked(&fixed, later[1], b"BF"), 7);
+    // A mark of neither kind: first it has the length of `BD`.
+    for other in [b"XY", b"BE", b"FB", b"bf", b"bd", b"NG", b"B\0", b"\0F"] {
+        assert_eq!(marked(&following, MARKS[0], other), 5);
+        assert_eq!(marked(&fixed, MARKS[0], other), 7);
+        assert_eq!(marked(&following, later[0], other), 7);
+        assert_eq!(marked(&fixed, later[1], other), 7);
+    }
+    // Both marks another one, of which the first one counts.
+    for (first, second) in [(b"XY", b"BF"), (b"XY", b"BD"), (b"XY", b"XY")] {
+        let both: [(usize, &[u8]); 2] = [(MARKS[0], first), (later[1], second)];
+        assert_eq!(refused(&with_bytes(&fixed, &both)), 7);
+    }
+}
+
+#[test]
+fn a_file_that_ends_at_the_first_mark() {
+    let (following, fixed) = both_kinds();
+    for bytes in [&following, &fixed] {
+        for end in 20..bytes.len() {
+            assert_eq!(refused(&bytes[..end]), 5, "{end}");
+        }
+        assert_eq!(refused(&[bytes, &[0][..]].concat()), 5);
+    }
+    // The length by both marks with one letter of the mark, with both, and at either length.
+    for end in [MARKS[0], MARKS[0] + 1, MARKS[0] + 2, fixed.len()] {
+        assert_eq!(refused(&following[..end]), 5);
+    }
+    let longer = [&fixed[..], &[0; 20]].concat();
+    assert_eq!(longer.len(), following.len());
+    assert_eq!(refused(&longer), 5);
+    assert_eq!(refused(&following[..19]), 1);
+    // 4 comes before the length, 6 after it, with either mark.
+    let bad_command: (usize, &[u8]) = (16, &[127, 0, 0, 0]);
+    let bad_cap: (usize, &[u8]) = (20, &[0, 0]);
+    for bytes in [&following, &fixed] {
+        let both = with_bytes(bytes, &[bad_command, bad_cap]);
+        assert_eq!(refused(&both[..MARKS[0] + 1]), 4);
+        let cap = with_bytes(bytes, &[bad_cap]);
+        assert_eq!(refused(&cap[..MARKS[0] + 1]), 5);
+        assert_eq!(refused(&cap), 6);
+    }
+}
+
+/// A law's numbers at and beyond their ends: place after the mark, bytes, refusal.
+fn law_numbers() -> Vec<(usize, Vec<u8>, u8)> {
+    let two = |value: i32| (value as u16).to_be_bytes().to_vec();
+    let four = |value: i32| value.to_be_bytes().to_vec();
+    let mut list = Vec::new();
+    for (value, number) in [(-1_001, 10), (-1_000, 0), (1_000, 0), (1_001, 10)] {
+        list.push((LAW, two(value), number));
+        list.push((LAW + 2, two(value), number));
+        list.push((CONSTANT, four(value * 100_000), number));
+    }
+    list.push((CONSTANT, four(-100_000_001), 10));
+    list.push((CONSTANT, four(100_000_001), 10));
+    for (value, number) in [(0, 10), (1, 0), (4_096, 0), (4_097, 10), (-1, 10)] {
+        list.push((DIVISOR, two(value), number));
+    }
+    list
+}
+
+#[test]
+fn law_numbers_at_their_ends() {
+    let (following, fixed) = both_kinds();
+    for mark in MARKS {
+        for (at, new, number) in law_numbers() {
+            let bytes = with_bytes(&following, &[(mark + at, &new)]);
+            assert_eq!(refused(&bytes), number, "{mark} {at} {new:?}");
+            let Ok(read) = sheet::read(&bytes) else {
+                continue;
+            };
+            let mut written = vec![0; bytes.len()];
+            assert_eq!(sheet::write(&read, &mut written, 0), Ok(bytes.len()));
+            assert_eq!(written, bytes);
+        }
+    }
+    // A `BD` sheet has rows at these places.
+    assert_eq!(
+        refused(&with_bytes(&fixed, &[(MARKS[0] + LAW, &[3, 233])])),
+        10
+    );
+}
+
+/// Damages of `following_three` in the order in which they are found, but for two at one place.
+fn damages_with_laws() -> Vec<Damage> {
+    let int = |value: i32| value.to_be_bytes().to_vec();
+    let mut list = vec![
+        (1, 0, b"XH".to_vec()),
+        (2, 2, vec![7]),
+        (3, 10, vec![0, 0]),
+        (4, 16, int(10_001)),
+        (5, MARKS[0], b"BD".to_vec()),
+        (6, 22, vec![3, 233]),
+    ];
+    for (k, mark) in MARKS.into_iter().enumerate() {
+        if k > 0 {
+            list.push((7, mark, b"BD".to_vec()));
+        }
+        list.push((8, mark + 2, int(2_000_001)));
+        list.push((9, mark + 6, int(1)));
+        list.push((10, mark + LAW, vec![3, 233]));
+        list.push((10, mark + LAW + 2, vec![252, 23]));
+        list.push((10, mark + CONSTANT, int(100_000_001)));
+        list.push((10, mark + DIVISOR, vec![0, 0]));
+        list.push((10, mark + LATER_B, vec![3, 233]));
+    }
+    let sheet = following_three();
+    list.push((7, record(&sheet, 0), b"BF".to_vec()));
+    list.push((11, record(&sheet, 0) + 14, int(2_000_001)));
+    list.push((20, record(&sheet, 1) + 2, int(-100)));
+    list.push((22, record(&sheet, 3) + 6, int(10)));
+    list
+}
+
+#[test]
+fn the_readers_order_with_laws() {
+    let bytes = bytes_of(&following_three());
+    let damages = damages_with_laws();
+    let damaged = |damages: &[&Damage]| {
+        let others: Vec<(usize, &[u8])> = damages.iter().map(|d| (d.1, &d.2[..])).collect();
+        refused(&with_bytes(&bytes, &others))
+    };
+    assert_eq!(damaged(&[]), 0);
+    for (i, first) in damages.iter().enumerate() {
+        assert_eq!(damaged(&[first]), first.0, "{first:?}");
+        for second in &damages[i + 1..] {
+            assert_eq!(damaged(&[first, second]), first.0, "{first:?} {second:?}");
+        }
+    }
+}
+
+/// Slots of the values: the first band, and in a band the law.
+const BAND_SLOTS: usize = 15;
+const BAND_SIZE: usize = 71;
+const LAW_SLOTS: usize = 3;
+const DIVISOR_SLOT: usize = LAW_SLOTS + 7;
+
+/// The writer's refusal of `following_three` with other numbers in some slots, with room or without.
+fn written_with(others: &[(usize, i32)], room: usize) -> u8 {
+    let mut numbers = following_three().numbers();
+    for &(slot, number) in others {
+        numbers[slot] = number;
+    }
+    let mut buffer = vec![7; room];
+    let written = sheet::write(&Sheet::from_numbers(&numbers), &mut buffer, 0);
+    assert!(written.is_ok() || buffer == vec![7; room]);
+    written.err().map_or(0, Refusal::number)
+}
+
+#[test]
+fn the_writer_and_law_numbers() {
+    let length = following_three().length();
+    let with = |others: &[(usize, i32)]| {
+        let number = written_with(others, length);
+        // Room comes last.
+        assert_eq!(
+            written_with(others, 0),
+            if number == 0 { 17 } else { number }
+        );
+        number
+    };
+    assert_eq!(with(&[]), 0);
+    for k in 0..2 {
+        let at = BAND_SLOTS + k * BAND_SIZE;
+        let law = at + LAW_SLOTS;
+        for (slot, value, number) in [
+            (law, -1_001, 10),
+            (law, -1_000, 0),
+            (law + 1, 1_000, 0),
+            (law + 1, 1_001, 10),
+            // Beyond n.
+            (law + 2, 1_001, 0),
+            (law + 5, i32::MIN, 0),
+            (law + 6, -100_000_001, 10),
+            (law + 6, -100_000_000, 0),
+            (law + 6, 100_000_000, 0),
+            (law + 6, 100_000_001, 10),
+            (law + 7, -1, 10),
+            (law + 7, 1, 0),
+            (law + 7, 4_096, 0),
+            (law + 7, 4_097, 10),
+            (law + 7, 65_540, 10),
+            (law + 7, i32::MIN, 10),
+        ] {
+            assert_eq!(with(&[(slot, value)]), number, "{slot} {value}");
+        }
+        // After the safety range, before the next band.
+        let bad = (law + 7, 4_097);
+        assert_eq!(with(&[bad, (at, 2_000_001)]), 8);
+        assert_eq!(with(&[bad, (at + 1, 9)]), 9);
+        assert_eq!(with(&[bad, (at + 2, -9)]), 9);
+        assert_eq!(with(&[bad, (at + 11, 1_001)]), 10);
+    }
+    let second = BAND_SLOTS + BAND_SIZE;
+    assert_eq!(with(&[(BAND_SLOTS + LAW_SLOTS, 1_001), (second, 0)]), 10);
+    assert_eq!(with(&[(second + DIVISOR_SLOT, 0), (second, -2_000_000)]), 8);
+    // A later band's divisor 0 is a bad one.
+    assert_eq!(with(&[(second + DIVISOR_SLOT, 0)]), 10);
+    // Beyond the count no law number is looked at.
+    assert_eq!(with(&[(second + BAND_SIZE + DIVISOR_SLOT, -1)]), 0);
+}
+
+#[test]
+fn a_value_with_the_first_divisor_0_has_no_law() {
+    let (_, fixed) = both_kinds();
+    let mut numbers = following_three().numbers();
+    for k in 0..BANDS {
+        let law = BAND_SLOTS + k * BAND_SIZE + LAW_SLOTS;
+        numbers[law..law + 8].fill(i32::MIN + k as i32);
+    }
+    numbers[BAND_SLOTS + DIVISOR_SLOT] = 0;
+    let rubbish = Sheet::from_numbers(&numbers);
+    assert_eq!(rubbish.kind(), Kind::Fixed);
+    let mut written = vec![0; fixed.len()];
+    assert_eq!(sheet::write(&rubbish, &mut written, 0), Ok(fixed.len()));
+    assert_eq!(written, fixed);
+    let read = sheet::read(&fixed).expect("a sheet");
+    assert!(read == rubbish);
+    assert!(read != following_three());
+    // The same answers, at each state and to a question.
+    let question = Question {
+        allowance: 100,
+        span: CommandRange::default(),
+        measured: sides((-950, -940), (2, 8)),
+    };
+    let answer = |sheet| decide_watched(sheet, &question, Faults::default(), &mut NoWatch);
+    assert_eq!(answer(&rubbish), answer(&read));
+    assert_eq!(plain_commands(&rubbish, &padded([1, 2])), Some(span(0, 0)));
+}
+
+#[test]
+fn sameness_with_laws() {
+    let sheet = following_three();
+    for slot in BAND_SLOTS..BAND_SLOTS + 3 * BAND_SIZE {
+        let (k, inner) = (
+            (slot - BAND_SLOTS) / BAND_SIZE,
+            (slot - BAND_SLOTS) % BAND_SIZE,
+        );
+        if !(LAW_SLOTS..LAW_SLOTS + 8).contains(&inner) {
+            continue;
+        }
+        let mut numbers = sheet.numbers();
+        numbers[slot] += 1;
+        let beyond = k == 2 || (LAW_SLOTS + 2..LAW_SLOTS + 6).contains(&inner);
+        assert_eq!(Sheet::from_numbers(&numbers) == sheet, beyond, "{slot}");
+    }
+}
+
+/// Guards with another rule for the ends of a law's commands.
+macro_rules! guards_by_rules {
+    ($($name:ident $rule:ident),*) => {$(
+        #[derive(Default)]
+        struct $name;
+
+        impl Watch for $name {
+            const RULE: Rule = Rule::$rule;
+        }
+    )*};
+}
+
+guards_by_rules!(
+    ByParts Parts,
+    OverWhole LawOverWhole,
+    InTheMiddle LawInTheMiddle,
+    FromItsLeast LawFromItsLeast,
+    WithinTheHead LawWithinTheHead
+);
+
+/// A machine of n variables and some bands whose laws follow the state, with a no-go box beside its
+/// recovery box on either side.
+fn law_machine(numbers: &mut Numbers, n: usize) -> Sheet {
+    let mut sheet = still(n, &[]);
+    (sheet.delta, sheet.alpha) = (numbers.between(1, 3), numbers.between(1, 4));
+    sheet.rho = numbers.between(1, 8);
+    sheet.commands = span(-9, 9);
+    sheet.band_variable = numbers.between(0, n as i32 - 1);
+    sheet.band_count = numbers.between(1, 3);
+    for (k, band) in sheet.bands[..3].iter_mut().enumerate() {
+        band.edge = [FIRST_EDGE, -4, 5][k];
+        let least = numbers.between(-9, 9);
+        band.safety = span(least, numbers.between(least, 9));
+        band.law = law([(); VARIABLES].map(|()| numbers.between(-6, 6)), 0, 1);
+        (band.law.constant, band.law.divisor) = (numbers.between(-40, 40), numbers.between(1, 12));
+        for (i, row) in band.rows.iter_mut().enumerate() {
+            row.a[i] = numbers.between(-6, 0);
+            (row.b, row.d, row.q) = (numbers.between(-9, 9), numbers.between(0, 3), 16);
+        }
+    }
+    sheet.recovery = box_of(&[(-20, 20); VARIABLES][..n]);
+    sheet.unsafe_count = 2;
+    sheet.unsafe_boxes[..2].fill(box_of(&[(-60, 60); VARIABLES][..n]));
+    for (unsafe_box, beside) in sheet.unsafe_boxes.iter_mut().zip([(-60, -26), (26, 60)]) {
+        (unsafe_box.lower[0], unsafe_box.upper[0]) = beside;
+    }
+    sheet
+}
+
+/// Such a machine with its recovery box anywhere.
+fn law_machine_anywhere(numbers: &mut Numbers, n: usize) -> Sheet {
+    let mut sheet = law_machine(numbers, n);
+    for i in 0..n {
+        let lower = numbers.between(-25, 0);
+        sheet.recovery.lower[i] = lower.into();
+        sheet.recovery.upper[i] = (lower + numbers.between(12, 40)).into();
+    }
+    sheet
+}
+
+/// Any question about such a machine.
+fn any_question(numbers: &mut Numbers, n: usize) -> Question {
+    let least = numbers.between(-9, 9);
+    Question {
+        allowance: 1_000_000,
+        span: span(least, numbers.between(least, 9)),
+        measured: box_of(&[(); VARIABLES].map(|()| numbers.pair((-20, 10), 12))[..n]),
+    }
+}
+
+/// A run as in `comes_back`, in which each variable takes all its least or all its greatest changes and
+/// each tick the least or the greatest command of its law.
+fn leans_back(numbers: &mut Numbers, sheet: &Sheet, question: &Question) -> bool {
+    let mut either = || numbers.between(0, 1) as usize;
+    let at = &question.measured;
+    let mut state: State = std::array::from_fn(|i| [at.lower[i], at.upper[i]][either()]);
+    let (leans, end) = ([(); VARIABLES].map(|()| either()), either());
+    for time in 0..sheet.delta + sheet.alpha {
+        let commands = if time < sheet.delta {
+            question.span
+        } else {
+            plain_commands(sheet, &state).expect("a band")
+        };
+        let (command, before) = ([commands.least, commands.greatest][end], state);
+        for i in 0..sheet.n() {
+            let changes = allowed_change(sheet, &before, command, i).expect("a band");
+            state[i] += [changes.0, changes.1][leans[i]];
+        }
+        if sheet.unsafe_boxes().iter().any(|u| u.holds(&state)) {
+            return false;
+        }
+    }
+    sheet.recovery.holds(&state)
+}
+
+/// What a guard with some rule does on machines with laws: its decisions, and how many runs were made
+/// behind its keeps and how many of them went wrong.
+#[derive(Default)]
+struct Judged {
+    decisions: Vec<Decision>,
+    made: u32,
+    wrong: u32,
+}
+
+fn judged<W: Watch + Default>() -> Judged {
+    let (mut numbers, mut judged) = (Numbers(9), Judged::default());
+    for turn in 0..12_000 {
+        let n = turn % VARIABLES + 1;
+        let sheet = law_machine_anywhere(&mut numbers, n);
+        let question = any_question(&mut numbers, n);
+        let decision = decide_watched(&sheet, &question, Faults::default(), &mut W::default());
+        judged.decisions.push(decision);
+        // The same numbers for each rule, whatever it keeps.
+        let mut run_numbers = Numbers(turn as u64);
+        let kept = matches!(decision, Decision::Keep { .. });
+        for _ in 0..if kept { 20 } else { 0 } {
+            judged.made += 1;
+            judged.wrong += u32::from(!leans_back(&mut run_numbers, &sheet, &question));
+        }
+    }
+    judged
+}
+
+#[test]
+fn behind_a_keep_any_plain_command_may_be_used() {
+    let right = judged::<ByParts>();
+    assert!(
+        right.made > 10_000 && right.wrong == 0,
+        "{} {}",
+        right.made,
+        right.wrong
+    );
+    for wrong in [
+        judged::<InTheMiddle>(),
+        judged::<FromItsLeast>(),
+        judged::<WithinTheHead>(),
+    ] {
+        assert!(wrong.wrong > 10, "{} {}", wrong.made, wrong.wrong);
+        assert!(wrong.decisions != right.decisions);
+    }
+    // Over the whole neighborhood no state is lost, but the answers are others.
+    let wider = judged::<OverWhole>();
+    assert_eq!(wider.wrong, 0);
+    let pairs = right.decisions.iter().zip(&wider.decisions);
+    assert!(pairs.filter(|(right, wider)| right != wider).count() > 20);
+}
+
+/// Ticks of the plain law from a state, or of the span where there is one. Answers whether the machine
+/// kept clear of the no-go boxes.
+fn stays_clear(
+    numbers: &mut Numbers,
+    sheet: &Sheet,
+    state: &mut State,
+    kept: Option<CommandRange>,
+) -> bool {
+    for _ in 0..sheet.delta {
+        let plain = plain_commands(sheet, state).expect("a band");
+        let commands = kept.unwrap_or(plain);
+        let command = numbers.between(commands.least, commands.greatest);
+        tick(numbers, sheet, state, command);
+        if sheet.unsafe_boxes().iter().any(|u| u.holds(state)) {
+            return false;
+        }
+    }
+    true
+}
+
+/// A question whose measured box holds the state.
+fn question_around(numbers: &mut Numbers, n: usize, state: &State) -> Question {
+    let mut question = any_question(numbers, n);
+    for (i, &x) in state.iter().enumerate().take(n) {
+        question.measured.lower[i] = x - i64::from(numbers.between(0, 2));
+        question.measured.upper[i] = x + i64::from(numbers.between(0, 2));
+    }
+    question
+}
+
+#[test]
+fn whole_runs_of_machines_with_laws_stay_clear() {
+    let (mut numbers, mut kept, mut handed_over) = (Numbers(10), 0, 0);
+    for turn in 0..3_000 {
+        let n = turn % VARIABLES + 1;
+        let sheet = law_machine(&mut numbers, n);
+        let check = check_recovery_watched(&sheet, &mut NoWatch);
+        if !matches!(check, RecoveryCheck::Pass { .. }) {
+            continue;
+        }
+        let mut state = State::default();
+        for x in &mut state[..n] {
+            *x = numbers.between(-20, 20).into();
+        }
+        for _ in 0..40 {
+            let question = question_around(&mut numbers, n, &state);
+            let decision = decide_watched(&sheet, &question, Faults::default(), &mut NoWatch);
+            let keep = matches!(decision, Decision::Keep { .. });
+            *if keep { &mut kept } else { &mut handed_over } += 1;
+            let span = keep.then_some(question.span);
+            assert!(stays_clear(&mut numbers, &sheet, &mut state, span));
+        }
+    }
+    assert!(kept > 1_000 && handed_over > 100, "{kept} {handed_over}");
 }
