@@ -25,11 +25,12 @@ const HEAD: usize = 20;
 /// How many numbers `Sheet::numbers` lists, and where its parts begin.
 pub const NUMBERS: usize = 691;
 const CAPS_AT: usize = 9;
-const BANDS_AT: usize = CAPS_AT + VARIABLES;
-const LAW_AT: usize = 3;
+pub const BANDS_AT: usize = CAPS_AT + VARIABLES;
+/// In a band: its law and its rows.
+pub const LAW_AT: usize = 3;
 const ROWS_AT: usize = LAW_AT + VARIABLES + 2;
 const ROW_NUMBERS: usize = VARIABLES + 4;
-const BAND_NUMBERS: usize = ROWS_AT + VARIABLES * ROW_NUMBERS;
+pub const BAND_NUMBERS: usize = ROWS_AT + VARIABLES * ROW_NUMBERS;
 const RECOVERY_AT: usize = BANDS_AT + BANDS * BAND_NUMBERS;
 pub const UNSAFE_AT: usize = RECOVERY_AT + 2 * VARIABLES;
 
@@ -137,7 +138,7 @@ impl Kind {
     }
 
     /// The bytes of a band's law.
-    fn law_length(self, n: usize) -> usize {
+    pub fn law_length(self, n: usize) -> usize {
         match self {
             Kind::Fixed => 0,
             Kind::Following => 2 * n + 6,

@@ -2,14 +2,15 @@
 //! Each one names what it covers, and the program stops where it does not cover it.
 
 use second_guard::boxes::{StateBox, VARIABLES};
-use second_guard::changes::{At, Change, Place, ALL_AT};
+use second_guard::changes::{At, Change, CommandEnd, End, Place, ALL_AT};
 use second_guard::decision::{
     check_recovery_watched, decide, decide_watched, read_question, Bounded, Decision, Faults,
     Question, RecoveryCheck,
 };
 use second_guard::neighborhoods::{neighborhoods, Face};
 use second_guard::reach::{advance, reach, Budget, Law, Step, Watch};
-use second_guard::sheet::{self, Band, CommandRange, Row, Sheet};
+use second_guard::rules::Rule;
+use second_guard::sheet::{self, Band, BandLaw, CommandRange, Kind, Row, Sheet};
 use second_guard::whole::WholeNeighborhoods;
 use std::fmt::Write;
 use std::ops::ControlFlow;
@@ -75,6 +76,12 @@ enum Covers {
     CommandBackward,
     /// A guard that bounds only so much of a span has another answer.
     OtherIfBounded(Bounded),
+    /// Bands `BF`, whose laws follow the state.
+    Following,
+    /// An end of a law's commands that lies there in the safety range.
+    LawEnd(End, Place),
+    /// A guard that bounds a law by another rule has another answer.
+    OtherIfLaw(Rule),
     Refused(u8),
 }
 
@@ -84,6 +91,7 @@ impl Covers {
     fn text(self) -> String {
         match self {
             Covers::Variables(n) => format!("n = {n}"),
+            Covers::BandsMet(1) => "a neighborhood over one band".into(),
             Covers::BandsMet(bands) => format!("a neighborhood over {bands} bands"),
             Covers::CutTwice => CUT_TWICE.into(),
             Covers::EndsAtEdge => "a neighborhood up to an edge".into(),
@@ -124,7 +132,34 @@ impl Covers {
             Covers::CommandForward => "a row with b above 0".into(),
             Covers::CommandBackward => "a row with b below 0".into(),
             Covers::OtherIfBounded(bounded) => other_if_text(bounded).into(),
+            Covers::Following => "bands with laws".into(),
+            Covers::LawEnd(end, place) => law_end_text(end, place),
+            Covers::OtherIfLaw(rule) => other_rule_text(rule).into(),
         }
+    }
+}
+
+fn law_end_text(end: End, place: Place) -> String {
+    let end = match end {
+        End::Least => "least",
+        End::Greatest => "greatest",
+    };
+    match place {
+        Place::Least => format!("a law's {end} command clamped to the least"),
+        Place::Between => format!("a law's {end} command not clamped"),
+        Place::Greatest => format!("a law's {end} command clamped to the greatest"),
+    }
+}
+
+/// The rule of a wrong guard that answers otherwise.
+fn other_rule_text(rule: Rule) -> &'static str {
+    match rule {
+        Rule::Parts => "another answer by the rule itself",
+        Rule::Whole => "another answer by rows and laws over whole neighborhoods",
+        Rule::LawOverWhole => "another answer by laws over whole neighborhoods",
+        Rule::LawInTheMiddle => "another answer by laws in the middle of a part",
+        Rule::LawFromItsLeast => "another answer by the least of a law's sum alone",
+        Rule::LawWithinTheHead => "another answer by laws clamped to the head's commands",
     }
 }
 
@@ -154,6 +189,8 @@ const REQUIRED: &[Covers] = &[
     Covers::Variables(2),
     Covers::Variables(3),
     Covers::Variables(4),
+    Covers::Variables(5),
+    Covers::Variables(6),
     Covers::BandsMet(2),
     Covers::BandsMet(3),
     Covers::CutTwice,
@@ -194,6 +231,17 @@ const REQUIRED: &[Covers] = &[
     Covers::OtherIfBounded(Bounded::Inner),
     Covers::OtherIfBounded(Bounded::Least),
     Covers::OtherIfBounded(Bounded::Greatest),
+    Covers::Following,
+    Covers::LawEnd(End::Least, Place::Least),
+    Covers::LawEnd(End::Least, Place::Between),
+    Covers::LawEnd(End::Least, Place::Greatest),
+    Covers::LawEnd(End::Greatest, Place::Least),
+    Covers::LawEnd(End::Greatest, Place::Between),
+    Covers::LawEnd(End::Greatest, Place::Greatest),
+    Covers::OtherIfLaw(Rule::LawOverWhole),
+    Covers::OtherIfLaw(Rule::LawInTheMiddle),
+    Covers::OtherIfLaw(Rule::LawFromItsLeast),
+    Covers::OtherIfLaw(Rule::LawWithinTheHead),
 ];
 
 /// The most rounds an example may take.
@@ -209,6 +257,7 @@ struct Counts {
     clamped: u64,
     unclamped: u64,
     changes: Vec<Change>,
+    law_ends: Vec<(End, Place)>,
     halvings: u32,
     most_halvings: u32,
     steps: Vec<Step>,
@@ -240,6 +289,10 @@ impl Watch for Counts {
             Place::Least | Place::Greatest => self.clamped += 1,
         }
         self.changes.push(change);
+    }
+
+    fn command(&mut self, end: CommandEnd) {
+        self.law_ends.push((end.end, end.place()));
     }
 
     fn halved(&mut self, _ticks: u32) {
@@ -311,6 +364,22 @@ fn band<const N: usize>(edge: i32, safety: (i32, i32), rows: [Row; N]) -> Band {
         ..Band::default()
     };
     band.rows[..N].copy_from_slice(&rows);
+    band
+}
+
+/// The band with the law (Σ coefficient·x + constant)/divisor.
+fn led<const N: usize>(
+    mut band: Band,
+    coefficients: [i32; N],
+    constant: i32,
+    divisor: i32,
+) -> Band {
+    band.law = BandLaw {
+        constant,
+        divisor,
+        ..BandLaw::default()
+    };
+    band.law.coefficients[..N].copy_from_slice(&coefficients);
     band
 }
 
@@ -1201,6 +1270,199 @@ fn spans_of_machines() -> Vec<Example> {
     ]
 }
 
+/// One variable that changes by the command, from 4..9. The coach leaves it; the plain law has these
+/// bands.
+fn drawn(bands: &[Band], recovery: (i64, i64)) -> (Sheet, Call) {
+    let mut sheet = with(
+        head(0, (1, 1, 1), (-9, 9), [9]),
+        [],
+        [sides([(100, 200)])],
+        sides([recovery]),
+    );
+    sheet.band_count = bands.len() as i32;
+    sheet.bands[..bands.len()].copy_from_slice(bands);
+    (sheet, ask(10, 0, sides([(4, 9)])))
+}
+
+/// -x/2 within a safety range: from 4..9 to -1..7 where it does not clamp. In two bands from 7 on 4 - x:
+/// over its part, 7..9, from -5 to -3, over 4..9 from -5 to 0.
+fn drawn_by_laws() -> Vec<Example> {
+    use Covers::*;
+    let from = |edge, safety| band(edge, safety, [row([0], 1, 0, 0, 1)]);
+    let half = |safety| led(from(FIRST, safety), [-1], 0, 2);
+    let asked = |name, bands: &[Band], recovery, covers: &[Covers]| {
+        let (sheet, call) = drawn(bands, recovery);
+        example(name, sheet, call, covers)
+    };
+    let free = &[half((-9, 9))];
+    let parts = &[half((-9, 9)), led(from(7, (-9, 9)), [-1], 4, 1)];
+    let (unclamped, other) = (LawEnd(End::Least, Place::Between), OtherIfLaw);
+    let clamped = LawEnd(End::Greatest, Place::Least);
+    let middle = &[Finest, unclamped, other(Rule::LawInTheMiddle)];
+    let least = &[Finest, Following, other(Rule::LawFromItsLeast)];
+    let head = &[Finest, clamped, other(Rule::LawWithinTheHead)];
+    let whole = &[Keep, BandsMet(2), other(Rule::LawOverWhole)];
+    vec![
+        asked("law_kept", free, (-1, 7), &[Keep, Following, unclamped]),
+        asked("law_below_its_middle", free, (0, 7), middle),
+        asked("law_above_its_least", free, (-1, 6), least),
+        asked("law_clamped_to_its_band", &[half((1, 9))], (-1, 7), head),
+        asked("law_over_its_parts", parts, (-1, 7), whole),
+    ]
+}
+
+/// Two handles with place, speed and pull each, and three bands of the first pull. The plain law follows
+/// the state.
+fn column() -> Sheet {
+    let rows = |own| {
+        [
+            row([-3, 1, 0, 0, 0, 0], 5, 0, 1, 16),
+            row([1, -4, 0, 0, 0, 0], -3, 2, 0, 16),
+            row([0, 0, own, 1, 0, 0], 1, 0, 2, 16),
+            row([0, 0, 0, -3, 1, 0], 2, -1, 0, 16),
+            row([0, 0, 0, 1, -4, 0], -6, 0, 1, 16),
+            row([0, 1, 0, 0, 0, -4], 0, 0, 0, 16),
+        ]
+    };
+    let low = band(FIRST, (-6, 6), rows(-3));
+    let middle = band(-6, (-3, 4), rows(-4));
+    let high = band(9, (-2, -1), rows(-5));
+    with(
+        head(2, (1, 1, 1), (-20, 20), [4; 6]),
+        [
+            led(low, [-2, 0, -1, 0, 0, 1], 5, 3),
+            led(middle, [-1, 1, 0, -2, 0, 1], -4, 4),
+            led(high, [0, -3, -1, 0, 2, 0], 1, 2),
+        ],
+        [sides([(100, 200); 6])],
+        sides([(-30, 30); 6]),
+    )
+}
+
+/// A reach of the column under the plain law, whose law has ends at these places.
+fn column_reach(
+    name: &'static str,
+    (ticks, width): (u32, u32),
+    start: [(i64, i64); 6],
+    (bands, least, greatest): (usize, Place, Place),
+    other: Rule,
+) -> Example {
+    use Covers::*;
+    let call = Call::Reach {
+        ticks,
+        width,
+        law: Law::Baseline,
+        start: sides(start),
+    };
+    let ends = [LawEnd(End::Least, least), LawEnd(End::Greatest, greatest)];
+    let covers = [
+        Variables(6),
+        BandsMet(bands),
+        ends[0],
+        ends[1],
+        OtherIfLaw(other),
+    ];
+    example(name, column(), call, &covers)
+}
+
+/// Its boxes over one, two and three bands, and its answers.
+fn columns() -> Vec<Example> {
+    use Covers::*;
+    use Place::{Between, Greatest, Least};
+    let near = [(0, 2), (-1, 1), (0, 3), (-2, 0), (1, 2), (-3, -3)];
+    let far = [(20, 30), (0, 3), (0, 4), (2, 3), (0, 0), (1, 2)];
+    let over_two = [(-30, -20), (4, 9), (-9, -2), (0, 6), (-5, 5), (7, 8)];
+    let over_three = [(-2, 2), (-3, 3), (-8, 10), (-1, 2), (0, 1), (-2, 2)];
+    let middle = Rule::LawInTheMiddle;
+    let (whole, head) = (Rule::LawOverWhole, Rule::LawWithinTheHead);
+    let (free, low) = ((1, Between, Between), (1, Least, Least));
+    let (high, both) = ((2, Greatest, Greatest), (3, Least, Greatest));
+    let commanded = Call::Reach {
+        ticks: 1,
+        width: 1,
+        law: Law::command(7),
+        start: sides(over_three),
+    };
+    let asked = ask(10, 9, sides(near));
+    vec![
+        column_reach("column_with_free_laws", (1, 1), near, free, middle),
+        column_reach("column_at_its_least", (1, 1), far, low, head),
+        column_reach("column_at_its_greatest", (1, 1), over_two, high, head),
+        column_reach("column_over_three_bands", (2, 2), over_three, both, whole),
+        example(
+            "column_commanded",
+            column(),
+            commanded,
+            &[UnderCommand, Following],
+        ),
+        example("column_kept", column(), asked, &[Keep, Variables(6)]),
+        example(
+            "column_check",
+            column(),
+            Call::Check,
+            &[CheckPasses, Variables(6)],
+        ),
+    ]
+}
+
+/// Five variables in a chain that the plain law draws to 0 and pushes away, in two bands of the last one.
+fn pulley(recovery: (i64, i64)) -> Sheet {
+    let rows = |push| {
+        [
+            row([-3, 1, 0, 0, 0], push, 0, 0, 16),
+            row([1, -4, 1, 0, 0], 1, 2, 1, 16),
+            row([0, 1, -4, 1, 0], -push, 0, 2, 16),
+            row([0, 0, 1, -4, 1], 2, -1, 0, 16),
+            row([0, 0, 0, 1, -3], -1, 0, 3, 16),
+        ]
+    };
+    with(
+        head(4, (1, 2, 2), (-15, 15), [4; 5]),
+        [
+            led(band(FIRST, (-9, 9), rows(3)), [-2, 0, 1, 0, 1], 0, 4),
+            led(band(5, (-2, 7), rows(-2)), [1, -1, 0, 2, 0], 6, 5),
+        ],
+        [sides([
+            (60, 90),
+            (-90, 90),
+            (-90, 90),
+            (-90, 90),
+            (-90, 90),
+        ])],
+        sides([recovery; 5]),
+    )
+}
+
+/// Its answers.
+fn pulleys() -> Vec<Example> {
+    use Covers::*;
+    let box_at = sides([(-2, 3), (0, 5), (-4, 0), (1, 2), (3, 7)]);
+    let asked = |name, recovery, allowance, covers| {
+        example(name, pulley(recovery), ask(allowance, 10, box_at), covers)
+    };
+    let wide = (-40, 40);
+    let mut refused = pulley(wide);
+    refused.bands[1].rows[4].q = 4_097;
+    vec![
+        asked("pulley_kept", wide, 100, &[Keep, Variables(5), BandsMet(2)]),
+        asked("pulley_over", (-8, 8), 100, &[Finest, Variables(5)]),
+        asked("pulley_spent", wide, 3, &[Spent, Variables(5)]),
+        example(
+            "pulley_span",
+            pulley(wide),
+            ask_span(100, (-9, 12), box_at),
+            &[Keep, WiderSpan],
+        ),
+        example(
+            "pulley_check_fails",
+            pulley((-9, 9)),
+            Call::Check,
+            &[CheckFails],
+        ),
+        example("pulley_refused", refused, Call::Check, &[Refused(10)]),
+    ]
+}
+
 fn hex(bytes: &[u8]) -> String {
     bytes.iter().fold(String::new(), |mut text, byte| {
         let _ = write!(text, "{byte:02x}");
@@ -1248,10 +1510,11 @@ fn sheet_bytes(sheet: &Sheet) -> Vec<u8> {
     sheet::write(&allowed, &mut bytes, 0).expect("only these values are beyond their bounds");
     let n = sheet.n();
     let row_length = 2 * n + 12;
-    let band_length = 14 + n * row_length;
+    let rows_at = 14 + sheet.kind().law_length(n);
+    let band_length = rows_at + n * row_length;
     for (k, band) in sheet.bands().iter().enumerate() {
         for (i, row) in band.rows[..n].iter().enumerate() {
-            let end = 20 + 2 * n + k * band_length + 14 + (i + 1) * row_length;
+            let end = 20 + 2 * n + k * band_length + rows_at + (i + 1) * row_length;
             bytes[end - 2..end].copy_from_slice(&(row.q as u16).to_be_bytes());
         }
     }
@@ -1315,10 +1578,37 @@ fn checked(check: RecoveryCheck) -> (u8, u32, u64) {
     }
 }
 
-/// The code before paper 3: of a reach 0 where it had the same end box.
-fn code_before(example: &Example, answer: &Answer) -> u8 {
+/// Guards that bound a law by another rule.
+macro_rules! guards_by_rules {
+    ($($rule:ident),*) => {
+        $(
+            struct $rule;
+
+            impl Watch for $rule {
+                const RULE: Rule = Rule::$rule;
+            }
+        )*
+
+        /// The code by another rule, as below.
+        fn code_by_rule(rule: Rule, example: &Example, answer: &Answer) -> u8 {
+            match rule {
+                $(Rule::$rule => code_by(&mut $rule, example, answer),)*
+                _ => panic!("no wrong rule for a law"),
+            }
+        }
+    };
+}
+
+guards_by_rules!(
+    LawOverWhole,
+    LawInTheMiddle,
+    LawFromItsLeast,
+    LawWithinTheHead
+);
+
+/// The code of a guard: of a reach 0 where it has the same end box.
+fn code_by<W: Watch>(watch: &mut W, example: &Example, answer: &Answer) -> u8 {
     let sheet = &example.sheet;
-    let watch = &mut WholeNeighborhoods;
     match example.call {
         Call::Decide(_, question) => {
             decided(decide_watched(sheet, &question, Faults::default(), watch)).0
@@ -1441,7 +1731,7 @@ fn shows(covers: Covers, example: &Example, answer: &Answer) -> bool {
     let checks = matches!(example.call, Call::Check);
     let decided = |code| decides && answer.code == code;
     let checked = |code| checks && answer.code == code;
-    let before = || code_before(example, answer);
+    let before = || code_by(&mut WholeNeighborhoods, example, answer);
     let allowance = match example.call {
         Call::Decide(_, question) => u64::from(question.allowance),
         _ => u64::MAX,
@@ -1517,6 +1807,9 @@ fn shows(covers: Covers, example: &Example, answer: &Answer) -> bool {
         Covers::OtherIfBounded(bounded) => {
             decided_by(example, bounded).is_some_and(|code| code != answer.code)
         }
+        Covers::Following => sheet.kind() == Kind::Following,
+        Covers::LawEnd(end, place) => counts.law_ends.contains(&(end, place)),
+        Covers::OtherIfLaw(rule) => code_by_rule(rule, example, answer) != answer.code,
         Covers::NoTicks => matches!(example.call, Call::Reach { ticks: 0, .. }),
         Covers::ShorterLastStep => counts.steps.last().is_some_and(|s| s.ticks < answer.width),
         Covers::Refused(number) => answer.code == 3 && answer.width == u32::from(number),
@@ -1633,6 +1926,9 @@ fn main() {
         spans_turning(),
         spans_and_their_ends(),
         spans_of_machines(),
+        drawn_by_laws(),
+        columns(),
+        pulleys(),
     ];
     let mut covered = Vec::new();
     for example in all.iter().flatten() {

@@ -1,12 +1,14 @@
 //! Prints `limits.txt`: numbers at each of document 01's bounds and one past it, no-go boxes in order and out of it and beside and
-//! on the recovery box, spans of commands, the first of two refusals, and listings, with the answers of the second guard. Each
-//! line says by which number it is refused, and the program stops where it is not.
+//! on the recovery box, spans of commands, bands with laws, the first of two refusals, and listings, with the answers of the second
+//! guard. Each line says by which number it is refused, and the program stops where it is not.
 
 use second_guard::boxes::{StateBox, VARIABLES};
+use second_guard::changes::{Change, CommandEnd};
 use second_guard::decision::{decide, Decision};
 use second_guard::listing::listing;
-use second_guard::reach::{reach, Law};
-use second_guard::sheet::{self, Refusal, Sheet, UNSAFE_AT};
+use second_guard::reach::{advance, reach, Budget, Law, Watch};
+use second_guard::sheet::{self, Band, BandLaw, CommandRange, Kind, Refusal, Row, Sheet};
+use second_guard::sheet::{BANDS, BANDS_AT, BAND_NUMBERS, LAW_AT, UNSAFE_AT, UNSAFE_BOXES};
 use std::fmt::Write;
 
 /// Bytes, and how a line writes them: the name of a file, then what is changed in it.
@@ -73,12 +75,25 @@ fn numbers(values: &[i32]) -> Vec<u8> {
 /// A sheet like document 01's sheet A: n variables with A's row, bands with these edges, and this number of no-go boxes. A's box
 /// is the first one, and each begins one later than the one before.
 fn like_a(n: u8, edges: &[i32], boxes: u8) -> Vec<u8> {
+    of_kind(Kind::Fixed, n, edges, boxes)
+}
+
+/// The same with the law Σ -x / 2 in each band, which the safety range clamps to 0.
+fn with_laws(n: u8, edges: &[i32], boxes: u8) -> Vec<u8> {
+    of_kind(Kind::Following, n, edges, boxes)
+}
+
+fn of_kind(kind: Kind, n: u8, edges: &[i32], boxes: u8) -> Vec<u8> {
     let sides = |mark: &[u8], pair: [i32; 2]| [mark, &numbers(&pair).repeat(n.into())].concat();
     let mut bytes = [b'S', b'H', n, edges.len() as u8, boxes, 0, 0, 4, 0, 4, 0, 4].to_vec();
     bytes.extend(numbers(&[-25, 25]));
     bytes.extend([0, 5].repeat(n.into()));
     for edge in edges {
-        bytes.extend([b"BD", &numbers(&[*edge, 0, 0])[..]].concat());
+        bytes.extend([kind.mark(), &numbers(&[*edge, 0, 0])[..]].concat());
+        if kind == Kind::Following {
+            bytes.extend([255, 255].repeat(n.into()));
+            bytes.extend([0, 0, 0, 0, 0, 2]);
+        }
         for i in 0..n {
             bytes.extend((0..n).flat_map(|j| if i == j { [255, 255] } else { [0, 0] }));
             bytes.extend([&[0, 4], &numbers(&[0, 0])[..], &[0, 20]].concat());
@@ -115,16 +130,68 @@ fn two_bands() -> File {
     File::named("two_bands", like_a(1, &[FIRST, 0], 1))
 }
 
+const EIGHT: [i32; BANDS] = [FIRST, 1, 2, 3, 4, 5, 6, 7];
+
 fn eight_bands() -> File {
-    File::named("eight_bands", like_a(1, &[FIRST, 1, 2, 3, 4, 5, 6, 7], 1))
+    File::named("eight_bands", like_a(1, &EIGHT, 1))
 }
 
 fn eight_boxes() -> File {
     File::named("eight_boxes", like_a(1, &[FIRST], 8))
 }
 
-fn four_variables() -> File {
-    File::named("four_variables", like_a(4, &[FIRST], 1))
+fn six_variables() -> File {
+    File::named("six_variables", like_a(VARIABLES as u8, &[FIRST], 1))
+}
+
+/// Sheet A with a law.
+fn following() -> File {
+    File::named("following", with_laws(1, &[FIRST], 1))
+}
+
+fn two_following() -> File {
+    File::named("two_following", with_laws(1, &[FIRST, 0], 1))
+}
+
+/// As long as a sheet can be.
+fn longest() -> File {
+    let bytes = with_laws(VARIABLES as u8, &EIGHT, UNSAFE_BOXES as u8);
+    assert_eq!(bytes.len(), 1_890);
+    File::named("longest", bytes)
+}
+
+/// Every number as large as it can be, with either sign in a band: below 0 the offset and the law's constant are below 0, from
+/// there on above.
+fn largest() -> File {
+    let n = VARIABLES;
+    let commands = CommandRange {
+        least: -10_000,
+        greatest: 10_000,
+    };
+    let band = |edge, offset| Band {
+        edge,
+        safety: commands,
+        law: BandLaw {
+            coefficients: [1_000; VARIABLES],
+            constant: offset,
+            divisor: 4_096,
+        },
+        rows: [Row {
+            a: [1_000; VARIABLES],
+            b: 1_000,
+            c: offset,
+            d: 100_000_000,
+            q: 4_096,
+        }; VARIABLES],
+    };
+    let mut sheet = sheet::read(&six_variables().bytes).expect("an accepted sheet");
+    (sheet.band_count, sheet.caps, sheet.commands) = (2, [1_000; VARIABLES], commands);
+    sheet.bands[0] = band(FIRST, -100_000_000);
+    sheet.bands[1] = band(0, 100_000_000);
+    let mut bytes = vec![0; sheet.length()];
+    sheet::write(&sheet, &mut bytes, 0).expect("the values are allowed");
+    assert_eq!(bytes.len(), sheet::length(Kind::Following, n, 2, 1));
+    File::named("largest", bytes)
 }
 
 /// Two boxes of two variables.
@@ -192,8 +259,8 @@ const BOUNDS: &[Bound] = &[
 /// A bound, and the sheet on which it is tried.
 type BoundOf = (fn() -> File, Bound);
 
-/// The sides' bounds, each on a sheet whose boxes are clear of each other.
-const SIDE_BOUNDS: &[BoundOf] = &[
+/// The sides' bounds, each on a sheet whose boxes are clear of each other, and those of a law's numbers.
+const OTHER_BOUNDS: &[BoundOf] = &[
     (
         box_below,
         ("unsafe_lower", 52, 4, -2_000_000, -2_000_001, 11),
@@ -201,6 +268,18 @@ const SIDE_BOUNDS: &[BoundOf] = &[
     (a, ("unsafe_upper", 56, 4, 2_000_000, 2_000_001, 11)),
     (a, ("recovery_lower", 62, 4, -1_000_000, -1_000_001, 11)),
     (box_far, ("recovery_upper", 66, 4, 1_000_000, 1_000_001, 11)),
+    (following, ("law_coefficient", 36, 2, -1_000, -1_001, 10)),
+    (following, ("law_coefficient", 36, 2, 1_000, 1_001, 10)),
+    (
+        following,
+        ("law_constant", 38, 4, -100_000_000, -100_000_001, 10),
+    ),
+    (
+        following,
+        ("law_constant", 38, 4, 100_000_000, 100_000_001, 10),
+    ),
+    (following, ("law_divisor", 42, 2, 1, 0, 10)),
+    (following, ("law_divisor", 42, 2, 4_096, 4_097, 10)),
 ];
 
 fn name_of(number: &str, value: i64) -> String {
@@ -216,14 +295,14 @@ fn bounds() -> Vec<(String, File, u8)> {
         [(last, allowed, 0), (past, refused, refusal)]
     };
     let of_a = BOUNDS.iter().map(|&bound| (a as fn() -> File, bound));
-    let all = of_a.chain(SIDE_BOUNDS.iter().copied());
+    let all = of_a.chain(OTHER_BOUNDS.iter().copied());
     all.flat_map(both).collect()
 }
 
 fn counts() -> Vec<(&'static str, File, u8)> {
     vec![
         ("no_variable", a().with(2, &[0]), 2),
-        ("five_variables", a().with(2, &[5]), 2),
+        ("seven_variables", a().with(2, &[7]), 2),
         ("no_band", a().with(3, &[0]), 2),
         ("nine_bands", a().with(3, &[9]), 2),
         ("no_unsafe_box", a().with(4, &[0]), 2),
@@ -231,8 +310,8 @@ fn counts() -> Vec<(&'static str, File, u8)> {
         ("sheet_of_eight_bands", eight_bands(), 0),
         ("sheet_of_eight_boxes", eight_boxes(), 0),
         ("band_variable_1_of_1", a().with(5, &[1]), 2),
-        ("band_variable_3_of_4", four_variables().with(5, &[3]), 0),
-        ("band_variable_4_of_4", four_variables().with(5, &[4]), 2),
+        ("band_variable_5_of_6", six_variables().with(5, &[5]), 0),
+        ("band_variable_6_of_6", six_variables().with(5, &[6]), 2),
     ]
 }
 
@@ -350,6 +429,38 @@ fn lengths() -> Vec<(&'static str, File, u8)> {
     ]
 }
 
+/// The first band's mark fixes the length and the later ones' marks (document 02, paper 9).
+fn marks() -> Vec<(&'static str, File, u8)> {
+    vec![
+        ("sheet_with_a_law", following(), 0),
+        ("sheet_with_two_laws", two_following(), 0),
+        ("longest_sheet", longest(), 0),
+        ("sheet_with_a_law_a_byte_short", following().first(77), 5),
+        ("sheet_with_a_law_a_byte_long", following().and(&[0]), 5),
+        ("mark_of_a_law_without_it", a().with(22, b"BF"), 5),
+        ("law_without_its_mark", following().with(22, b"BD"), 5),
+        ("file_up_to_the_first_mark", following().first(22), 5),
+        ("file_with_half_the_first_mark", following().first(23), 5),
+        ("later_mark_of_a_law", two_bands().with(50, b"BF"), 7),
+        ("later_mark_of_none", two_following().with(58, b"BD"), 7),
+        ("divisor_0_later", two_following().number(78, 2, 0), 10),
+    ]
+}
+
+/// Two causes each around a law's numbers.
+fn law_of_two() -> Vec<(&'static str, File, u8)> {
+    let no_divisor = |file: File| file.number(42, 2, 0);
+    let reversed = following().pair(28, (1, 0));
+    vec![
+        ("safety_before_law", no_divisor(reversed), 9),
+        (
+            "law_before_next_mark",
+            no_divisor(two_following()).with(58, b"XX"),
+            10,
+        ),
+    ]
+}
+
 /// Two causes each: the first in the documents' order, and the other.
 fn first_of_two() -> Vec<(&'static str, File, u8)> {
     let no_mark = |place| a().with(place, b"XX");
@@ -427,9 +538,11 @@ fn print_reads() {
         box_on_recovery(),
         boxes_on_recovery(),
         lengths(),
+        marks(),
         first_of_two(),
         order_of_two(),
         overlap_of_two(),
+        law_of_two(),
     ];
     let named = named
         .into_iter()
@@ -456,6 +569,57 @@ type Written = (
 
 /// The first lower side of the second box; one later that of a variable which the sheet does not have.
 const SECOND: usize = UNSAFE_AT + 2 * VARIABLES;
+
+/// The first coefficient of the first band's law, its divisor, and that of the second band's.
+const LAW: usize = BANDS_AT + LAW_AT;
+const DIVISOR: usize = LAW + VARIABLES + 1;
+const LATER_DIVISOR: usize = DIVISOR + BAND_NUMBERS;
+
+/// Those of bands with laws: a first divisor of 0 is a sheet without them.
+const WRITTEN_LAWS: &[Written] = &[
+    ("written_law", following, &[], 78, 0, 0),
+    ("law_a_byte_short", following, &[], 77, 0, 17),
+    (
+        "written_divisor_minus_1",
+        following,
+        &[(DIVISOR, -1)],
+        78,
+        0,
+        10,
+    ),
+    (
+        "written_divisor_4097",
+        following,
+        &[(DIVISOR, 4_097)],
+        78,
+        0,
+        10,
+    ),
+    (
+        "written_divisor_0",
+        following,
+        &[(DIVISOR, 0), (LAW, 1_001)],
+        70,
+        0,
+        0,
+    ),
+    (
+        "written_divisor_0_later",
+        two_following,
+        &[(LATER_DIVISOR, 0)],
+        200,
+        0,
+        10,
+    ),
+    (
+        "written_law_of_no_divisor",
+        a,
+        &[(LAW, -1_001), (LATER_DIVISOR, -1)],
+        70,
+        0,
+        0,
+    ),
+];
 
 const WRITTEN: &[Written] = &[
     ("room_just_enough", a, &[], 70, 0, 0),
@@ -515,7 +679,7 @@ const WRITTEN: &[Written] = &[
 ];
 
 fn print_writes() {
-    for &(name, file, changes, room, place, refusal) in WRITTEN {
+    for &(name, file, changes, room, place, refusal) in WRITTEN.iter().chain(WRITTEN_LAWS) {
         let File { mut text, bytes } = file();
         let mut numbers = sheet::read(&bytes).expect("an accepted sheet").numbers();
         for (slot, number) in changes {
@@ -531,6 +695,7 @@ fn print_writes() {
 
 // ---- a reach
 
+/// A reach from the same sides in each variable.
 struct Reach {
     name: &'static str,
     sheet: File,
@@ -638,15 +803,96 @@ fn largest_changes() -> Vec<Reach> {
     ]
 }
 
-/// The box of one variable.
-fn interval(sides: (i32, i32)) -> StateBox {
-    let mut interval = StateBox::default();
-    (interval.lower[0], interval.upper[0]) = (sides.0.into(), sides.1.into());
-    interval
+/// A tick in which x changes by the law's command, (c - x) / 20 within -5..5: around the law's sums that are divided.
+fn laws() -> Vec<Reach> {
+    let by = |name, constant| Reach {
+        name,
+        sheet: following()
+            .pair(28, (-5, 5))
+            .number(38, 4, constant)
+            .number(42, 2, 20)
+            .number(44, 2, 0)
+            .number(46, 2, 1)
+            .number(56, 2, 1),
+        ticks: 1,
+        width: 1,
+        law: Law::Baseline,
+        start: (7, 7),
+        refusal: 0,
+    };
+    vec![
+        by("law_sum_minus_100", -93),
+        by("law_sum_minus_99", -92),
+        by("law_sum_minus_1", 6),
+        by("law_sum_99", 106),
+    ]
+}
+
+/// The largest numerators and the largest sums of a law that a reach can have.
+fn largest_reach() -> Reach {
+    Reach {
+        name: "largest_numbers",
+        sheet: largest(),
+        ticks: 1_000,
+        width: 1_000,
+        law: Law::Baseline,
+        start: (-1_000_000, 1_000_000),
+        refusal: 0,
+    }
+}
+
+/// The least and the greatest numerator and sum.
+#[derive(Default)]
+struct Largest {
+    numerators: (i64, i64),
+    sums: (i64, i64),
+}
+
+impl Watch for Largest {
+    fn change(&mut self, change: Change) {
+        let (least, greatest) = &mut self.numerators;
+        *least = change.numerator.min(*least);
+        *greatest = change.numerator.max(*greatest);
+    }
+
+    fn command(&mut self, end: CommandEnd) {
+        let (least, greatest) = &mut self.sums;
+        (*least, *greatest) = (end.sum.min(*least), end.sum.max(*greatest));
+    }
+}
+
+/// Stops where the largest reach does not have them.
+fn expect_largest() {
+    let Reach {
+        sheet, law, start, ..
+    } = largest_reach();
+    let sheet = sheet::read(&sheet.bytes).expect("an accepted sheet");
+    let (start, mut budget) = (cube(start, VARIABLES), Budget::unlimited());
+    let mut largest = Largest::default();
+    let end = advance(&sheet, law, &start, 1_000, 1_000, &mut budget, &mut largest);
+    assert_eq!(end, Ok(cube((-2_000_000, 2_000_000), VARIABLES)));
+    assert_eq!(largest.numerators, (-12_204_000_000, 12_204_000_000));
+    assert_eq!(largest.sums, (-12_094_000_000, 12_094_000_000));
+}
+
+/// The box of n variables with the same sides.
+fn cube(sides: (i32, i32), n: usize) -> StateBox {
+    let mut cube = StateBox::default();
+    cube.lower[..n].fill(sides.0.into());
+    cube.upper[..n].fill(sides.1.into());
+    cube
+}
+
+/// A box as a line writes it.
+fn sides_text(sides: &StateBox, n: usize) -> String {
+    let pairs = (0..n).map(|i| format!("{}..{}", sides.lower[i], sides.upper[i]));
+    pairs.collect::<Vec<_>>().join(",")
 }
 
 fn print_reaches() {
-    for example in reaches().into_iter().chain(largest_changes()) {
+    expect_largest();
+    let reaches = [reaches(), largest_changes(), laws(), vec![largest_reach()]];
+    for example in reaches.into_iter().flatten() {
         let Reach {
             name,
             sheet,
@@ -656,13 +902,13 @@ fn print_reaches() {
             start,
             refusal,
         } = example;
+        let n = usize::from(sheet.bytes[2]);
         let given = sheet::read(&sheet.bytes)
-            .and_then(|read| reach(&read, ticks, width, law, &interval(start)));
+            .and_then(|read| reach(&read, ticks, width, law, &cube(start, n)));
         expect(name, refusal_number(given), refusal);
-        let sides = |of: &StateBox| format!("{}..{}", of.lower[0], of.upper[0]);
         let answer = match given {
             Ok(to) => {
-                let (end, swept) = (sides(&to.end), sides(&to.swept));
+                let (end, swept) = (sides_text(&to.end, n), sides_text(&to.swept, n));
                 format!("end={end} swept={swept} rounds={}", to.rounds)
             }
             Err(refusal) => format!("refused={}", refusal.number()),
@@ -671,7 +917,7 @@ fn print_reaches() {
             Law::Baseline => (0, 0),
             Law::Span { least, .. } => (1, least),
         };
-        let start = hex(&numbers(&[start.0, start.1]));
+        let start = hex(&numbers(&[start.0, start.1]).repeat(n));
         println!("{name} reach sheet={} ticks={ticks} width={width} law={law} command={command} start={start} {answer}", sheet.text);
     }
 }
@@ -820,6 +1066,12 @@ fn listings() -> Vec<(&'static str, File, File, &'static str)> {
             "1 refused 12",
         ),
         ("listing_of_a_failed_check", drifting, q(), "sheet fail 1 "),
+        (
+            "listing_of_a_sheet_with_a_law",
+            following(),
+            q(),
+            "1 keep 4 4",
+        ),
     ]
 }
 
@@ -912,11 +1164,13 @@ fn print_listings() {
 
 fn main() {
     println!("# Limits, as printed by the program `print_limits`: numbers at each of document 01's bounds and one past it, no-go boxes in");
-    println!("# order and out of it (document 02, paper 2) and beside and on the recovery box (paper 8), spans of commands (paper 4), the first");
-    println!("# of two refusals, and listings. A line has a name, the call, its files and numbers, and the answer; refusal 0 is none.");
+    println!("# order and out of it (document 02, paper 2) and beside and on the recovery box (paper 8), spans of commands (paper 4), bands with");
+    println!("# laws (paper 9), the first of two refusals, and listings. A line has a name, the call, its files and numbers, and the answer; refusal");
+    println!("# 0 is none.");
     println!("# A file is one of those named first or a sheet in hex. @10:03e8 is with these bytes from place 10 on (of `numbers`: with");
     println!("# this number in the slot), <69 its first 69 bytes, +00 with this byte after it. In a listing _ is a space and / a newline.");
-    println!("\n# sheet A, its first question, the same for any command, and sheets of A's numbers with other counts");
+    println!("\n# sheet A, its first question, the same for any command, sheets of A's numbers with other counts and with laws, and the largest");
+    println!("# numbers");
     for file in [
         a(),
         q(),
@@ -924,9 +1178,13 @@ fn main() {
         two_bands(),
         eight_bands(),
         eight_boxes(),
-        four_variables(),
+        six_variables(),
         two_boxes(),
         three_boxes(),
+        following(),
+        two_following(),
+        longest(),
+        largest(),
     ] {
         println!("{} file bytes={}", file.text, hex(&file.bytes));
     }

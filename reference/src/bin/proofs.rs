@@ -56,16 +56,13 @@ fn integer(z: i64) -> String {
     }
 }
 
-/// The greatest number of variables that a box has room for.
-const ROOM: usize = 4;
-
 /// A box with the sides of its variables, as the definitions hold it.
 fn box_list(sides: &[(i64, i64)]) -> String {
     let side = |i: usize, upper: bool| match sides.get(i) {
         Some(&(l, h)) => integer(if upper { h } else { l }),
         None => integer(0),
     };
-    list((0..ROOM).map(|i| side(i, false)).chain((0..ROOM).map(|i| side(i, true))))
+    list((0..VARIABLES).map(|i| side(i, false)).chain((0..VARIABLES).map(|i| side(i, true))))
 }
 
 /// Sides as `examples.txt` has them in an answer: `-1..2,-3..4`.
