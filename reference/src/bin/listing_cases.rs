@@ -3,7 +3,7 @@
 
 use second_guard::boxes::{StateBox, VARIABLES};
 use second_guard::listing::{listing, questions as questions_of};
-use second_guard::sheet::{self, Band, CommandRange, Row, Sheet};
+use second_guard::sheet::{self, Band, BandLaw, CommandRange, Row, Sheet};
 use std::path::Path;
 use std::{env, fs};
 
@@ -56,8 +56,18 @@ fn sheet_a() -> Sheet {
     a
 }
 
-/// A sheet as long as any: every count is the greatest.
-fn longest() -> Sheet {
+/// Sheet A with the plain commands -x/20 within -5..5.
+fn a_with_a_law() -> Sheet {
+    let mut a = sheet_a();
+    let band = &mut a.bands[0];
+    (band.safety.least, band.safety.greatest) = (-5, 5);
+    band.law.divisor = 20;
+    band.law.coefficients[0] = -1;
+    a
+}
+
+/// Every count is the greatest.
+fn all_counts() -> Sheet {
     let mut all = sheet_a();
     all.variables = VARIABLES as i32;
     all.band_count = 8;
@@ -78,6 +88,20 @@ fn longest() -> Sheet {
         }
         all.unsafe_boxes[k].lower = [130 + k as i64; VARIABLES];
         all.unsafe_boxes[k].upper = [2_000_000; VARIABLES];
+    }
+    all
+}
+
+/// A sheet as long as any: the same with laws.
+fn longest() -> Sheet {
+    let mut all = all_counts();
+    for (constant, band) in (-4..).zip(&mut all.bands) {
+        (band.safety.least, band.safety.greatest) = (-2, 3);
+        band.law = BandLaw {
+            coefficients: [-1, 2, 0, -3, 1, 1],
+            constant,
+            divisor: 100,
+        };
     }
     all
 }
@@ -173,6 +197,22 @@ fn patched(at: usize, new: &[u8]) -> Vec<u8> {
     sheet
 }
 
+/// The same of the sheet with a law.
+fn law_patched(at: usize, new: &[u8]) -> Vec<u8> {
+    let mut sheet = bytes(&a_with_a_law());
+    sheet[at..at + new.len()].copy_from_slice(new);
+    sheet
+}
+
+/// The longest sheet with a mark of no law on its last band.
+fn another_mark() -> Vec<u8> {
+    let mut sheet = bytes(&longest());
+    let mut marks = (0..sheet.len()).filter(|&at| sheet[at..].starts_with(b"BF"));
+    let last = marks.next_back().expect("a band");
+    sheet[last + 1] = b'D';
+    sheet
+}
+
 fn files(name: &str, says: &str, sheet: Vec<u8>, asks: Vec<u8>) -> Case {
     let (sheet, asks) = (Place::File(sheet), Place::File(asks));
     places(name, says, sheet, asks)
@@ -201,13 +241,15 @@ fn file_cases() -> Vec<Case> {
         places("empty_sheet", "sheet refused 1\n", File(vec![]), asks()),
         places("empty_asks", "sheet pass 4 1\n", a(), File(vec![])),
     ];
-    for size in [71, 1_086, 1_087, 4_095, 4_096, 4_097, 100_000] {
+    for size in [
+        71, 78, 1_746, 1_747, 1_890, 1_891, 4_095, 4_096, 4_097, 100_000,
+    ] {
         let mut long = bytes(&sheet_a());
         long.resize(size, 0);
         let name = format!("a_in_{size}_bytes");
         cases.push(files(&name, "sheet refused 5\n", long, asks_a()));
     }
-    for size in [1_087, 4_096, 4_097] {
+    for size in [1_889, 1_891, 4_096, 4_097] {
         let mut long = bytes(&longest());
         long.resize(size, 0);
         let name = format!("longest_in_{size}_bytes");
@@ -263,18 +305,27 @@ fn refused_sheets() -> Vec<Case> {
         (1, "short", a[..19].to_vec()),
         (1, "mark", patched(0, b"XH")),
         (2, "no_variable", patched(2, &[0])),
-        (2, "five_variables", patched(2, &[5])),
+        (2, "seven_variables", patched(2, &[7])),
         (2, "band_variable_before_times", patched(5, &[1, 0, 0])),
         (3, "sum_of_times", patched(6, &997_u16.to_be_bytes())),
         (4, "commands", patched(12, &26_i32.to_be_bytes())),
         (5, "short", a[..69].to_vec()),
         (5, "other_counts", patched(3, &[2])),
+        (5, "mark_of_a_law", patched(22, b"BF")),
+        (5, "law_without_its_mark", law_patched(22, b"BD")),
+        (
+            5,
+            "law_up_to_its_mark",
+            law_patched(22, b"BF")[..24].to_vec(),
+        ),
         (6, "cap", patched(20, &[0, 0])),
         (7, "band", patched(22, b"BX")),
         (7, "recovery", patched(60, b"NG")),
+        (7, "last_band_of_eight", another_mark()),
         (8, "edge", patched(24, &[0; 4])),
         (9, "safety_range", patched(32, &26_i32.to_be_bytes())),
         (10, "divisor", patched(48, &[0, 0])),
+        (10, "divisor_of_a_law", law_patched(42, &[0, 0])),
         (11, "no_go_box", patched(56, &[0; 4])),
         (11, "recovery_box", patched(62, &[1, 0])),
         (20, "no_go_boxes", out_of_order()),
@@ -327,7 +378,30 @@ fn questions() -> Vec<Case> {
         files("15_reversed", "1 refused 15\n", a(), ask(1, 0, 25, 100)),
         files("15_far", "1 refused 15\n", a(), ask(0, 1_000_001, 25, 100)),
         files("spent_at_once", "1 over spent 4 0\n", a(), ask(0, 0, 25, 0)),
-        files("longest_sheet", "500 ", bytes(&longest()), many(500, 4)),
+        files(
+            "a_with_a_law",
+            "sheet pass 4 ",
+            bytes(&a_with_a_law()),
+            asks_a(),
+        ),
+        files(
+            "all_counts",
+            "500 ",
+            bytes(&all_counts()),
+            many(500, VARIABLES),
+        ),
+        files(
+            "longest_sheet",
+            "500 ",
+            bytes(&longest()),
+            many(500, VARIABLES),
+        ),
+        files(
+            "many_with_a_law",
+            "500 ",
+            bytes(&a_with_a_law()),
+            many(500, 1),
+        ),
         files("many", "100001 refused 12\n", a(), many_a),
     ]
 }
@@ -363,18 +437,18 @@ fn marks() -> Vec<Case> {
 
 /// A span cut at each of its bytes, alone and behind other questions.
 fn cut_spans() -> Vec<Case> {
-    let four = question(b"QR", 100, &[-25, 25], &[(0, 0); 4]);
+    let longest_span = question(b"QR", 100, &[-25, 25], &[(0, 0); VARIABLES]);
     let of_a = (1..22).map(|length| {
         let asks = [&asks_a()[..], &ask_span(-25, 25)[..length]].concat();
         let name = format!("span_cut_at_{length}");
         files(&name, "6 refused 12\n", bytes(&sheet_a()), asks)
     });
-    let of_four = [1, 2, 13, 14, 42, 43, 45].map(|length| {
-        let name = format!("span_of_four_cut_at_{length}");
-        let asks = four[..length].to_vec();
+    let of_longest = [1, 2, 13, 14, 58, 59, 61].map(|length| {
+        let name = format!("longest_span_cut_at_{length}");
+        let asks = longest_span[..length].to_vec();
         files(&name, "1 refused 12\n", bytes(&longest()), asks)
     });
-    of_a.chain(of_four).collect()
+    of_a.chain(of_longest).collect()
 }
 
 /// Files over the program's buffer, with an unknown mark at a border of it and just beside one.
@@ -402,12 +476,12 @@ fn long_files() -> Vec<Case> {
 /// An unknown mark with so many bytes in all: around the length of the longest question, and more.
 fn unknown_rests() -> Vec<Case> {
     let rest = |length: usize| {
-        let unknown = [b"RR", &filling(112)[..]].concat();
+        let unknown = [b"RR", &filling(130)[..]].concat();
         let asks = [&asks_a()[..], &unknown[..length]].concat();
         let name = format!("unknown_of_{length}_bytes");
         files(&name, "6 refused 12\n", bytes(&sheet_a()), asks)
     };
-    [3, 17, 18, 19, 21, 22, 23, 41, 42, 43, 45, 46, 47, 92]
+    [3, 17, 18, 19, 21, 22, 23, 57, 58, 59, 61, 62, 63, 124]
         .map(rest)
         .into()
 }
@@ -442,7 +516,7 @@ fn clear_sheet() -> Case {
         "clear_by_last_variable",
         "sheet pass 4 1\n",
         sheet,
-        many(10, 4),
+        many(10, VARIABLES),
     )
 }
 
