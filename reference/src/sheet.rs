@@ -677,6 +677,19 @@ impl Pen<'_> {
         self.put(value.to_be_bytes());
     }
 
+    fn head(&mut self, sheet: &Sheet) {
+        self.put(*b"SH");
+        self.u8(sheet.variables);
+        self.u8(sheet.band_count);
+        self.u8(sheet.unsafe_count);
+        self.u8(sheet.band_variable);
+        self.two(sheet.delta);
+        self.two(sheet.alpha);
+        self.two(sheet.rho);
+        self.i32(sheet.commands.least);
+        self.i32(sheet.commands.greatest);
+    }
+
     fn coefficients(&mut self, coefficients: &[i32]) {
         for &coefficient in coefficients {
             self.two(coefficient);
@@ -715,16 +728,7 @@ pub fn write(sheet: &Sheet, buffer: &mut [u8], place: u64) -> Result<usize, Refu
         .and_then(|place| buffer.get_mut(place..)?.get_mut(..length));
     let mut pen = Pen(room.ok_or(Refusal::Room)?);
     let (n, kind) = (sheet.n(), sheet.kind());
-    pen.put(*b"SH");
-    pen.u8(sheet.variables);
-    pen.u8(sheet.band_count);
-    pen.u8(sheet.unsafe_count);
-    pen.u8(sheet.band_variable);
-    pen.two(sheet.delta);
-    pen.two(sheet.alpha);
-    pen.two(sheet.rho);
-    pen.i32(sheet.commands.least);
-    pen.i32(sheet.commands.greatest);
+    pen.head(sheet);
     for &cap in &sheet.caps[..n] {
         pen.two(cap);
     }

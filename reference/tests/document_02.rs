@@ -2038,57 +2038,61 @@ fn written_with(others: &[(usize, i32)], room: usize) -> u8 {
     written.err().map_or(0, Refusal::number)
 }
 
+/// The same with just enough room; room comes last.
+fn written_in_order(others: &[(usize, i32)]) -> u8 {
+    let number = written_with(others, following_three().length());
+    let without_room = if number == 0 { 17 } else { number };
+    assert_eq!(written_with(others, 0), without_room);
+    number
+}
+
+/// Law numbers at and beyond their ends: place in the law's slots, value, refusal. n is 2.
+const WRITTEN_LAWS: [(usize, i32, u8); 16] = [
+    (0, -1_001, 10),
+    (0, -1_000, 0),
+    (1, 1_000, 0),
+    (1, 1_001, 10),
+    (2, 1_001, 0),
+    (5, i32::MIN, 0),
+    (6, -100_000_001, 10),
+    (6, -100_000_000, 0),
+    (6, 100_000_000, 0),
+    (6, 100_000_001, 10),
+    (7, -1, 10),
+    (7, 1, 0),
+    (7, 4_096, 0),
+    (7, 4_097, 10),
+    (7, 65_540, 10),
+    (7, i32::MIN, 10),
+];
+
 #[test]
 fn the_writer_and_law_numbers() {
-    let length = following_three().length();
-    let with = |others: &[(usize, i32)]| {
-        let number = written_with(others, length);
-        // Room comes last.
-        assert_eq!(
-            written_with(others, 0),
-            if number == 0 { 17 } else { number }
-        );
-        number
-    };
-    assert_eq!(with(&[]), 0);
+    assert_eq!(written_in_order(&[]), 0);
     for k in 0..2 {
-        let at = BAND_SLOTS + k * BAND_SIZE;
-        let law = at + LAW_SLOTS;
-        for (slot, value, number) in [
-            (law, -1_001, 10),
-            (law, -1_000, 0),
-            (law + 1, 1_000, 0),
-            (law + 1, 1_001, 10),
-            // Beyond n.
-            (law + 2, 1_001, 0),
-            (law + 5, i32::MIN, 0),
-            (law + 6, -100_000_001, 10),
-            (law + 6, -100_000_000, 0),
-            (law + 6, 100_000_000, 0),
-            (law + 6, 100_000_001, 10),
-            (law + 7, -1, 10),
-            (law + 7, 1, 0),
-            (law + 7, 4_096, 0),
-            (law + 7, 4_097, 10),
-            (law + 7, 65_540, 10),
-            (law + 7, i32::MIN, 10),
-        ] {
-            assert_eq!(with(&[(slot, value)]), number, "{slot} {value}");
+        let band = BAND_SLOTS + k * BAND_SIZE;
+        for (at, value, number) in WRITTEN_LAWS {
+            let given = written_in_order(&[(band + LAW_SLOTS + at, value)]);
+            assert_eq!(given, number, "{k} {at} {value}");
         }
-        // After the safety range, before the next band.
-        let bad = (law + 7, 4_097);
-        assert_eq!(with(&[bad, (at, 2_000_001)]), 8);
-        assert_eq!(with(&[bad, (at + 1, 9)]), 9);
-        assert_eq!(with(&[bad, (at + 2, -9)]), 9);
-        assert_eq!(with(&[bad, (at + 11, 1_001)]), 10);
+        // After the edge and the safety range, with the rows.
+        let bad = (band + DIVISOR_SLOT, 4_097);
+        assert_eq!(written_in_order(&[bad, (band, 2_000_001)]), 8);
+        assert_eq!(written_in_order(&[bad, (band + 1, 9)]), 9);
+        assert_eq!(written_in_order(&[bad, (band + 2, -9)]), 9);
+        assert_eq!(written_in_order(&[bad, (band + 11, 1_001)]), 10);
     }
     let second = BAND_SLOTS + BAND_SIZE;
-    assert_eq!(with(&[(BAND_SLOTS + LAW_SLOTS, 1_001), (second, 0)]), 10);
-    assert_eq!(with(&[(second + DIVISOR_SLOT, 0), (second, -2_000_000)]), 8);
-    // A later band's divisor 0 is a bad one.
-    assert_eq!(with(&[(second + DIVISOR_SLOT, 0)]), 10);
-    // Beyond the count no law number is looked at.
-    assert_eq!(with(&[(second + BAND_SIZE + DIVISOR_SLOT, -1)]), 0);
+    let later_divisor = second + DIVISOR_SLOT;
+    let first_law = (BAND_SLOTS + LAW_SLOTS, 1_001);
+    assert_eq!(written_in_order(&[first_law, (second, 0)]), 10);
+    assert_eq!(
+        written_in_order(&[(later_divisor, 0), (second, -2_000_000)]),
+        8
+    );
+    // A later band's divisor 0 is a bad one; beyond the count none is looked at.
+    assert_eq!(written_in_order(&[(later_divisor, 0)]), 10);
+    assert_eq!(written_in_order(&[(later_divisor + BAND_SIZE, -1)]), 0);
 }
 
 #[test]

@@ -88,23 +88,8 @@ impl PartialEq for Sheet {
         }
         for k in 0..bands {
             let (p, q) = (&self.band[k], &other.band[k]);
-            if (p.edge, p.safety_least, p.safety_greatest)
-                != (q.edge, q.safety_least, q.safety_greatest)
-            {
+            if !same_band(p, q, band_mark(self), n) {
                 return false;
-            }
-            if band_mark(self) == *b"BF"
-                && (p.law.coefficients[..n] != q.law.coefficients[..n]
-                    || p.law.constant != q.law.constant
-                    || p.law.divisor != q.law.divisor)
-            {
-                return false;
-            }
-            for i in 0..n {
-                let (r, s) = (&p.rows[i], &q.rows[i]);
-                if r.a[..n] != s.a[..n] || (r.b, r.c, r.d, r.q) != (s.b, s.c, s.d, s.q) {
-                    return false;
-                }
             }
         }
         for k in 0..no_go {
@@ -117,6 +102,27 @@ impl PartialEq for Sheet {
 }
 
 impl Eq for Sheet {}
+
+/// Two bands with the same mark, up to n; without laws their numbers do not count.
+fn same_band(p: &Band, q: &Band, mark: [u8; 2], n: usize) -> bool {
+    if (p.edge, p.safety_least, p.safety_greatest) != (q.edge, q.safety_least, q.safety_greatest) {
+        return false;
+    }
+    if mark == *b"BF"
+        && (p.law.coefficients[..n] != q.law.coefficients[..n]
+            || p.law.constant != q.law.constant
+            || p.law.divisor != q.law.divisor)
+    {
+        return false;
+    }
+    for i in 0..n {
+        let (r, s) = (&p.rows[i], &q.rows[i]);
+        if r.a[..n] != s.a[..n] || (r.b, r.c, r.d, r.q) != (s.b, s.c, s.d, s.q) {
+            return false;
+        }
+    }
+    true
+}
 
 /// "Length: 20 + 2n + bands*(14 + n(2n + 12)) + (2 + 8n)*(no-go + 1)". A band marked
 /// `BF` has n coefficients of two bytes, a constant of four and a divisor of two more.
@@ -392,6 +398,30 @@ impl Bytes<'_> {
         law
     }
 
+    /// What follows a band's mark.
+    fn band(&mut self, mark: [u8; 2], n: u8) -> Band {
+        let mut band = Band {
+            edge: self.i32(),
+            safety_least: self.i32(),
+            safety_greatest: self.i32(),
+            ..Band::default()
+        };
+        if mark == *b"BF" {
+            band.law = self.law(n);
+        }
+        for i in 0..n as usize {
+            let row = &mut band.rows[i];
+            for j in 0..n as usize {
+                row.a[j] = self.i16();
+            }
+            row.b = self.i16();
+            row.c = self.i32();
+            row.d = self.i32();
+            row.q = self.u16();
+        }
+        band
+    }
+
     fn sides(&mut self, n: u8) -> Sides {
         let mut sides = Sides::default();
         for i in 0..n as usize {
@@ -443,22 +473,7 @@ pub fn read(bytes: &[u8]) -> Result<Sheet, u8> {
         if from.mark() != mark {
             return Err(7);
         }
-        sheet.band[k].edge = from.i32();
-        sheet.band[k].safety_least = from.i32();
-        sheet.band[k].safety_greatest = from.i32();
-        if mark == *b"BF" {
-            sheet.band[k].law = from.law(sheet.n);
-        }
-        for i in 0..sheet.n as usize {
-            let row = &mut sheet.band[k].rows[i];
-            for j in 0..sheet.n as usize {
-                row.a[j] = from.i16();
-            }
-            row.b = from.i16();
-            row.c = from.i32();
-            row.d = from.i32();
-            row.q = from.u16();
-        }
+        sheet.band[k] = from.band(mark, sheet.n);
         test_band(&sheet, mark, k)?;
     }
     for k in 0..sheet.no_go as usize {
@@ -501,29 +516,7 @@ pub fn write(sheet: &Sheet) -> Result<Vec<u8>, u8> {
         out.extend(sheet.caps[i].to_be_bytes());
     }
     for k in 0..sheet.bands as usize {
-        let band = &sheet.band[k];
-        out.extend(band_mark(sheet));
-        out.extend(band.edge.to_be_bytes());
-        out.extend(band.safety_least.to_be_bytes());
-        out.extend(band.safety_greatest.to_be_bytes());
-        if band_mark(sheet) == *b"BF" {
-            for j in 0..n {
-                out.extend(band.law.coefficients[j].to_be_bytes());
-            }
-            out.extend(band.law.constant.to_be_bytes());
-            // Tested: 1 to 4,096.
-            out.extend((band.law.divisor as u16).to_be_bytes());
-        }
-        for i in 0..n {
-            let row = &band.rows[i];
-            for j in 0..n {
-                out.extend(row.a[j].to_be_bytes());
-            }
-            out.extend(row.b.to_be_bytes());
-            out.extend(row.c.to_be_bytes());
-            out.extend(row.d.to_be_bytes());
-            out.extend(row.q.to_be_bytes());
-        }
+        write_band(&mut out, &sheet.band[k], band_mark(sheet), n);
     }
     for k in 0..sheet.no_go as usize {
         out.extend(b"NG");
@@ -532,6 +525,31 @@ pub fn write(sheet: &Sheet) -> Result<Vec<u8>, u8> {
     out.extend(b"RC");
     write_sides(&mut out, &sheet.recovery, n);
     Ok(out)
+}
+
+fn write_band(out: &mut Vec<u8>, band: &Band, mark: [u8; 2], n: usize) {
+    out.extend(mark);
+    out.extend(band.edge.to_be_bytes());
+    out.extend(band.safety_least.to_be_bytes());
+    out.extend(band.safety_greatest.to_be_bytes());
+    if mark == *b"BF" {
+        for j in 0..n {
+            out.extend(band.law.coefficients[j].to_be_bytes());
+        }
+        out.extend(band.law.constant.to_be_bytes());
+        // Tested: 1 to 4,096.
+        out.extend((band.law.divisor as u16).to_be_bytes());
+    }
+    for i in 0..n {
+        let row = &band.rows[i];
+        for j in 0..n {
+            out.extend(row.a[j].to_be_bytes());
+        }
+        out.extend(row.b.to_be_bytes());
+        out.extend(row.c.to_be_bytes());
+        out.extend(row.d.to_be_bytes());
+        out.extend(row.q.to_be_bytes());
+    }
 }
 
 fn write_sides(out: &mut Vec<u8>, sides: &Sides, n: usize) {

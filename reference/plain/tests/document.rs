@@ -1438,6 +1438,19 @@ fn random_law(dice: &mut Dice, n: usize) -> BandLaw {
     law
 }
 
+fn random_row(dice: &mut Dice, n: usize, i: usize) -> Row {
+    let mut row = Row::default();
+    for j in 0..n {
+        row.a[j] = dice.from_to(-4, 4) as i16;
+    }
+    row.a[i] = dice.from_to(-30, 2) as i16;
+    row.b = dice.from_to(-20, 20) as i16;
+    row.c = dice.from_to(-50, 50) as i32;
+    row.d = dice.from_to(0, 30) as i32;
+    row.q = dice.from_to(1, 200) as u16;
+    row
+}
+
 fn random_sheet(dice: &mut Dice) -> Sheet {
     let mut s = Sheet {
         n: dice.from_to(1, 6) as u8,
@@ -1468,15 +1481,7 @@ fn random_sheet(dice: &mut Dice) -> Sheet {
             s.band[k].law = random_law(dice, n);
         }
         for i in 0..n {
-            let row = &mut s.band[k].rows[i];
-            for j in 0..n {
-                row.a[j] = dice.from_to(-4, 4) as i16;
-            }
-            row.a[i] = dice.from_to(-30, 2) as i16;
-            row.b = dice.from_to(-20, 20) as i16;
-            row.c = dice.from_to(-50, 50) as i32;
-            row.d = dice.from_to(0, 30) as i32;
-            row.q = dice.from_to(1, 200) as u16;
+            s.band[k].rows[i] = random_row(dice, n, i);
         }
     }
     for k in 0..s.no_go as usize {

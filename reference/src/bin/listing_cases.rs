@@ -298,6 +298,18 @@ fn on_the_last_box() -> Vec<u8> {
     sheet
 }
 
+/// Refused for a band's mark, which fixes the length, or for a number of its law.
+fn refused_laws() -> [(u8, &'static str, Vec<u8>); 5] {
+    let up_to_mark = law_patched(22, b"BF")[..24].to_vec();
+    [
+        (5, "mark_of_a_law", patched(22, b"BF")),
+        (5, "law_without_its_mark", law_patched(22, b"BD")),
+        (5, "law_up_to_its_mark", up_to_mark),
+        (7, "last_band_of_eight", another_mark()),
+        (10, "divisor_of_a_law", law_patched(42, &[0, 0])),
+    ]
+}
+
 /// A refused sheet for each number up to 11, for 20 and for 22, and first refusals among several.
 fn refused_sheets() -> Vec<Case> {
     let a = bytes(&sheet_a());
@@ -311,21 +323,12 @@ fn refused_sheets() -> Vec<Case> {
         (4, "commands", patched(12, &26_i32.to_be_bytes())),
         (5, "short", a[..69].to_vec()),
         (5, "other_counts", patched(3, &[2])),
-        (5, "mark_of_a_law", patched(22, b"BF")),
-        (5, "law_without_its_mark", law_patched(22, b"BD")),
-        (
-            5,
-            "law_up_to_its_mark",
-            law_patched(22, b"BF")[..24].to_vec(),
-        ),
         (6, "cap", patched(20, &[0, 0])),
         (7, "band", patched(22, b"BX")),
         (7, "recovery", patched(60, b"NG")),
-        (7, "last_band_of_eight", another_mark()),
         (8, "edge", patched(24, &[0; 4])),
         (9, "safety_range", patched(32, &26_i32.to_be_bytes())),
         (10, "divisor", patched(48, &[0, 0])),
-        (10, "divisor_of_a_law", law_patched(42, &[0, 0])),
         (11, "no_go_box", patched(56, &[0; 4])),
         (11, "recovery_box", patched(62, &[1, 0])),
         (20, "no_go_boxes", out_of_order()),
@@ -333,13 +336,13 @@ fn refused_sheets() -> Vec<Case> {
         (22, "first_of_eight", on_the_first_box()),
         (22, "last_of_eight", on_the_last_box()),
     ];
-    refused
-        .into_iter()
-        .map(|(number, name, sheet)| {
-            let says = format!("sheet refused {number}\n");
-            files(&format!("sheet_{number}_{name}"), &says, sheet, asks_a())
-        })
-        .collect()
+    let laws = refused_laws();
+    let all = refused.into_iter().chain(laws);
+    all.map(|(number, name, sheet)| {
+        let says = format!("sheet refused {number}\n");
+        files(&format!("sheet_{number}_{name}"), &says, sheet, asks_a())
+    })
+    .collect()
 }
 
 /// Questions of all kinds on sheets that passed, and one sheet that did not.
@@ -378,31 +381,19 @@ fn questions() -> Vec<Case> {
         files("15_reversed", "1 refused 15\n", a(), ask(1, 0, 25, 100)),
         files("15_far", "1 refused 15\n", a(), ask(0, 1_000_001, 25, 100)),
         files("spent_at_once", "1 over spent 4 0\n", a(), ask(0, 0, 25, 0)),
-        files(
-            "a_with_a_law",
-            "sheet pass 4 ",
-            bytes(&a_with_a_law()),
-            asks_a(),
-        ),
-        files(
-            "all_counts",
-            "500 ",
-            bytes(&all_counts()),
-            many(500, VARIABLES),
-        ),
-        files(
-            "longest_sheet",
-            "500 ",
-            bytes(&longest()),
-            many(500, VARIABLES),
-        ),
-        files(
-            "many_with_a_law",
-            "500 ",
-            bytes(&a_with_a_law()),
-            many(500, 1),
-        ),
         files("many", "100001 refused 12\n", a(), many_a),
+    ]
+}
+
+/// Sheets with laws, and with all counts at their greatest.
+fn laws() -> Vec<Case> {
+    let asked = |name, says, sheet: Sheet, asks| files(name, says, bytes(&sheet), asks);
+    let wide = || many(500, VARIABLES);
+    vec![
+        asked("a_with_a_law", "sheet pass 4 ", a_with_a_law(), asks_a()),
+        asked("many_with_a_law", "500 ", a_with_a_law(), many(500, 1)),
+        asked("all_counts", "500 ", all_counts(), wide()),
+        asked("longest_sheet", "500 ", longest(), wide()),
     ]
 }
 
@@ -534,6 +525,7 @@ fn main() {
         file_cases(),
         refused_sheets(),
         questions(),
+        laws(),
         vec![clear_sheet()],
         marks(),
         cut_spans(),
