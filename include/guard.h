@@ -1,6 +1,7 @@
 /* The guard's calls for C. The rules behind them are those of "document 01", the scope paper, and of
  * papers 3 (tighter rates near a band edge), 2 (no-go boxes in a set order), 8 (no recovery box on a
- * no-go box) and 4 (a span of commands) of "document 02".
+ * no-go box), 4 (a span of commands) and 9 (six variables, a plain law that follows the state) of
+ * "document 02".
  *
  * A drive calls guard_recovery once for its sheet and guard_decide once for each period; guard_sheet
  * tests a sheet's format alone. The others serve set-up tools, other products and tests.
@@ -44,15 +45,15 @@ enum {
  * it was. 18, 19 and 21 are not in use. */
 enum {
     GUARD_REFUSED_HEAD = 1,      /* sheet: under 20 bytes, or mark not SH */
-    GUARD_REFUSED_COUNTS = 2,    /* sheet: n, a count or the band variable out of range */
+    GUARD_REFUSED_COUNTS = 2,    /* sheet: n (1 to 6), a count or the band variable out of range */
     GUARD_REFUSED_TIMES = 3,     /* sheet: delta, alpha or rho */
     GUARD_REFUSED_COMMANDS = 4,  /* sheet: the head's least and greatest command */
-    GUARD_REFUSED_LENGTH = 5,    /* sheet: length */
+    GUARD_REFUSED_LENGTH = 5,    /* sheet: not the length that its counts and its first band's mark have */
     GUARD_REFUSED_CAP = 6,       /* sheet: a cap */
-    GUARD_REFUSED_MARK = 7,      /* sheet: a later record's mark */
+    GUARD_REFUSED_MARK = 7,      /* sheet: a later record's mark; a band's that is not the first band's */
     GUARD_REFUSED_EDGE = 8,      /* sheet: a band's edge */
     GUARD_REFUSED_SAFETY = 9,    /* sheet: a band's safety range */
-    GUARD_REFUSED_ROW = 10,      /* sheet: a number of a row */
+    GUARD_REFUSED_ROW = 10,      /* sheet: a number of a band's law or of a row */
     GUARD_REFUSED_SIDE = 11,     /* sheet: a side of a no-go box or of the recovery box */
     GUARD_REFUSED_QUESTION = 12, /* question: length or mark */
     GUARD_REFUSED_ALLOWANCE = 13,
@@ -105,7 +106,15 @@ static inline size_t guard_length(uint64_t answer)
  * order of the numbers counts, then the first in the order of the file; of a no-go box first its mark (7),
  * then its sides (11), then whether it is greater than the box before (20). The last test, after the sides
  * of the recovery box (11), is whether that box shares a state with a no-go box (22). Both sides of a box
- * count: 5..9 and 9..12 share a value, 5..9 and 10..12 do not. */
+ * count: 5..9 and 9..12 share a value, 5..9 and 10..12 do not.
+ *
+ * The bands are marked `BD` or `BF`, all of them as the first one. Under the plain law a `BD` band has any
+ * command of its safety range. A `BF` band has a law before its rows: n coefficients (i16, within +-1,000), a
+ * constant (i32, within +-100,000,000) and a divisor (u16, 1 to 4,096), in this order of the file; 10 where one
+ * is out of range. At a state it has any command from floor to ceil of (sum of coefficient * variable +
+ * constant) / divisor, both cut to the safety range. If the file reaches the first band's mark, at byte
+ * 20 + 2n, and that reads `BF`, each band is 2n + 6 bytes longer than a `BD` band; otherwise the length (5) is
+ * that of `BD` bands. A band with another mark than this one is 7. */
 uint64_t guard_sheet(const uint8_t *sheet, size_t sheet_length);
 
 /* The recovery check: under the plain law, does every state of the recovery box stay out of the no-go
@@ -143,11 +152,14 @@ uint64_t guard_decide(const uint8_t *sheet, size_t sheet_length,
 uint64_t guard_numbers(void);
 
 /* Puts the sheet's numbers at their slots (guard_format.h) and answers the sheet's length (guard_length).
- * Numbers beyond the sheet's counts are 0. Refused with 1 to 11, 20 or 22. */
+ * Numbers beyond the sheet's counts are 0, and so is every law number where the bands are marked `BD`.
+ * Refused with 1 to 11, 20 or 22. */
 uint64_t guard_sheet_read(const uint8_t *sheet, size_t sheet_length, int32_t numbers[GUARD_NUMBERS]);
 
 /* Writes the sheet whose numbers are given, at their slots, into buffer from place on, and answers the
- * sheet's length (guard_length). Numbers beyond the counts are not looked at. Bytes of buffer outside the
+ * sheet's length (guard_length). Numbers beyond the counts are not looked at. The first band's law divisor
+ * says which mark the bands get: 0 is `BD`, and then no law number of any band is looked at; any other is
+ * `BF`, and one outside 1 to 4,096 is refused with 10 as that of each band is. Bytes of buffer outside the
  * sheet remain. Refused with 2, 3, 4, 6, 8, 9, 10, 11 or 20 in the order of the file, then with 22, then
  * with 17 where buffer has too little room from place on; GUARD_LONGEST_SHEET bytes are enough for every
  * sheet. */

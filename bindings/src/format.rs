@@ -8,9 +8,15 @@ pub fn slot_band(k: usize) -> usize {
     SLOT_BAND + BAND_SIZE * k
 }
 
+/// The first coefficient of band k's law; the constant and the divisor stand LAW_CONSTANT and LAW_DIVISOR
+/// further. The first band's divisor is 0 where the sheet's bands are marked `BD`, otherwise `BF`.
+pub fn slot_law(k: usize) -> usize {
+    slot_band(k) + BAND_LAW
+}
+
 /// The first coefficient of band k's row for variable i; b, c, d, q stand VARIABLES further.
 pub fn slot_row(k: usize, i: usize) -> usize {
-    slot_band(k) + BAND_HEAD + ROW_SIZE * i
+    slot_band(k) + BAND_ROWS + ROW_SIZE * i
 }
 
 /// No-go box j's first lower side; its upper sides stand VARIABLES further. The boxes ascend, and none
