@@ -176,6 +176,107 @@ uint64_t guard_reach(const uint8_t *sheet, size_t sheet_length, uint32_t ticks, 
                      uint32_t law, int32_t command, const uint8_t *start, size_t start_length,
                      uint8_t *out, size_t out_length);
 
+/* ---- the plain law's commands ------------------------------------------------------------------
+ *
+ * What a drive may send to the motor under the plain law, worked out from a sheet's numbers as
+ * guard_sheet_read gives them. The next functions are C: they are tested, not proved. */
+
+/* The commands from least to greatest; none where the least is above the greatest. */
+struct guard_commands {
+    int32_t least, greatest;
+};
+
+/* Whether the plain law follows the state: the bands are marked `BF`. */
+static inline bool guard_follows(const int32_t numbers[GUARD_NUMBERS])
+{
+    return numbers[guard_slot_law(0) + GUARD_LAW_DIVISOR] != 0;
+}
+
+/* A quotient by a divisor above 0, rounded down and rounded up; C's own division rounds toward 0. */
+static inline int64_t guard_floor(int64_t value, int64_t divisor)
+{
+    return value / divisor - (value % divisor < 0);
+}
+
+static inline int64_t guard_ceil(int64_t value, int64_t divisor)
+{
+    return value / divisor + (value % divisor > 0);
+}
+
+/* The least or the greatest, over a box, of a law's sum of coefficient * variable and constant. */
+static inline int64_t guard_law_sum(const int32_t *law, const int32_t *sides, size_t n, bool greatest)
+{
+    int64_t sum = law[GUARD_LAW_CONSTANT];
+    for (size_t i = 0; i < n; i++)
+        sum += (int64_t)law[i] * sides[2 * i + ((law[i] > 0) == greatest)];
+    return sum;
+}
+
+static inline int32_t guard_cut(int64_t value, struct guard_commands range)
+{
+    return value < range.least ? range.least : value > range.greatest ? range.greatest : (int32_t)value;
+}
+
+/* The commands that band k's plain law has at every state of a box, whose states the band has. */
+static inline struct guard_commands guard_band_commands(const int32_t numbers[GUARD_NUMBERS], size_t k,
+                                                        const int32_t *sides)
+{
+    const int32_t *band = numbers + guard_slot_band(k), *law = numbers + guard_slot_law(k);
+    size_t n = (size_t)numbers[GUARD_SLOT_N];
+    struct guard_commands safety = {band[1], band[2]};
+    if (!guard_follows(numbers))
+        return safety;
+    int64_t least = guard_floor(guard_law_sum(law, sides, n, true), law[GUARD_LAW_DIVISOR]);
+    int64_t greatest = guard_ceil(guard_law_sum(law, sides, n, false), law[GUARD_LAW_DIVISOR]);
+    struct guard_commands commands = {guard_cut(least, safety), guard_cut(greatest, safety)};
+    return commands;
+}
+
+/* Cuts the band variable's pair of a box to band k, which is counted as without a lower end where k is 0;
+ * false where the band has no state of the box. */
+static inline bool guard_cut_to_band(const int32_t numbers[GUARD_NUMBERS], size_t k, int32_t *pair)
+{
+    bool last = k + 1 == (size_t)numbers[GUARD_SLOT_BANDS];
+    if (k > 0 && pair[0] < numbers[guard_slot_band(k)])
+        pair[0] = numbers[guard_slot_band(k)];
+    if (!last && pair[1] >= numbers[guard_slot_band(k + 1)])
+        pair[1] = numbers[guard_slot_band(k + 1)] - 1;
+    return pair[0] <= pair[1];
+}
+
+/* The commands that the plain law has at every state of a box: with any one of them a drive obeys the plain
+ * law wherever in the box the state is. Side 2i is variable i's lower side, side 2i + 1 its upper side, not
+ * below it. There may be none, where the law has other commands at one end of the box than at the other. */
+static inline struct guard_commands guard_plain_common(const int32_t numbers[GUARD_NUMBERS],
+                                                       const int32_t *sides)
+{
+    size_t bands = (size_t)numbers[GUARD_SLOT_BANDS], n = (size_t)numbers[GUARD_SLOT_N];
+    size_t by = 2 * (size_t)numbers[GUARD_SLOT_BAND_VARIABLE];
+    struct guard_commands common = {numbers[GUARD_SLOT_LEAST_COMMAND], numbers[GUARD_SLOT_GREATEST_COMMAND]};
+    int32_t part[2 * GUARD_VARIABLES];
+    for (size_t k = 0; k < bands; k++) {
+        for (size_t i = 0; i < 2 * n; i++)
+            part[i] = sides[i];
+        if (!guard_cut_to_band(numbers, k, part + by))
+            continue;
+        struct guard_commands here = guard_band_commands(numbers, k, part);
+        common.least = here.least > common.least ? here.least : common.least;
+        common.greatest = here.greatest < common.greatest ? here.greatest : common.greatest;
+    }
+    return common;
+}
+
+/* The commands that the plain law has at a state of n numbers: in a `BD` band those of its safety range, in a
+ * `BF` band one or two. A state below the first edge, where the sheet has no band, counts to the first band. */
+static inline struct guard_commands guard_plain_commands(const int32_t numbers[GUARD_NUMBERS],
+                                                         const int32_t *state)
+{
+    int32_t sides[2 * GUARD_VARIABLES];
+    for (size_t i = 0; i < (size_t)numbers[GUARD_SLOT_N]; i++)
+        sides[2 * i] = sides[2 * i + 1] = state[i];
+    return guard_plain_common(numbers, sides);
+}
+
 /* ---- numbers in slices ------------------------------------------------------------------------- */
 
 /* Number i of a slice; for guard_reach's out, side i. */
