@@ -2067,7 +2067,7 @@ static void put_random_sheet(size_t n, size_t bands, bool follows, struct sizes 
             put_random_law(k, n, sizes);
     }
     for (size_t i = 0; i < n; i++)
-        numbers[GUARD_SLOT_CAPS + i] = 1000;
+        numbers[GUARD_SLOT_CAPS + i] = random_within(1, 8);
     put_file(follows);
     expect("random sheet", (int)n, guard_sheet(file, file_length), 0);
 }
@@ -2111,8 +2111,25 @@ static void search_box(const int32_t *sides, size_t n, struct guard_commands *co
     }
 }
 
-/* After a tick under the plain law each variable has changed by some command or by its opposite. */
-static void expect_ticked(const int32_t *sides, size_t n, struct guard_commands some)
+/* The change of a variable's lower or upper face in a tick: by some command of its neighborhood, or by the
+ * opposite of one, within the cap. */
+static int32_t face_by_search(const int32_t *sides, size_t n, size_t i, bool upper)
+{
+    int32_t within[2 * GUARD_VARIABLES], cap = numbers[GUARD_SLOT_CAPS + i];
+    struct guard_commands common, some;
+    memcpy(within, sides, 2 * n * sizeof *sides);
+    if (upper && within[2 * i] < sides[2 * i + 1] - 2 * cap)
+        within[2 * i] = sides[2 * i + 1] - 2 * cap;
+    if (!upper && within[2 * i + 1] > sides[2 * i] + 2 * cap)
+        within[2 * i + 1] = sides[2 * i] + 2 * cap;
+    search_box(within, n, &common, &some);
+    int32_t least = i % 2 == 0 ? some.least : -some.greatest, greatest = i % 2 == 0 ? some.greatest : -some.least;
+    int32_t change = upper ? greatest : least;
+    return change < -cap ? -cap : change > cap ? cap : change;
+}
+
+/* The archive's reach of a tick under the plain law has these faces. */
+static void expect_ticked(const int32_t *sides, size_t n)
 {
     uint8_t start[GUARD_PAIR * GUARD_VARIABLES];
     for (size_t i = 0; i < 2 * n; i++)
@@ -2120,11 +2137,9 @@ static void expect_ticked(const int32_t *sides, size_t n, struct guard_commands 
     fill();
     expect("tick of a box", (int)n,
            guard_reach(file, file_length, 1, 1, 0, 0, start, GUARD_PAIR * n, lent, guard_reach_length(n)), 1);
-    for (size_t i = 0; i < n; i++) {
-        int32_t least = i % 2 == 0 ? some.least : -some.greatest, most = i % 2 == 0 ? some.greatest : -some.least;
-        expect("tick of a box", (int)n, (uint32_t)guard_get(lent, 2 * i), (uint32_t)(sides[2 * i] + least));
-        expect("tick of a box", (int)n, (uint32_t)guard_get(lent, 2 * i + 1), (uint32_t)(sides[2 * i + 1] + most));
-    }
+    for (size_t side = 0; side < 2 * n; side++)
+        expect("tick of a box", (int)n, (uint32_t)guard_get(lent, side),
+               (uint32_t)(sides[side] + face_by_search(sides, n, side / 2, side % 2 == 1)));
 }
 
 static unsigned with_common, without_common;
@@ -2138,7 +2153,7 @@ static void commands_over_boxes(size_t n, size_t bands, bool follows)
         struct guard_commands common, some;
         for (size_t i = 0; i < n; i++) {
             sides[2 * i] = random_within(-9, 9);
-            sides[2 * i + 1] = sides[2 * i] + random_within(0, n > 3 ? 1 : 4);
+            sides[2 * i + 1] = sides[2 * i] + random_within(0, n > 3 ? 3 : 9);
         }
         search_box(sides, n, &common, &some);
         struct guard_commands found = guard_plain_common(numbers, sides);
@@ -2148,7 +2163,7 @@ static void commands_over_boxes(size_t n, size_t bands, bool follows)
             expect("plain law over a box", (int)n, found.least > found.greatest, 1);
         with_common += common.least <= common.greatest;
         without_common += common.least > common.greatest;
-        expect_ticked(sides, n, some);
+        expect_ticked(sides, n);
     }
 }
 
