@@ -1,7 +1,8 @@
 /* The calls of include/sheet.h from C, linked with the archive of the crate `sheet` beside that of the
  * guard: sheet A's numbers at each slot, and the refusal, with the array as it was, for each shorter file,
- * for each byte of it changed, for no-go boxes out of order and for a recovery box on a no-go box, as
- * guard_sheet and guard_sheet_read answer. The last line is `N passed, M failed`. */
+ * for each byte of it changed, for no-go boxes out of order, for a recovery box on a no-go box, and for marks
+ * and law numbers of sheets whose plain law follows the state, as guard_sheet and guard_sheet_read answer. The
+ * last line is `N passed, M failed`. */
 #include "guard.h"
 #include "sheet.h"
 
@@ -122,10 +123,9 @@ static void recovery_boxes(void)
     }
 }
 
-/* Writes a sheet of n variables. No-go box j is 100j..100j + 20 in each, the recovery box far from all. */
-static size_t wider(uint8_t *sheet, size_t n, size_t count)
+/* The numbers of a sheet of n variables. No-go box j is 100j..100j + 20 in each, the recovery box far from all. */
+static void numbers_of_wider(int32_t *numbers, size_t n, size_t count)
 {
-    int32_t numbers[SHEET_NUMBERS];
     sheet_read(sheet_a, SHEET, numbers);
     numbers[GUARD_SLOT_N] = (int32_t)n;
     numbers[GUARD_SLOT_UNSAFE_BOXES] = (int32_t)count;
@@ -139,6 +139,12 @@ static size_t wider(uint8_t *sheet, size_t n, size_t count)
             numbers[guard_slot_unsafe(j) + GUARD_VARIABLES + i] = 100 * (int32_t)j + 20;
         }
     }
+}
+
+static size_t wider(uint8_t *sheet, size_t n, size_t count)
+{
+    int32_t numbers[SHEET_NUMBERS];
+    numbers_of_wider(numbers, n, count);
     return guard_length(guard_sheet_write(numbers, sheet, GUARD_LONGEST_SHEET, 0));
 }
 
@@ -190,6 +196,106 @@ static void wider_sheets(void)
         }
 }
 
+/* The numbers of a sheet of two bands with a law each: 100(k + 1) + j and the opposite are coefficients. */
+static void numbers_of_following(int32_t *numbers, size_t n)
+{
+    numbers_of_wider(numbers, n, 1);
+    numbers[GUARD_SLOT_BANDS] = 2;
+    memcpy(numbers + guard_slot_band(1), numbers + guard_slot_band(0), GUARD_BAND_SIZE * sizeof *numbers);
+    numbers[guard_slot_band(1)] = 7;
+    for (size_t k = 0; k < 2; k++) {
+        int32_t *law = numbers + guard_slot_law(k), sign = k == 0 ? 1 : -1;
+        for (size_t j = 0; j < n; j++)
+            law[j] = sign * (100 * (int32_t)(k + 1) + (int32_t)j);
+        law[GUARD_LAW_CONSTANT] = sign * 99999999;
+        law[GUARD_LAW_DIVISOR] = 4095 + (int32_t)k;
+    }
+}
+
+/* Where the two bands of such a sheet stand, with a law or without. */
+static size_t band_at(size_t n, size_t k, bool follows)
+{
+    return 20 + 2 * n + k * (14 + n * (2 * n + 12) + (follows ? 2 * n + 6 : 0));
+}
+
+/* A number of the file is changed, and the refusal is the one that is due. */
+static void change(uint8_t *sheet, size_t length, size_t place, size_t size, int32_t value, uint8_t due)
+{
+    uint8_t old[4];
+    memcpy(old, sheet + place, size);
+    for (size_t i = 0; i < size; i++)
+        sheet[place + i] = (uint8_t)((uint32_t)value >> 8 * (size - 1 - i));
+    expect_refusal("changed", place, sheet, length, due);
+    memcpy(sheet + place, old, size);
+}
+
+/* Law numbers at their ends and past them. */
+static void law_numbers(uint8_t *sheet, size_t length, size_t n, size_t k)
+{
+    size_t law = band_at(n, k, true) + 14;
+    for (size_t j = 0; j < n; j++)
+        for (int32_t sign = -1; sign <= 1; sign += 2) {
+            change(sheet, length, law + 2 * j, 2, sign * 1000, 0);
+            change(sheet, length, law + 2 * j, 2, sign * 1001, GUARD_REFUSED_ROW);
+        }
+    for (int32_t sign = -1; sign <= 1; sign += 2) {
+        change(sheet, length, law + 2 * n, 4, sign * 100000000, 0);
+        change(sheet, length, law + 2 * n, 4, sign * 100000001, GUARD_REFUSED_ROW);
+    }
+    change(sheet, length, law + 2 * n + 4, 2, 1, 0);
+    change(sheet, length, law + 2 * n + 4, 2, 4096, 0);
+    change(sheet, length, law + 2 * n + 4, 2, 0, GUARD_REFUSED_ROW);
+    change(sheet, length, law + 2 * n + 4, 2, 4097, GUARD_REFUSED_ROW);
+}
+
+/* Every mark of either band: the first fixes the length, the second is that of the first. */
+static void band_marks(uint8_t *sheet, size_t length, size_t n, bool follows)
+{
+    char own = follows ? 'F' : 'D', other = follows ? 'D' : 'F';
+    size_t first = band_at(n, 0, follows), second = band_at(n, 1, follows);
+    change(sheet, length, first, 2, 'B' << 8 | own, 0);
+    change(sheet, length, first, 2, 'B' << 8 | other, GUARD_REFUSED_LENGTH);
+    change(sheet, length, first, 2, 'b' << 8 | own, follows ? GUARD_REFUSED_LENGTH : GUARD_REFUSED_MARK);
+    change(sheet, length, first, 2, 'F' << 8 | 'B', follows ? GUARD_REFUSED_LENGTH : GUARD_REFUSED_MARK);
+    change(sheet, length, second, 2, 'B' << 8 | other, GUARD_REFUSED_MARK);
+    change(sheet, length, second, 2, 'b' << 8 | own, GUARD_REFUSED_MARK);
+}
+
+/* Each length up to one beyond that of either kind, and each byte changed. */
+static void cut_and_changed(uint8_t *sheet, size_t length, size_t n)
+{
+    for (size_t cut = 0; cut <= length + 2 * (2 * n + 6) + 1; cut++) {
+        uint8_t due = cut < 20 ? GUARD_REFUSED_HEAD : cut == length ? 0 : GUARD_REFUSED_LENGTH;
+        expect_refusal("cut", cut, sheet, cut, due);
+    }
+    for (size_t at = 0; at < length; at++) {
+        sheet[at] ^= 0x80;
+        compare("byte", at, sheet, length);
+        sheet[at] ^= 0x80;
+    }
+}
+
+/* The reader has each number that was written, and none of a law where the bands have none. */
+static void both_kinds(size_t n, bool follows)
+{
+    int32_t numbers[SHEET_NUMBERS], read[SHEET_NUMBERS];
+    uint8_t sheet[GUARD_LONGEST_SHEET + 1] = {0};
+    numbers_of_following(numbers, n);
+    if (!follows)
+        numbers[guard_slot_law(0) + GUARD_LAW_DIVISOR] = 0;
+    size_t length = guard_length(guard_sheet_write(numbers, sheet, sizeof sheet, 0));
+    expect("length", n, (int64_t)length, (int64_t)(band_at(n, 2, follows) + 2 * (2 + GUARD_PAIR * n)));
+    expect("read", n, sheet_read(sheet, length, read), 0);
+    for (size_t k = 0; !follows && k < 2; k++)
+        memset(numbers + guard_slot_law(k), 0, GUARD_LAW_SIZE * sizeof *numbers);
+    for (size_t slot = 0; slot < SHEET_NUMBERS; slot++)
+        expect("slot", slot, read[slot], numbers[slot]);
+    for (size_t k = 0; follows && k < 2; k++)
+        law_numbers(sheet, length, n, k);
+    band_marks(sheet, length, n, follows);
+    cut_and_changed(sheet, length, n);
+}
+
 int main(void)
 {
     int32_t numbers[SHEET_NUMBERS];
@@ -215,6 +321,10 @@ int main(void)
     overlap_and_byte();
     recovery_boxes();
     wider_sheets();
+    for (size_t n = 1; n <= GUARD_VARIABLES; n++) {
+        both_kinds(n, true);
+        both_kinds(n, false);
+    }
     printf("%d passed, %d failed\n", passed, failed);
     return failed != 0;
 }
