@@ -1,6 +1,8 @@
-/* Measures the stack and the time of each call, on a sheet and its questions.
+/* Measures the stack and the time of each call, on a sheet and its questions; without a sheet, on the
+ * largest ones, whose bands are marked `BD` and `BF`, with questions of many rounds.
  *
  *     measure sheet.bin asks.bin
+ *     measure
  *
  * The stack is measured by running a call in a thread whose stack was filled with a pattern, less
  * what a thread that calls nothing uses. The figures of one machine say little about another. */
@@ -171,20 +173,11 @@ static size_t load(uint8_t *out, size_t room, const char *path)
     return length;
 }
 
-int main(int count, char **words)
+/* A row for each call, on the sheet and the questions; false where one of them is at fault. */
+static bool table(void)
 {
-    if (count == 3) {
-        sheet_length = load(sheet, sizeof sheet, words[1]);
-        asks_length = load(asks, sizeof asks, words[2]);
-    }
-    if (guard_numbers() != GUARD_NUMBERS) {
-        fprintf(stderr, "guard.h is not that of this archive\n");
-        return EXIT_FAILURE;
-    }
-    if (guard_is_refused(call_read()) || !take_question(0)) {
-        fprintf(stderr, "usage: measure sheet.bin asks.bin\n");
-        return EXIT_FAILURE;
-    }
+    if (guard_is_refused(call_read()) || !take_question(0))
+        return false;
     printf("| call | stack, bytes | time, microseconds | |\n|---|---|---|---|\n");
     row("guard_sheet", call_sheet);
     row("guard_recovery", call_recovery);
@@ -193,5 +186,102 @@ int main(int count, char **words)
     row("guard_sheet_write", call_write);
     take_question(0);
     row("guard_reach", call_reach);
-    return EXIT_SUCCESS;
+    return true;
+}
+
+/* ---- the largest sheets ------------------------------------------------------------------------
+ *
+ * Every box meets all bands, but for some of the band variable's neighborhoods. No change is clamped, and each
+ * band allows more than the one before, so that every band's row is divided. The box never comes home. */
+
+enum { HALF = 100, SPREAD = 4096, MANY = 2000 };
+
+/* Small coefficients of either sign. */
+static void put_coefficients(int32_t *coefficients)
+{
+    for (int32_t j = 0; j < GUARD_VARIABLES; j++)
+        coefficients[j] = j % 2 == 0 ? 1 : -1;
+}
+
+static void put_band(int32_t k, bool follows)
+{
+    int32_t *band = numbers + guard_slot_band((size_t)k), *law = numbers + guard_slot_law((size_t)k);
+    band[0] = k == 0 ? -2000000 : 10 * k - 40;
+    band[1] = -10000;
+    band[2] = 10000;
+    if (follows) {
+        put_coefficients(law);
+        law[GUARD_LAW_CONSTANT] = 1 - k;
+        law[GUARD_LAW_DIVISOR] = SPREAD;
+    }
+    for (size_t i = 0; i < GUARD_VARIABLES; i++) {
+        int32_t *one = numbers + guard_slot_row((size_t)k, i);
+        put_coefficients(one);
+        one[GUARD_VARIABLES] = i % 2 == 0 ? 1 : -1;
+        one[GUARD_VARIABLES + 1] = 3;
+        one[GUARD_VARIABLES + 2] = SPREAD * (k + 1);
+        one[GUARD_VARIABLES + 3] = SPREAD;
+    }
+}
+
+/* Everywhere, but in the last variable far above the recovery box, which is the state 0. */
+static void put_no_go(int32_t j)
+{
+    int32_t *sides = numbers + guard_slot_unsafe((size_t)j);
+    for (size_t i = 0; i < GUARD_VARIABLES; i++) {
+        sides[i] = i + 1 < GUARD_VARIABLES ? -2000000 : 1999990 + j;
+        sides[GUARD_VARIABLES + i] = 2000000;
+    }
+}
+
+static void put_largest(bool follows)
+{
+    static const int32_t head[] = {GUARD_VARIABLES, GUARD_BANDS, GUARD_UNSAFE_BOXES, 0, 500, 500, 100, -10000, 10000};
+    memset(numbers, 0, sizeof numbers);
+    memcpy(numbers, head, sizeof head);
+    for (size_t i = 0; i < GUARD_VARIABLES; i++)
+        numbers[GUARD_SLOT_CAPS + i] = 1000;
+    for (int32_t k = 0; k < GUARD_BANDS; k++)
+        put_band(k, follows);
+    for (int32_t j = 0; j < GUARD_UNSAFE_BOXES; j++)
+        put_no_go(j);
+    sheet_length = guard_length(guard_sheet_write(numbers, sheet, sizeof sheet, 0));
+}
+
+/* A question about one command, and one about a span. */
+static void put_questions(void)
+{
+    int32_t sides[2 * GUARD_VARIABLES];
+    for (size_t i = 0; i < 2 * GUARD_VARIABLES; i++)
+        sides[i] = i % 2 == 0 ? -HALF : HALF;
+    asks_length = guard_question(asks, MANY, 5, sides, GUARD_VARIABLES);
+    asks_length += guard_span_question(asks + asks_length, MANY, -20, 20, sides, GUARD_VARIABLES);
+}
+
+static bool table_of_largest(bool follows)
+{
+    put_largest(follows);
+    put_questions();
+    printf("`%s`, %d variables, %d bands, %d no-go boxes, %zu bytes:\n\n", follows ? "BF" : "BD", GUARD_VARIABLES,
+           GUARD_BANDS, GUARD_UNSAFE_BOXES, sheet_length);
+    return table();
+}
+
+int main(int count, char **words)
+{
+    if (guard_numbers() != GUARD_NUMBERS) {
+        fprintf(stderr, "guard.h is not that of this archive\n");
+        return EXIT_FAILURE;
+    }
+    bool measured = false;
+    if (count == 1) {
+        measured = table_of_largest(false) && puts("") >= 0 && table_of_largest(true);
+    } else if (count == 3) {
+        sheet_length = load(sheet, sizeof sheet, words[1]);
+        asks_length = load(asks, sizeof asks, words[2]);
+        measured = table();
+    }
+    if (!measured)
+        fprintf(stderr, "usage: measure [sheet.bin asks.bin]\n");
+    return measured ? EXIT_SUCCESS : EXIT_FAILURE;
 }
