@@ -123,61 +123,6 @@ static bool holds(const struct box *box, const struct sledge *sledge)
     return true;
 }
 
-/* ---- who commands ----------------------------------------------------------------------------- */
-
-/* What acts on the motor: the coach if it was kept, with its command or at each tick with any one of
- * its span, the plain law otherwise. */
-struct law {
-    bool kept;
-    int32_t least, greatest; /* of the coach: equal where it has one command */
-};
-
-static bool is_span(struct law law)
-{
-    return law.least < law.greatest;
-}
-
-/* The plain law of leg_press.txt, with the motor's inaccuracy. */
-static int32_t plain_force(const struct sledge *measured)
-{
-    int32_t coasting = step_below(coasting_of(measured->position, measured->speed));
-    if (coasting < 2400)
-        return random_within(350, 400);
-    if (coasting < 3600)
-        return random_within(-425, -375);
-    return random_within(-1200, -1150);
-}
-
-/* The coach is not to be trusted: mostly it holds some weight, sometimes it does anything. It asks
- * for one command, or for a span that begins with it. */
-static struct law coach(bool by_span)
-{
-    bool holds_weight = random_within(0, 2) != 0;
-    int32_t force = holds_weight ? random_within(-600, -200) : random_within(-1200, 450);
-    return (struct law){false, force, by_span ? force + SPAN : force};
-}
-
-/* A tick under a kept span: the coach sends what it likes, and the drive holds it to the span. */
-static int32_t force_within(struct law now)
-{
-    int32_t sent = random_within(now.least - SPAN, now.greatest + SPAN);
-    return sent < now.least ? now.least : sent > now.greatest ? now.greatest : sent;
-}
-
-/* The force at a tick. The plain law reads the sensors every tick. */
-static int32_t force_of(struct law now, const struct sledge *measured)
-{
-    if (!now.kept)
-        return plain_force(measured);
-    return is_span(now) ? force_within(now) : now.least;
-}
-
-/* The legs push anew every few ticks, with 0 to 800 N. */
-static int32_t legs_push(void)
-{
-    return random_within(0, 4) == 0 ? 800 * random_within(0, 1) : random_within(0, 800);
-}
-
 /* ---- the sheet -------------------------------------------------------------------------------- */
 
 struct sheet {
@@ -244,6 +189,73 @@ static bool forbidden(const struct sheet *sheet, const struct sledge *sledge)
             return true;
     }
     return false;
+}
+
+/* ---- who commands ----------------------------------------------------------------------------- */
+
+/* What acts on the motor: the coach if it was kept, with its command or at each tick with any one of
+ * its span, the plain law otherwise. */
+struct law {
+    bool kept;
+    int32_t least, greatest; /* of the coach: equal where it has one command */
+};
+
+static bool is_span(struct law law)
+{
+    return law.least < law.greatest;
+}
+
+/* The plain law of leg_press.txt, with the motor's inaccuracy. */
+static int32_t force_by_bands(const struct sledge *measured)
+{
+    int32_t coasting = step_below(coasting_of(measured->position, measured->speed));
+    if (coasting < 2400)
+        return random_within(350, 400);
+    if (coasting < 3600)
+        return random_within(-425, -375);
+    return random_within(-1200, -1150);
+}
+
+/* A plain law that follows the state (`BF`) gives the force at the state that is read, by the sheet's own
+ * numbers. What the reading's error and the motor's inaccuracy add is in the spread of such a sheet. */
+static int32_t plain_force(const struct sheet *sheet, const struct sledge *measured)
+{
+    if (!guard_follows(sheet->numbers))
+        return force_by_bands(measured);
+    int32_t state[VARIABLES];
+    state_of(measured, state);
+    struct guard_commands commands = guard_plain_commands(sheet->numbers, state);
+    return random_within(commands.least, commands.greatest);
+}
+
+/* The coach is not to be trusted: mostly it holds some weight, sometimes it does anything. It asks
+ * for one command, or for a span that begins with it. */
+static struct law coach(bool by_span)
+{
+    bool holds_weight = random_within(0, 2) != 0;
+    int32_t force = holds_weight ? random_within(-600, -200) : random_within(-1200, 450);
+    return (struct law){false, force, by_span ? force + SPAN : force};
+}
+
+/* A tick under a kept span: the coach sends what it likes, and the drive holds it to the span. */
+static int32_t force_within(struct law now)
+{
+    int32_t sent = random_within(now.least - SPAN, now.greatest + SPAN);
+    return sent < now.least ? now.least : sent > now.greatest ? now.greatest : sent;
+}
+
+/* The force at a tick. The plain law reads the sensors every tick. */
+static int32_t force_of(const struct sheet *sheet, struct law now, const struct sledge *measured)
+{
+    if (!now.kept)
+        return plain_force(sheet, measured);
+    return is_span(now) ? force_within(now) : now.least;
+}
+
+/* The legs push anew every few ticks, with 0 to 800 N. */
+static int32_t legs_push(void)
+{
+    return random_within(0, 4) == 0 ? 800 * random_within(0, 1) : random_within(0, 800);
 }
 
 /* ---- moving a box on to the period's start ---------------------------------------------------- */
@@ -331,7 +343,7 @@ static void act(const struct sheet *sheet, struct sledge *sledge, struct law now
     int32_t legs = legs_push();
     for (int32_t t = 0; t < ticks; t++) {
         struct sledge measured = measure(sledge);
-        tick(sledge, force_of(now, &measured), legs);
+        tick(sledge, force_of(sheet, now, &measured), legs);
         if (sledge->position < summary->least_position)
             summary->least_position = sledge->position;
         if (sledge->position > summary->greatest_position)
