@@ -2030,7 +2030,7 @@ struct sizes {
     int32_t coefficient, constant, divisor, command, edge;
 };
 
-static const struct sizes small_sizes = {4, 12, 9, 6, 4}, large_sizes = {1000, 100000000, 4096, 10000, 2000000};
+static const struct sizes small_sizes = {4, 30, 20, 9, 4}, large_sizes = {1000, 100000000, 4096, 10000, 2000000};
 
 static void put_random_law(size_t k, size_t n, struct sizes sizes)
 {
@@ -2153,7 +2153,7 @@ static void commands_over_boxes(size_t n, size_t bands, bool follows)
         struct guard_commands common, some;
         for (size_t i = 0; i < n; i++) {
             sides[2 * i] = random_within(-9, 9);
-            sides[2 * i + 1] = sides[2 * i] + random_within(0, n > 3 ? 3 : 9);
+            sides[2 * i + 1] = sides[2 * i] + random_within(0, n > 3 ? 3 : 64 >> n);
         }
         search_box(sides, n, &common, &some);
         struct guard_commands found = guard_plain_common(numbers, sides);
