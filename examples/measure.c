@@ -194,7 +194,7 @@ static bool table(void)
  * Every box meets all bands, but for some of the band variable's neighborhoods. No change is clamped, and each
  * band allows more than the one before, so that every band's row is divided. The box never comes home. */
 
-enum { HALF = 100, SPREAD = 4096, MANY = 2000 };
+enum { HALF = 100, DIVISOR = 4096, MANY = 2000 };
 
 /* Small coefficients of either sign. */
 static void put_coefficients(int32_t *coefficients)
@@ -212,15 +212,15 @@ static void put_band(int32_t k, bool follows)
     if (follows) {
         put_coefficients(law);
         law[GUARD_LAW_CONSTANT] = 1 - k;
-        law[GUARD_LAW_DIVISOR] = SPREAD;
+        law[GUARD_LAW_DIVISOR] = DIVISOR;
     }
     for (size_t i = 0; i < GUARD_VARIABLES; i++) {
         int32_t *one = numbers + guard_slot_row((size_t)k, i);
         put_coefficients(one);
         one[GUARD_VARIABLES] = i % 2 == 0 ? 1 : -1;
         one[GUARD_VARIABLES + 1] = 3;
-        one[GUARD_VARIABLES + 2] = SPREAD * (k + 1);
-        one[GUARD_VARIABLES + 3] = SPREAD;
+        one[GUARD_VARIABLES + 2] = DIVISOR * (k + 1);
+        one[GUARD_VARIABLES + 3] = DIVISOR;
     }
 }
 
