@@ -216,8 +216,8 @@ static int32_t force_by_bands(const struct sledge *measured)
     return random_within(-1200, -1150);
 }
 
-/* A plain law that follows the state (`BF`) gives the force at the state that is read, by the sheet's own
- * numbers. What the reading's error and the motor's inaccuracy add is in the spread of such a sheet. */
+/* A plain law that follows the state (`BF`) gives the force at the state that is read, by the
+ * sheet's own numbers. What the reading's error adds is in the spread of such a sheet. */
 static int32_t plain_force(const struct sheet *sheet, const struct sledge *measured)
 {
     if (!guard_follows(sheet->numbers))

@@ -1,5 +1,5 @@
-/* Measures the stack and the time of each call, on a sheet and its questions; without a sheet, on the
- * largest ones, whose bands are marked `BD` and `BF`, with questions of many rounds.
+/* Measures the stack and the time of each call, on a sheet and its questions; without a sheet, on
+ * the largest ones, whose bands are marked `BD` and `BF`, with questions of many rounds.
  *
  *     measure sheet.bin asks.bin
  *     measure
@@ -191,8 +191,8 @@ static bool table(void)
 
 /* ---- the largest sheets ------------------------------------------------------------------------
  *
- * Every box meets all bands, but for some of the band variable's neighborhoods. No change is clamped, and each
- * band allows more than the one before, so that every band's row is divided. The box never comes home. */
+ * Every neighborhood meets all bands, but for some of the band variable. No change is clamped, and
+ * each band allows more than the one before, so that all rows are divided. No box comes home. */
 
 enum { HALF = 100, DIVISOR = 4096, MANY = 2000 };
 
@@ -205,7 +205,8 @@ static void put_coefficients(int32_t *coefficients)
 
 static void put_band(int32_t k, bool follows)
 {
-    int32_t *band = numbers + guard_slot_band((size_t)k), *law = numbers + guard_slot_law((size_t)k);
+    int32_t *band = numbers + guard_slot_band((size_t)k);
+    int32_t *law = numbers + guard_slot_law((size_t)k);
     band[0] = k == 0 ? -2000000 : 10 * k - 40;
     band[1] = -10000;
     band[2] = 10000;
@@ -236,7 +237,8 @@ static void put_no_go(int32_t j)
 
 static void put_largest(bool follows)
 {
-    static const int32_t head[] = {GUARD_VARIABLES, GUARD_BANDS, GUARD_UNSAFE_BOXES, 0, 500, 500, 100, -10000, 10000};
+    static const int32_t head[] = {GUARD_VARIABLES, GUARD_BANDS, GUARD_UNSAFE_BOXES,
+                                   0, 500, 500, 100, -10000, 10000};
     memset(numbers, 0, sizeof numbers);
     memcpy(numbers, head, sizeof head);
     for (size_t i = 0; i < GUARD_VARIABLES; i++)
@@ -262,8 +264,8 @@ static bool table_of_largest(bool follows)
 {
     put_largest(follows);
     put_questions();
-    printf("`%s`, %d variables, %d bands, %d no-go boxes, %zu bytes:\n\n", follows ? "BF" : "BD", GUARD_VARIABLES,
-           GUARD_BANDS, GUARD_UNSAFE_BOXES, sheet_length);
+    printf("`%s`, %d variables, %d bands, %d no-go boxes, %zu bytes:\n\n", follows ? "BF" : "BD",
+           GUARD_VARIABLES, GUARD_BANDS, GUARD_UNSAFE_BOXES, sheet_length);
     return table();
 }
 

@@ -109,12 +109,12 @@ static inline size_t guard_length(uint64_t answer)
  * count: 5..9 and 9..12 share a value, 5..9 and 10..12 do not.
  *
  * The bands are marked `BD` or `BF`, all of them as the first one. Under the plain law a `BD` band has any
- * command of its safety range. A `BF` band has a law before its rows: n coefficients (i16, within +-1,000), a
- * constant (i32, within +-100,000,000) and a divisor (u16, 1 to 4,096), in this order of the file; 10 where one
- * is out of range. At a state it has any command from floor to ceil of (sum of coefficient * variable +
- * constant) / divisor, both cut to the safety range. If the file reaches the first band's mark, at byte
- * 20 + 2n, and that reads `BF`, each band is 2n + 6 bytes longer than a `BD` band; otherwise the length (5) is
- * that of `BD` bands. A band with another mark than this one is 7. */
+ * command of its safety range. A `BF` band has a law before its rows: n coefficients (i16, within
+ * +-1,000), a constant (i32, within +-100,000,000) and a divisor (u16, 1 to 4,096); 10 where one is out of
+ * range. At a state it has any command from floor to ceil of (sum of coefficient * variable + constant) /
+ * divisor, both cut to the safety range. If the file reaches the first band's mark, at byte 20 + 2n, and
+ * that reads `BF`, the length (5) is that of `BF` bands, 2n + 6 bytes more for each, otherwise that of `BD`
+ * bands; then a band with another mark is 7. */
 uint64_t guard_sheet(const uint8_t *sheet, size_t sheet_length);
 
 /* The recovery check: under the plain law, does every state of the recovery box stay out of the no-go
@@ -252,7 +252,8 @@ static inline struct guard_commands guard_plain_common(const int32_t numbers[GUA
 {
     size_t bands = (size_t)numbers[GUARD_SLOT_BANDS], n = (size_t)numbers[GUARD_SLOT_N];
     size_t by = 2 * (size_t)numbers[GUARD_SLOT_BAND_VARIABLE];
-    struct guard_commands common = {numbers[GUARD_SLOT_LEAST_COMMAND], numbers[GUARD_SLOT_GREATEST_COMMAND]};
+    struct guard_commands common = {numbers[GUARD_SLOT_LEAST_COMMAND],
+                                    numbers[GUARD_SLOT_GREATEST_COMMAND]};
     int32_t part[2 * GUARD_VARIABLES];
     for (size_t k = 0; k < bands; k++) {
         for (size_t i = 0; i < 2 * n; i++)
@@ -266,8 +267,8 @@ static inline struct guard_commands guard_plain_common(const int32_t numbers[GUA
     return common;
 }
 
-/* The commands that the plain law has at a state of n numbers: in a `BD` band those of its safety range, in a
- * `BF` band one or two. A state below the first edge, where the sheet has no band, counts to the first band. */
+/* The commands that the plain law has at a state of n numbers: in a `BD` band those of its safety range, in
+ * a `BF` band one or two. A state below the first edge, where the sheet has no band, counts to the first. */
 static inline struct guard_commands guard_plain_commands(const int32_t numbers[GUARD_NUMBERS],
                                                          const int32_t *state)
 {

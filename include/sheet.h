@@ -22,9 +22,9 @@ enum { SHEET_NUMBERS = GUARD_NUMBERS };
 uint64_t sheet_numbers(void);
 
 /* Reads the sheet's numbers to their slots, which guard_format.h names (GUARD_SLOT_..), and answers 0;
- * numbers beyond the sheet's counts are 0, and so are the law numbers of a sheet whose bands are marked `BD`.
- * Where the sheet is refused the answer is the number of the refusal, 1 to 11, 20 or 22 (GUARD_REFUSED_.. of
- * guard.h), and numbers is as it was. sheet may be NULL where sheet_length is 0. */
+ * numbers beyond the sheet's counts are 0, and so is every law number where the bands are marked `BD`.
+ * Where the sheet is refused the answer is the number of the refusal, 1 to 11, 20 or 22 (GUARD_REFUSED_..
+ * of guard.h), and numbers is as it was. sheet may be NULL where sheet_length is 0. */
 uint8_t sheet_read(const uint8_t *sheet, size_t sheet_length, int32_t numbers[SHEET_NUMBERS]);
 
 #ifdef __cplusplus
