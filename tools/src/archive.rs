@@ -6,7 +6,7 @@ use guard_bindings::format::{reach_length, LONGEST_REACH, LONGEST_SHEET, NUMBERS
 use guard_bindings::ReachCall;
 use second_guard::boxes::StateBox;
 use second_guard::reach::Law;
-use second_guard::sheet::{CommandRange, Sheet};
+use second_guard::sheet::{BandLaw, CommandRange, Kind, Sheet};
 use std::borrow::Cow;
 
 /// The values of a sheet's bytes, or the number of the refusal.
@@ -22,6 +22,17 @@ pub fn write(sheet: &Sheet) -> Result<Vec<u8>, u8> {
     let answer = guard_bindings::sheet_write(&sheet.numbers(), &mut buffer, 0);
     buffer.truncate(answer.length()?);
     Ok(buffer)
+}
+
+/// The same for values of this kind. A first divisor of 0 is a `BD` sheet to the archive; where the bands have laws
+/// it is asked with another divisor out of range, which it refuses in the same place.
+pub fn write_as(kind: Kind, sheet: &Sheet) -> Result<Vec<u8>, u8> {
+    let mut sheet = *sheet;
+    let divisor = &mut sheet.bands[0].law.divisor;
+    if kind == Kind::Following && *divisor == 0 {
+        *divisor = -1;
+    }
+    write(&sheet)
 }
 
 /// The end box and the swept box of a reach, or the number of the refusal.
@@ -52,8 +63,8 @@ pub fn reach(
 }
 
 /// The sheet, the law and the command with which `guard_reach` has the boxes of a law: it takes one command or
-/// the plain law, but no span. The plain law uses any command of a band's safety range. So the boxes of a
-/// span are those of the plain law on the sheet that has the span as every band's safety range.
+/// the plain law, but no span. Without laws the plain law uses any command of a band's safety range. So the boxes
+/// of a span are those of the plain law on the sheet without laws that has the span as every band's safety range.
 fn called(sheet: &[u8], law: Law) -> Result<(Cow<'_, [u8]>, u32, i32), u8> {
     match law {
         Law::Baseline => Ok((sheet.into(), 0, 0)),
@@ -62,6 +73,7 @@ fn called(sheet: &[u8], law: Law) -> Result<(Cow<'_, [u8]>, u32, i32), u8> {
             let mut of_span = read(sheet)?;
             for band in &mut of_span.bands {
                 band.safety = CommandRange { least, greatest };
+                band.law = BandLaw::default();
             }
             Ok((write(&of_span)?.into(), 0, 0))
         }

@@ -210,7 +210,6 @@ mod tests {
     use super::*;
     use second_guard::boxes::StateBox;
     use second_guard::reach::Law;
-    use second_guard::sheet::{Band, Row};
 
     /// Sheet A of document 01 and its first question.
     fn sheet_a() -> (Sheet, Question) {
@@ -225,20 +224,12 @@ mod tests {
                 least: -25,
                 greatest: 25,
             },
-            caps: [5, 0, 0, 0],
             ..Sheet::default()
         };
-        let row = Row {
-            a: [-1, 0, 0, 0],
-            b: 4,
-            q: 20,
-            ..Row::default()
-        };
-        sheet.bands[0] = Band {
-            edge: -2_000_000,
-            rows: [row; 4],
-            ..Band::default()
-        };
+        sheet.caps[0] = 5;
+        sheet.bands[0].edge = -2_000_000;
+        let row = &mut sheet.bands[0].rows[0];
+        (row.a[0], row.b, row.q) = (-1, 4, 20);
         (
             sheet.unsafe_boxes[0].lower[0],
             sheet.unsafe_boxes[0].upper[0],

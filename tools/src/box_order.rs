@@ -55,10 +55,10 @@ pub(crate) mod tests {
 
     /// A box of two variables by its sides in the order in which they are compared.
     pub(crate) fn two([lower, upper, second_lower, second_upper]: [i64; 4]) -> StateBox {
-        StateBox {
-            lower: [lower, second_lower, 0, 0],
-            upper: [upper, second_upper, 0, 0],
-        }
+        let mut sides = StateBox::default();
+        sides.lower[..2].copy_from_slice(&[lower, second_lower]);
+        sides.upper[..2].copy_from_slice(&[upper, second_upper]);
+        sides
     }
 
     #[test]

@@ -10,7 +10,7 @@ const CAUSES: [(u8, &str); 19] = [
     (7, "later record's mark"),
     (8, "edge"),
     (9, "safety range"),
-    (10, "row number"),
+    (10, "law or row number"),
     (11, "no-go or recovery side"),
     (12, "question's length or mark"),
     (13, "allowance"),

@@ -16,6 +16,8 @@ pub enum Item {
     BandVariable,
     /// Band k's edge and safety range.
     Band(usize),
+    /// Band k's law, where the sheet's bands have one.
+    Law(usize),
     /// Band k's row for variable i.
     Row(usize, usize),
     Unsafe(usize),

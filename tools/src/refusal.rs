@@ -9,7 +9,8 @@ use crate::questions::{AskedQuestion, Commands};
 use guard_bindings::format::{BANDS, UNSAFE_BOXES, VARIABLES};
 use second_guard::boxes::StateBox;
 use second_guard::sheet::{
-    CommandRange, Row, Sheet, FIRST_EDGE, LAST_EDGE, SIDE_LIMIT, START_LIMIT, TICKS_LIMIT,
+    BandLaw, CommandRange, Kind, Row, Sheet, FIRST_EDGE, LAST_EDGE, SIDE_LIMIT, START_LIMIT,
+    TICKS_LIMIT,
 };
 
 const COMMAND_LIMIT: i32 = 10_000;
@@ -119,24 +120,49 @@ fn head(sheet: &Sheet, names: &Names) -> Vec<Test<Item>> {
     tests
 }
 
-fn row(sheet: &Sheet, names: &Names, place: Item, row: &Row) -> Vec<Test<Item>> {
-    let coefficient = (-COEFFICIENT_LIMIT, COEFFICIENT_LIMIT);
-    let offset = (-OFFSET_LIMIT, OFFSET_LIMIT);
-    let test = |what: String, value, ends| Test::new(10, place, what, value, ends);
-    let mut tests = Vec::new();
-    for j in 0..sheet.n() {
-        let what = format!("the coefficient of {}", names.variable(j));
-        tests.push(test(what, row.a[j], coefficient));
-    }
-    let what = format!("the coefficient of {}", names.command.name);
-    tests.push(test(what, row.b, coefficient));
-    tests.push(test("the constant".into(), row.c, offset));
-    tests.push(test("the spread".into(), row.d, (0, OFFSET_LIMIT)));
-    tests.push(test("the divisor".into(), row.q, (1, DIVISOR_LIMIT)));
+/// A number of a law or of a row.
+fn quotient_test(place: Item, what: impl Into<String>, value: i32, ends: (i32, i32)) -> Test<Item> {
+    Test::new(10, place, what, value, ends)
+}
+
+/// The coefficients of the variables, which have a name each.
+fn coefficients(place: Item, coefficients: &[i32], names: &Names) -> Vec<Test<Item>> {
+    let named = names.variables.iter().zip(coefficients);
+    named
+        .map(|(variable, &value)| coefficient(place, &variable.name, value))
+        .collect()
+}
+
+fn coefficient(place: Item, name: &str, value: i32) -> Test<Item> {
+    let what = format!("the coefficient of {name}");
+    quotient_test(place, what, value, (-COEFFICIENT_LIMIT, COEFFICIENT_LIMIT))
+}
+
+fn constant(place: Item, value: i32) -> Test<Item> {
+    quotient_test(place, "the constant", value, (-OFFSET_LIMIT, OFFSET_LIMIT))
+}
+
+fn divisor(place: Item, value: i32) -> Test<Item> {
+    quotient_test(place, "the divisor", value, (1, DIVISOR_LIMIT))
+}
+
+fn law(names: &Names, place: Item, law: &BandLaw) -> Vec<Test<Item>> {
+    let mut tests = coefficients(place, &law.coefficients, names);
+    tests.push(constant(place, law.constant));
+    tests.push(divisor(place, law.divisor));
     tests
 }
 
-fn band(sheet: &Sheet, names: &Names, k: usize) -> Vec<Test<Item>> {
+fn row(names: &Names, place: Item, row: &Row) -> Vec<Test<Item>> {
+    let mut tests = coefficients(place, &row.a, names);
+    tests.push(coefficient(place, &names.command.name, row.b));
+    tests.push(constant(place, row.c));
+    tests.push(quotient_test(place, "the spread", row.d, (0, OFFSET_LIMIT)));
+    tests.push(divisor(place, row.q));
+    tests
+}
+
+fn band(sheet: &Sheet, kind: Kind, names: &Names, k: usize) -> Vec<Test<Item>> {
     let band = &sheet.bands[k];
     let place = Item::Band(k);
     let edges = match k {
@@ -156,8 +182,11 @@ fn band(sheet: &Sheet, names: &Names, k: usize) -> Vec<Test<Item>> {
             (least, last),
         ),
     ];
+    if kind == Kind::Following {
+        tests.extend(law(names, Item::Law(k), &band.law));
+    }
     for i in 0..sheet.n() {
-        tests.extend(row(sheet, names, Item::Row(k, i), &band.rows[i]));
+        tests.extend(row(names, Item::Row(k, i), &band.rows[i]));
     }
     tests
 }
@@ -226,16 +255,29 @@ fn first_failing<P>(tests: Vec<Test<P>>) -> Option<Test<P>> {
     tests.into_iter().find(|test| test.fails)
 }
 
-/// The first number of a sheet that is at fault, in the order of the file.
-pub fn sheet_fault(sheet: &Sheet, names: &Names) -> Option<Test<Item>> {
+/// The first number of a sheet of this kind that is at fault, in the order of the file.
+pub fn sheet_fault(sheet: &Sheet, kind: Kind, names: &Names) -> Option<Test<Item>> {
+    first_failing(sheet_tests(sheet, kind, names))
+}
+
+/// The first one that is refused with this number.
+pub fn sheet_fault_of(refusal: u8, sheet: &Sheet, kind: Kind, names: &Names) -> Option<Test<Item>> {
+    let mut tests = sheet_tests(sheet, kind, names);
+    tests.retain(|test| test.refusal == refusal);
+    first_failing(tests)
+}
+
+/// The tests of a sheet's numbers, in the order of the file.
+fn sheet_tests(sheet: &Sheet, kind: Kind, names: &Names) -> Vec<Test<Item>> {
+    let counts = counts(sheet);
     // Only with the counts in range are there places to look at.
-    if let Some(test) = first_failing(counts(sheet)) {
-        return Some(test);
+    if counts.iter().any(|test| test.fails) {
+        return counts;
     }
     let n = sheet.n();
     let mut tests = head(sheet, names);
     for k in 0..sheet.bands().len() {
-        tests.extend(band(sheet, names, k));
+        tests.extend(band(sheet, kind, names, k));
     }
     for (j, unsafe_box) in sheet.unsafe_boxes().iter().enumerate() {
         tests.extend(sides(11, Item::Unsafe(j), unsafe_box, n, SIDE_LIMIT, names));
@@ -244,7 +286,7 @@ pub fn sheet_fault(sheet: &Sheet, names: &Names) -> Option<Test<Item>> {
     let recovery = &sheet.recovery;
     tests.extend(sides(11, Item::Recovery, recovery, n, START_LIMIT, names));
     tests.push(overlap(sheet, names));
-    first_failing(tests)
+    tests
 }
 
 /// The tests of the commands that a question names, the greatest one from the least one on.

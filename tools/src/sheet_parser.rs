@@ -3,7 +3,7 @@
 use crate::names::{Item, Named, Names};
 use crate::sheet_text::{SheetText, SourceLine};
 use crate::tokens::{Cursor, Fault, Token};
-use second_guard::sheet::{CommandRange, Row, Sheet, FIRST_EDGE, SIDE_LIMIT};
+use second_guard::sheet::{BandLaw, CommandRange, Row, Sheet, FIRST_EDGE, SIDE_LIMIT};
 
 /// Words with a meaning in a place where a name may stand.
 const RESERVED: [&str; 8] = [
@@ -16,6 +16,8 @@ const RESERVED: [&str; 8] = [
     "refused",
     "unit",
 ];
+
+const ALL_OR_NONE: &str = "every band has a law, or none has";
 
 /// Reads all lines and numbers the no-go boxes as the file has them, in whatever order they stand. Values are
 /// not tested here: `SheetText::bytes` does that.
@@ -39,6 +41,22 @@ pub fn parse(text: &str) -> Result<SheetText, Fault> {
         });
     }
     parser.complete()
+}
+
+/// What a quotient gives: how much a variable changes, or the command.
+#[derive(Clone, Copy, PartialEq, Eq)]
+enum Quotient {
+    Change,
+    Law,
+}
+
+impl Quotient {
+    fn example(self) -> &'static str {
+        match self {
+            Quotient::Change => "a change reads like: change x = (2 y - x + 5 +- 3) / 40",
+            Quotient::Law => "a law reads like: law u = (-3 x - y + 1200) / 40",
+        }
+    }
 }
 
 struct Parser {
@@ -72,6 +90,7 @@ impl Parser {
             "times" => self.times(cursor),
             "bands" => self.band_variable(cursor),
             "band" => self.band(cursor),
+            "law" => self.law(cursor),
             "change" => self.row(cursor),
             "no-go" => self.unsafe_box(cursor),
             "recovery" => self.recovery(cursor),
@@ -166,7 +185,7 @@ impl Parser {
 
     fn band(&mut self, cursor: &mut Cursor) -> Result<Item, Fault> {
         let k = self.text.sheet.band_count as usize;
-        self.rows_complete()?;
+        self.band_complete()?;
         cursor.word("from")?;
         let edge = if cursor.take_word("lowest") {
             FIRST_EDGE
@@ -186,26 +205,66 @@ impl Parser {
         Ok(Item::Band(k))
     }
 
-    /// The band whose rows are being read.
+    /// The band whose law and rows are being read.
     fn last_band(&self) -> Option<usize> {
         (self.text.sheet.band_count as usize).checked_sub(1)
     }
 
-    /// The last band, if there is one, has a row for each variable.
-    fn rows_complete(&self) -> Result<(), Fault> {
+    /// The last band, if there is one, has a law if the first one has, and a row for each variable.
+    fn band_complete(&self) -> Result<(), Fault> {
         let Some(k) = self.last_band() else {
             return Ok(());
         };
+        let fault = |what: String| {
+            Err(Fault {
+                line: self.text.line_of(Item::Band(k)),
+                refusal: None,
+                what,
+            })
+        };
+        if self.text.has_laws() && !self.has(Item::Law(k)) {
+            return fault(format!(
+                "this band has no law, the first band has: {ALL_OR_NONE}"
+            ));
+        }
         for (i, variable) in self.text.names.variables.iter().enumerate() {
-            if self.text.line_of(Item::Row(k, i)).is_none() {
-                return Err(Fault {
-                    line: self.text.line_of(Item::Band(k)),
-                    refusal: None,
-                    what: format!("this band has no change of '{}'", variable.name),
-                });
+            if !self.has(Item::Row(k, i)) {
+                return fault(format!("this band has no change of '{}'", variable.name));
             }
         }
         Ok(())
+    }
+
+    /// An earlier line holds this item.
+    fn has(&self, item: Item) -> bool {
+        self.text.line_of(item).is_some()
+    }
+
+    fn law(&mut self, cursor: &mut Cursor) -> Result<Item, Fault> {
+        let name = cursor.name()?;
+        let command = &self.text.names.command.name;
+        if name != *command {
+            return cursor.fault(format!(
+                "a law gives the command, and '{name}' is not its name"
+            ));
+        }
+        let Some(k) = self.last_band() else {
+            return cursor.fault("a law comes after its band's line");
+        };
+        if k > 0 && !self.text.has_laws() {
+            return cursor.fault(format!("the first band has no law: {ALL_OR_NONE}"));
+        }
+        let variables = 0..self.text.sheet.n();
+        if variables.into_iter().any(|i| self.has(Item::Row(k, i))) {
+            return cursor.fault("a law comes before the changes of its band");
+        }
+        let Row { a, c, q, .. } = self.quotient(cursor, Quotient::Law)?;
+        self.text.sheet.bands[k].law = BandLaw {
+            coefficients: a,
+            constant: c,
+            divisor: q,
+        };
+        Ok(Item::Law(k))
     }
 
     fn row(&mut self, cursor: &mut Cursor) -> Result<Item, Fault> {
@@ -214,23 +273,31 @@ impl Parser {
         let Some(k) = self.last_band() else {
             return cursor.fault("a change comes after its band's line");
         };
-        if !cursor.take_sign("=") || !cursor.take_sign("(") {
-            return cursor.fault("a change reads like: change x = (2 y - x + 5 +- 3) / 40");
-        }
-        let mut row = self.terms(cursor)?;
-        cursor.sign("/")?;
-        row.q = cursor.number()?;
-        self.text.sheet.bands[k].rows[i] = row;
+        self.text.sheet.bands[k].rows[i] = self.quotient(cursor, Quotient::Change)?;
         Ok(Item::Row(k, i))
     }
 
+    /// `= (2 y - x + 5 +- 3) / 40`. A law has neither the command nor a spread.
+    fn quotient(&self, cursor: &mut Cursor, of: Quotient) -> Result<Row, Fault> {
+        if !cursor.take_sign("=") || !cursor.take_sign("(") {
+            return cursor.fault(of.example());
+        }
+        let mut row = self.terms(cursor, of)?;
+        cursor.sign("/")?;
+        row.q = cursor.number()?;
+        Ok(row)
+    }
+
     /// Terms with their signs, then the spread, to the closing bracket.
-    fn terms(&self, cursor: &mut Cursor) -> Result<Row, Fault> {
+    fn terms(&self, cursor: &mut Cursor, of: Quotient) -> Result<Row, Fault> {
         let mut row = Row::default();
         let mut seen = Vec::new();
         let mut first = true;
         while !cursor.take_sign(")") {
             if cursor.take_sign("+-") {
+                if of == Quotient::Law {
+                    return cursor.fault("a law has no spread: '+-' cannot stand here");
+                }
                 row.d = cursor.number()?;
                 cursor.sign(")")?;
                 break;
@@ -245,7 +312,7 @@ impl Parser {
                 return cursor.fault("two terms of one kind");
             }
             let value = if negative { -size } else { size };
-            *self.slot(&mut row, cursor, name.as_deref())? = value;
+            *self.slot(&mut row, cursor, name.as_deref(), of)? = value;
             seen.push(name);
         }
         if first {
@@ -260,11 +327,17 @@ impl Parser {
         row: &'a mut Row,
         cursor: &Cursor,
         name: Option<&str>,
+        of: Quotient,
     ) -> Result<&'a mut i32, Fault> {
-        match name {
-            None => Ok(&mut row.c),
-            Some(name) if name == self.text.names.command.name => Ok(&mut row.b),
-            Some(name) => Ok(&mut row.a[self.index(cursor, name)?]),
+        let Some(name) = name else {
+            return Ok(&mut row.c);
+        };
+        match (name == self.text.names.command.name, of) {
+            (true, Quotient::Change) => Ok(&mut row.b),
+            (true, Quotient::Law) => cursor.fault(format!(
+                "'{name}' is the command: it cannot stand in its own law"
+            )),
+            (false, _) => Ok(&mut row.a[self.index(cursor, name)?]),
         }
     }
 
@@ -315,7 +388,7 @@ impl Parser {
                 return Err(Fault::general(format!("a line '{word}' is missing")));
             }
         }
-        self.rows_complete()?;
+        self.band_complete()?;
         self.text.sort_boxes();
         Ok(self.text)
     }

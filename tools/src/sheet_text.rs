@@ -6,8 +6,7 @@ use crate::names::{Item, Named, Names};
 use crate::refusal::sheet_fault;
 use crate::tokens::{split_comment, Fault, Unit};
 use second_guard::boxes::StateBox;
-use second_guard::sheet::{Band, Row, Sheet, FIRST_EDGE, SIDE_LIMIT};
-use std::fmt::Write;
+use second_guard::sheet::{Band, BandLaw, Kind, Row, Sheet, FIRST_EDGE, SIDE_LIMIT};
 
 /// A line as it was written.
 #[derive(Clone, Debug)]
@@ -48,6 +47,9 @@ fn items(sheet: &Sheet) -> Vec<Item> {
     items.extend([Item::Command, Item::Times, Item::BandVariable]);
     for k in 0..sheet.bands().len() {
         items.push(Item::Band(k));
+        if sheet.kind() == Kind::Following {
+            items.push(Item::Law(k));
+        }
         items.extend((0..n).map(|i| Item::Row(k, i)));
     }
     items.extend((0..sheet.unsafe_boxes().len()).map(Item::Unsafe));
@@ -68,6 +70,18 @@ impl SheetText {
     pub fn line_of(&self, item: Item) -> Option<usize> {
         let at = self.lines.iter().position(|line| line.item == Some(item))?;
         Some(at + 1)
+    }
+
+    /// The bands have laws. The values do not say it where the first law's divisor is 0.
+    pub fn has_laws(&self) -> bool {
+        self.line_of(Item::Law(0)).is_some()
+    }
+
+    fn kind(&self) -> Kind {
+        match self.has_laws() {
+            true => Kind::Following,
+            false => Kind::Fixed,
+        }
     }
 
     /// The lines of the no-go boxes, in the order of the file.
@@ -116,8 +130,8 @@ impl SheetText {
 
     /// The sheet's bytes, by the archive's writer. What it refuses is a fault with its line.
     pub fn bytes(&self) -> Result<Vec<u8>, Fault> {
-        let found = sheet_fault(&self.sheet, &self.names);
-        match (archive::write(&self.sheet), found) {
+        let found = sheet_fault(&self.sheet, self.kind(), &self.names);
+        match (archive::write_as(self.kind(), &self.sheet), found) {
             (Ok(bytes), None) => Ok(bytes),
             (Err(number), Some(test)) if number == test.refusal => Err(Fault {
                 line: self.line_of(test.place),
@@ -139,6 +153,11 @@ impl SheetText {
         if counts(sheet) != counts(&self.sheet) {
             return Err(Fault::general(
                 "the sheets differ in their number of variables, bands or no-go boxes",
+            ));
+        }
+        if sheet.kind() != self.kind() {
+            return Err(Fault::general(
+                "one sheet has a law in each band, and the other has none",
             ));
         }
         let mut like = self.clone();
@@ -202,11 +221,8 @@ fn line(sheet: &Sheet, names: &Names, item: Item) -> String {
             format!("bands by {}", names.variable(sheet.band_variable as usize))
         }
         Item::Band(k) => band_line(&sheet.bands[k]),
-        Item::Row(k, i) => {
-            let row = &sheet.bands[k].rows[i];
-            let terms = terms(row, names);
-            format!("  change {} = ({terms}) / {}", names.variable(i), row.q)
-        }
+        Item::Law(k) => law_line(&sheet.bands[k].law, names),
+        Item::Row(k, i) => row_line(&sheet.bands[k].rows[i], names, i),
         Item::Unsafe(j) => {
             let name = names.unsafe_boxes[j].iter();
             let name: String = name.map(|name| format!(" \"{name}\"")).collect();
@@ -223,6 +239,24 @@ fn band_line(band: &Band) -> String {
     };
     let safety = range(band.safety.least, band.safety.greatest);
     format!("band from {edge}  safety {safety}")
+}
+
+fn law_line(law: &BandLaw, names: &Names) -> String {
+    let sum = sum(&law.coefficients, 0, law.constant, names);
+    format!("  law {} = ({sum}) / {}", names.command.name, law.divisor)
+}
+
+fn row_line(row: &Row, names: &Names, i: usize) -> String {
+    let sum = sum(&row.a, row.b, row.c, names);
+    let spread = match row.d {
+        0 => String::new(),
+        d => format!(" +- {d}"),
+    };
+    format!(
+        "  change {} = ({sum}{spread}) / {}",
+        names.variable(i),
+        row.q
+    )
 }
 
 fn unit_part(unit: &Option<Unit>) -> String {
@@ -257,10 +291,10 @@ fn named_sides(sides: &StateBox, names: &Names, range: impl Fn(i64, i64) -> Stri
         .collect()
 }
 
-/// `2 s - p + 4 u + 7 +- 3`: terms with coefficient 0 are left out.
-fn terms(row: &Row, names: &Names) -> String {
-    let coefficients = names.variables.iter().zip(row.a);
-    let command = (&names.command, row.b);
+/// `2 s - p + 4 u + 7`: terms with coefficient 0 are left out.
+fn sum(coefficients: &[i32], command: i32, constant: i32, names: &Names) -> String {
+    let coefficients = names.variables.iter().zip(coefficients.iter().copied());
+    let command = (&names.command, command);
     let mut text = String::new();
     for (named, coefficient) in coefficients.chain([command]) {
         let name = match coefficient.unsigned_abs() {
@@ -269,13 +303,9 @@ fn terms(row: &Row, names: &Names) -> String {
         };
         push_term(&mut text, coefficient, &name);
     }
-    push_term(&mut text, row.c, &row.c.unsigned_abs().to_string());
+    push_term(&mut text, constant, &constant.unsigned_abs().to_string());
     if text.is_empty() {
         text.push('0');
-    }
-    if row.d != 0 {
-        // Writing to a string does not fail.
-        let _ = write!(text, " +- {}", row.d);
     }
     text
 }

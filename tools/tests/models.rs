@@ -35,6 +35,13 @@ fn step<const N: usize>(
     })
 }
 
+/// A state of as many variables as there are values.
+fn state_of(values: &[i64]) -> State {
+    let mut state = State::default();
+    state[..values.len()].copy_from_slice(values);
+    state
+}
+
 /// The sheet allows these changes of the whole numbers.
 fn allowed(sheet: &Sheet, before: State, after: State, command: i32) {
     for i in 0..sheet.n() {
@@ -82,7 +89,7 @@ const TAU: f64 = MASS / DAMPING;
 /// Position and speed, in m and m/s, as the sheet's whole numbers.
 fn leg_press_state([position, speed]: [f64; 2]) -> State {
     let whole = |metres: f64| (metres * 10_000.0).round() as i64;
-    [whole(position), whole(position + TAU * speed), 0, 0]
+    state_of(&[whole(position), whole(position + TAU * speed)])
 }
 
 fn leg_press_tick(mut state: [f64; 2], force: f64, numbers: &mut Numbers) -> [f64; 2] {
@@ -242,8 +249,8 @@ fn motor_ticks_are_allowed() {
             for _ in 0..numbers.whole(1, 200) {
                 let next_ramp = ramp + (setpoint - ramp).clamp(-10, 10);
                 let next_speed = motor_tick(speed, (ramp, next_ramp), &mut numbers);
-                let before = [speed.round() as i64, ramp, 0, 0];
-                let after = [next_speed.round() as i64, next_ramp, 0, 0];
+                let before = state_of(&[speed.round() as i64, ramp]);
+                let after = state_of(&[next_speed.round() as i64, next_ramp]);
                 allowed(&sheet, before, after, setpoint as i32);
                 (speed, ramp) = (next_speed, next_ramp);
             }
@@ -343,7 +350,7 @@ fn pendulum_change(state: [f64; 4], volts: f64) -> [f64; 4] {
 }
 
 fn whole_modes(modes: [f64; 4]) -> State {
-    modes.map(|mode| (mode * 100_000.0).round() as i64)
+    state_of(&modes.map(|mode| (mode * 100_000.0).round() as i64))
 }
 
 #[test]

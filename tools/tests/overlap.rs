@@ -5,7 +5,7 @@ mod common;
 
 use common::sheets::random_sheet;
 use common::{example, example_text, load, record_at, shell, with_records, Folder, Numbers};
-use second_guard::boxes::StateBox;
+use second_guard::boxes::{StateBox, VARIABLES};
 use second_guard::sheet::Sheet;
 use sheet_tool::overlap_picture::overlap_picture;
 use sheet_tool::{archive, sheet_parser, sheet_text};
@@ -134,15 +134,18 @@ fn every_other_fault_comes_first() {
 
 /// A sheet of n variables with two boxes: their sides are 10..20 and 20..30 in each variable.
 fn touching(n: usize) -> Sheet {
-    let (mut sheet, _, _) = load("pendulum");
+    let (mut sheet, _, _) = load("sheet_a");
     (sheet.variables, sheet.unsafe_count) = (n as i32, 1);
+    sheet.caps = [sheet.caps[0]; VARIABLES];
+    let band = &mut sheet.bands[0];
+    band.rows = [band.rows[0]; VARIABLES];
     sheet.recovery = StateBox {
-        lower: [10; 4],
-        upper: [20; 4],
+        lower: [10; VARIABLES],
+        upper: [20; VARIABLES],
     };
     let unsafe_box = StateBox {
-        lower: [20; 4],
-        upper: [30; 4],
+        lower: [20; VARIABLES],
+        upper: [30; VARIABLES],
     };
     sheet.unsafe_boxes = [unsafe_box; 8];
     sheet
@@ -162,14 +165,14 @@ fn said_and_marked(sheet: &Sheet) -> (String, usize) {
 /// count.
 #[test]
 fn every_variable_counts_and_no_other() {
-    for n in 1..=4 {
+    for n in 1..=VARIABLES {
         let sheet = touching(n);
         let (said, marked) = said_and_marked(&sheet);
         let sides: Vec<String> = (1..=n).map(|i| format!("x{i} 20..20")).collect();
         let words = format!("the recovery box shares {} with", sides.join(", "));
         assert!(said.contains(&words), "{said}");
         assert_eq!(marked, n);
-        for i in 0..4 {
+        for i in 0..VARIABLES {
             let mut apart = sheet;
             apart.unsafe_boxes[0].lower[i] = 21;
             assert_eq!(archive::write(&apart).is_ok(), i < n);
@@ -188,7 +191,7 @@ fn every_no_go_box_counts() {
     for at in 0..8 {
         let mut sheet = touching(2);
         for (j, unsafe_box) in sheet.unsafe_boxes.iter_mut().enumerate() {
-            unsafe_box.lower = [j as i64, 21, 0, 0];
+            unsafe_box.lower[..2].copy_from_slice(&[j as i64, 21]);
         }
         sheet.unsafe_boxes[at].lower[1] = 20;
         sheet.unsafe_count = at as i32;

@@ -56,12 +56,12 @@ fn sheets() {
         (
             "(-x + 4 u) / 20",
             "(-x + 4 u) / 0",
-            "line 10: refused 10 (row number): the divisor is 0, it has to lie within 1..4096",
+            "line 10: refused 10 (law or row number): the divisor is 0, it has to lie within 1..4096",
         ),
         (
             "(-x + 4 u)",
             "(-x + 4 u +- -1)",
-            "line 10: refused 10 (row number): the spread is -1, it has to lie within 0..100000000",
+            "line 10: refused 10 (law or row number): the spread is -1, it has to lie within 0..100000000",
         ),
         (
             "x 130..",
@@ -96,10 +96,10 @@ fn too_many_of_a_kind() {
     let expected = "line 20: refused 2 (n, a count or band variable out of range): \
                     the number of no-go boxes is 9, it has to lie within 1..8";
     assert_eq!(fault("no-go \"the end\"  x 130..\n", &boxes), expected);
-    let variables = "variable a  cap 1\nvariable b  cap 1\nvariable c  cap 1\n\
-                     variable d  cap 1\nvariable e  cap 1\n";
-    let expected = "line 8: refused 2 (n, a count or band variable out of range): \
-                    the number of variables is 5, it has to lie within 1..4";
+    let variables = "variable a  cap 1\nvariable b  cap 1\nvariable c  cap 1\nvariable d  cap 1\n\
+                     variable e  cap 1\nvariable f  cap 1\nvariable g  cap 1\n";
+    let expected = "line 10: refused 2 (n, a count or band variable out of range): \
+                    the number of variables is 7, it has to lie within 1..6";
     assert_eq!(fault("variable x  cap 5\n", variables), expected);
 }
 

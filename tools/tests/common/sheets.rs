@@ -1,8 +1,8 @@
 //! Random sheets that the archive accepts.
 
 use super::Numbers;
-use second_guard::boxes::StateBox;
-use second_guard::sheet::{Band, CommandRange, Row, Sheet};
+use second_guard::boxes::{StateBox, VARIABLES};
+use second_guard::sheet::{Band, BandLaw, CommandRange, Kind, Row, Sheet};
 use std::collections::BTreeMap;
 
 fn random_range(numbers: &mut Numbers, least: i64, greatest: i64) -> (i64, i64) {
@@ -73,20 +73,60 @@ pub fn random_boxes(
     boxes.into_values().collect()
 }
 
-fn random_row(numbers: &mut Numbers, n: usize) -> Row {
-    let mut row = Row::default();
-    for a in &mut row.a[..n] {
-        *a = numbers.whole(-2, 2) as i32 * numbers.whole(1, 500) as i32;
+/// Coefficients of n variables, now and then 0.
+fn random_coefficients(numbers: &mut Numbers, n: usize) -> [i32; VARIABLES] {
+    let mut coefficients = [0; VARIABLES];
+    for coefficient in &mut coefficients[..n] {
+        *coefficient = numbers.whole(-2, 2) as i32 * numbers.whole(1, 500) as i32;
     }
-    row.b = numbers.whole(-1_000, 1_000) as i32;
-    row.c = numbers.whole(-1, 1) as i32 * numbers.whole(0, 100_000_000) as i32;
-    row.d = numbers.whole(0, 1) as i32 * numbers.whole(0, 100_000_000) as i32;
-    row.q = numbers.whole(1, 4_096) as i32;
-    row
+    coefficients
 }
 
+fn random_constant(numbers: &mut Numbers) -> i32 {
+    numbers.whole(-1, 1) as i32 * numbers.whole(0, 100_000_000) as i32
+}
+
+fn random_law(numbers: &mut Numbers, n: usize) -> BandLaw {
+    BandLaw {
+        coefficients: random_coefficients(numbers, n),
+        constant: random_constant(numbers),
+        divisor: numbers.whole(1, 4_096) as i32,
+    }
+}
+
+fn random_row(numbers: &mut Numbers, n: usize) -> Row {
+    Row {
+        a: random_coefficients(numbers, n),
+        b: numbers.whole(-1_000, 1_000) as i32,
+        c: random_constant(numbers),
+        d: numbers.whole(0, 1) as i32 * numbers.whole(0, 100_000_000) as i32,
+        q: numbers.whole(1, 4_096) as i32,
+    }
+}
+
+fn random_band(numbers: &mut Numbers, kind: Kind, sheet: &Sheet, edge: i32) -> Band {
+    let n = sheet.n();
+    Band {
+        edge,
+        safety: random_commands(numbers, sheet.commands),
+        law: match kind {
+            Kind::Fixed => BandLaw::default(),
+            Kind::Following => random_law(numbers, n),
+        },
+        rows: std::array::from_fn(|i| match i < n {
+            true => random_row(numbers, n),
+            false => Row::default(),
+        }),
+    }
+}
+
+/// A sheet of either kind with any number of variables.
 pub fn random_sheet(numbers: &mut Numbers) -> Sheet {
-    let n = numbers.whole(1, 4) as usize;
+    let kind = match numbers.whole(0, 1) {
+        0 => Kind::Fixed,
+        _ => Kind::Following,
+    };
+    let n = numbers.whole(1, VARIABLES as i64) as usize;
     let delta = numbers.whole(1, 999);
     let head = CommandRange {
         least: -10_000,
@@ -108,15 +148,8 @@ pub fn random_sheet(numbers: &mut Numbers) -> Sheet {
         *cap = numbers.whole(1, 1_000) as i32;
     }
     for k in 0..sheet.band_count as usize {
-        let edge = -2_000_000 + k as i64 * 400_000;
-        sheet.bands[k] = Band {
-            edge: edge as i32,
-            safety: random_commands(numbers, sheet.commands),
-            rows: std::array::from_fn(|i| match i < n {
-                true => random_row(numbers, n),
-                false => Row::default(),
-            }),
-        };
+        let edge = -2_000_000 + k as i32 * 400_000;
+        sheet.bands[k] = random_band(numbers, kind, &sheet, edge);
     }
     let count = sheet.unsafe_count as usize;
     let boxes = random_boxes(numbers, &sheet.recovery, n, count);
