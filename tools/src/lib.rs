@@ -7,6 +7,8 @@ pub mod asks_text;
 pub mod attempts;
 pub mod box_order;
 pub mod causes;
+pub mod file;
+pub mod file_refusal;
 pub mod listing;
 pub mod names;
 pub mod overlap;

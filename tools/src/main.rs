@@ -5,13 +5,13 @@ use second_guard::sheet::Sheet;
 use sheet_tool::archive;
 use sheet_tool::asks_text::{self, Ask, Asked, AsksText};
 use sheet_tool::attempts::{attempts, Attempt, Attempts, Subject};
+use sheet_tool::file_refusal;
 use sheet_tool::listing::{listing, recovery_sentence, sentence};
 use sheet_tool::names::Names;
 use sheet_tool::overlap::OVERLAP;
 use sheet_tool::overlap_picture::overlap_picture;
 use sheet_tool::picture::picture;
 use sheet_tool::record_order;
-use sheet_tool::records;
 use sheet_tool::sheet_parser;
 use sheet_tool::sheet_text::{self, SheetText};
 use sheet_tool::show::show;
@@ -158,11 +158,11 @@ fn load_sheet(path: &str) -> Result<Loaded, Failure> {
 fn load_sheet_bytes(path: &str) -> Result<Loaded, Failure> {
     let bytes = read_bytes(path)?;
     let boxes = || {
-        let sheet = records::overlapping_boxes(&bytes)?;
+        let sheet = file_refusal::overlapping(&bytes)?;
         Some((sheet, Names::plain(&sheet)))
     };
     let sheet = archive::read(&bytes)
-        .map_err(|number| refused(path, records::refused(number, &bytes), boxes))?;
+        .map_err(|number| refused(path, file_refusal::refused(number, &bytes), boxes))?;
     let text = sheet_text::from_sheet(&sheet);
     Ok(Loaded { text, bytes })
 }

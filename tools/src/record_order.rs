@@ -3,7 +3,9 @@
 
 use crate::archive;
 use crate::box_order::{ascending, compare, words};
-use crate::records::{fault, parts, refused, Parts, MARK};
+use crate::file::UNSAFE_MARK;
+use crate::file_refusal::{fault, refused};
+use crate::records::{parts, Parts};
 use crate::tokens::Fault;
 use std::cmp::Ordering;
 
@@ -24,7 +26,7 @@ impl Parts<'_> {
 
     /// The records' numbers in ascending order. A record with another mark stays, and so do all after it.
     fn ascending(&self) -> Vec<usize> {
-        let is_marked = |record: &&&[u8]| record.starts_with(MARK);
+        let is_marked = |record: &&&[u8]| record.starts_with(UNSAFE_MARK);
         let marked = self.records.iter().take_while(is_marked).count();
         let mut order = ascending(&self.boxes()[..marked], self.n);
         order.extend(marked..self.records.len());

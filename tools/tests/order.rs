@@ -125,12 +125,15 @@ fn equal_records_are_refused() {
     }
 }
 
-/// Refused with 20 as they stand, these bytes are refused with another number once they are in order.
+/// Refused with 20 as they stand, these bytes are refused with another number once they are in order. Records have
+/// the numbers of the file that is read.
 fn refuses_later(bytes: &[u8], refusal: &str, folder: &Folder) {
     assert_eq!(archive::read(bytes).err(), Some(20));
-    let words = format!("refused {refusal}: {} bytes", bytes.len());
-    refuses(bytes, &words, folder);
+    refuses(bytes, &format!("refused {refusal}"), folder);
 }
+
+const MARK: &str = "7 (later record's mark)";
+const SIDE: &str = "11 (no-go or recovery side)";
 
 /// In the third no-go record or the recovery record, after two no-go records in the wrong order.
 #[test]
@@ -138,19 +141,26 @@ fn later_faults_are_refused() {
     let folder = Folder::new("order-later");
     let bytes = leg_press();
     let orders = [[1, 0, 2], [2, 0, 1], [2, 1, 0]];
-    for (order, j) in orders
+    let records = [
+        (2, "no-go record 3", "MG, it has to be NG", 2_000_000),
+        (3, "the recovery record", "MC, it has to be RC", 1_000_000),
+    ];
+    for (order, (j, name, mark_words, limit)) in orders
         .into_iter()
-        .flat_map(|order| [(order, 2), (order, 3)])
+        .flat_map(|order| records.map(|record| (order, record)))
     {
         let mut mark = with_records(&bytes, &order);
         let at = record_at(&mark, j);
         let mut side = mark.clone();
         mark[at] = b'M';
-        refuses_later(&mark, "7 (later record's mark)", &folder);
+        let words = format!("{MARK}: {name} is marked {mark_words}");
+        refuses_later(&mark, &words, &folder);
         // The lower side of the second variable is above its upper side.
         side[at + 10..at + 14].copy_from_slice(&900_000_i32.to_be_bytes());
         side[at + 14..at + 18].copy_from_slice(&899_999_i32.to_be_bytes());
-        refuses_later(&side, "11 (no-go or recovery side)", &folder);
+        let ends = format!("it has to lie within 900000..{limit}");
+        let words = format!("{SIDE}: {name}: the upper side of x2 is 899999, {ends}");
+        refuses_later(&side, &words, &folder);
     }
 }
 
@@ -162,7 +172,8 @@ fn a_wrong_mark_is_refused_beside_equal_records() {
     let mut wrong = with_records(&bytes, &[1, 0, 0]);
     let at = record_at(&wrong, 2);
     wrong[at..at + 2].copy_from_slice(b"RC");
-    refuses_later(&wrong, "7 (later record's mark)", &folder);
+    let words = format!("{MARK}: no-go record 3 is marked RC, it has to be NG");
+    refuses_later(&wrong, &words, &folder);
 }
 
 #[test]
@@ -175,7 +186,11 @@ fn files_cut_short_or_too_long_are_refused() {
         assert_eq!(fault.refusal, Some(number));
     }
     let length = bytes.len();
-    let words = |length: usize| format!("refused 5 (length): {length} bytes");
+    let words = |length: usize| {
+        let why =
+            "its first band is not marked BF, so it has to have 326 (376 with bands marked BF)";
+        format!("refused 5 (length): {length} bytes; {why}")
+    };
     refuses(&bytes[..length - 1], &words(length - 1), &folder);
     refuses(&[&bytes[..], b"N"].concat(), &words(length + 1), &folder);
     let words = "refused 1 (under 20 bytes, or mark not SH): 0 bytes";
