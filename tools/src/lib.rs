@@ -15,6 +15,7 @@ pub mod overlap;
 pub mod overlap_picture;
 pub mod panels;
 pub mod picture;
+pub mod plain_law;
 pub mod questions;
 pub mod record_order;
 pub mod records;

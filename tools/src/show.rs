@@ -1,12 +1,15 @@
 //! A decision in words: the answer, why each width ended, and the boxes of the last one.
+//! Where the bands have laws, each step under the plain law has the least and the greatest command that these laws
+//! give over its swept box. That box holds every state of the step's ticks, so no tick uses any other command.
 
 use crate::attempts::{Attempt, Attempts, Ending};
 use crate::names::Names;
+use crate::plain_law::commands_over;
 use crate::sheet_text::range;
 use crate::svg::decimal;
 use second_guard::boxes::StateBox;
 use second_guard::reach::{Law, Step};
-use second_guard::sheet::{Sheet, SIDE_LIMIT};
+use second_guard::sheet::{CommandRange, Kind, Sheet, SIDE_LIMIT};
 
 /// The sides of variable i: whole numbers, or in the variable's unit.
 pub type Sides = fn(&Names, usize, i64, i64) -> String;
@@ -92,12 +95,16 @@ pub fn command_range(least: i32, greatest: i32) -> String {
     }
 }
 
-fn law(step: &Step, names: &Names) -> String {
-    match step.law {
-        Law::Baseline => "plain law".into(),
-        Law::Span { least, greatest } => {
-            format!("{} {}", names.command.name, command_range(least, greatest))
+fn law(step: &Step, sheet: &Sheet, names: &Names) -> String {
+    let commands =
+        |least, greatest| format!("{} {}", names.command.name, command_range(least, greatest));
+    match (step.law, sheet.kind()) {
+        (Law::Baseline, Kind::Fixed) => "plain law".into(),
+        (Law::Baseline, Kind::Following) => {
+            let CommandRange { least, greatest } = commands_over(sheet, &step.swept);
+            format!("plain law: {}", commands(least, greatest))
         }
+        (Law::Span { least, greatest }, _) => commands(least, greatest),
     }
 }
 
@@ -114,12 +121,12 @@ pub fn show(found: &Attempts, sheet: &Sheet, names: &Names) -> String {
     }
     let last = found.last();
     text.push_str(&format!("  boxes at width {}\n", last.width));
-    text.push_str(&table(&rows(last, names)));
+    text.push_str(&table(&rows(last, sheet, names)));
     text
 }
 
 /// The head, then the start box, then one row for each step with its end box.
-fn rows(attempt: &Attempt, names: &Names) -> Vec<Vec<String>> {
+fn rows(attempt: &Attempt, sheet: &Sheet, names: &Names) -> Vec<Vec<String>> {
     let mut head: Vec<String> = ["ticks", "law", "rounds"].map(String::from).into();
     head.extend(names.variables.iter().map(|v| v.with_unit()));
     let mut rows = vec![head];
@@ -134,7 +141,7 @@ fn rows(attempt: &Attempt, names: &Names) -> Vec<Vec<String>> {
         ticks += step.ticks;
         let mut row = vec![
             range(from, ticks),
-            law(step, names),
+            law(step, sheet, names),
             step.rounds.to_string(),
         ];
         row.extend(columns(&step.end, names));
