@@ -4,17 +4,14 @@
 use crate::names::Names;
 use crate::overlap::{common_part, overlap_in};
 use crate::panels::{
-    heading, legend, Labels, Panel, BOLD, FAILED, GAP, LEFT, LINE, PANEL, RECOVERY, RIGHT, SMALL,
-    UNSAFE, WIDTH,
+    cut, heading, legend, panel_height, with_forbidden, Labels, Panel, BOLD, BOLD_LETTERS, FAILED,
+    GAP, LEFT, LETTERS, LINE, RECOVERY, RIGHT, SMALL, UNSAFE, WIDTH,
 };
 use crate::show::{listed_sides, unit_sides};
 use crate::svg::{edged, filled, hatched, Anchor, Area, Paint, Svg};
 use second_guard::boxes::StateBox;
 use second_guard::sheet::Sheet;
 
-/// The letters that a line has room for, plain and bold.
-const LETTERS: usize = 140;
-const BOLD_LETTERS: usize = 115;
 /// Words over strokes, and words over the recovery box.
 const LABEL: &str =
     r##"font-size="11" font-weight="bold" stroke="white" stroke-width="5" paint-order="stroke""##;
@@ -47,8 +44,7 @@ pub fn overlap_picture(refusal: &str, sheet: &Sheet, names: &Names) -> String {
     let mut svg = Svg::default();
     let mut bottom = drawing.head(&mut svg, refusal);
     for variable in 0..sheet.n() {
-        drawing.panel(&mut svg, variable, bottom + GAP);
-        bottom += GAP + PANEL;
+        bottom = drawing.panel(&mut svg, variable, bottom + GAP);
     }
     let end = drawing.lines(&mut svg, bottom + GAP);
     svg.finish(WIDTH, end + LINE)
@@ -72,21 +68,6 @@ fn common_paint() -> Paint {
 /// Strong where the no-go box shares states, faint where it shares none.
 fn unsafe_paint(shares: bool) -> Paint {
     edged(UNSAFE, if shares { 0.45 } else { 0.12 }, 1.0)
-}
-
-/// A text cut at spaces into lines of at most so many letters; a longer word has a line of its own.
-fn cut(text: &str, letters: usize) -> Vec<String> {
-    let mut lines: Vec<String> = Vec::new();
-    for word in text.split(' ') {
-        match lines.last_mut() {
-            Some(line) if line.chars().count() + 1 + word.chars().count() <= letters => {
-                line.push(' ');
-                line.push_str(word);
-            }
-            _ => lines.push(word.into()),
-        }
-    }
-    lines
 }
 
 /// Where the words of a common part stand: in it, above it or below it, as there is room.
@@ -122,23 +103,25 @@ impl Drawing<'_> {
         y
     }
 
-    fn panel(&self, svg: &mut Svg, variable: usize, top: f64) {
+    /// Variable i's panel; gives where it ends.
+    fn panel(&self, svg: &mut Svg, i: usize, top: f64) -> f64 {
         let recovery = &self.sheet.recovery;
-        let values = (recovery.lower[variable], recovery.upper[variable]);
-        let panel = Panel::new(self.sheet, variable, values, top);
-        let named = &self.names.variables[variable];
+        let values = with_forbidden(self.sheet, i, (recovery.lower[i], recovery.upper[i]));
+        let panel = Panel::new(values, top, panel_height(self.sheet.n(), 1));
+        let named = &self.names.variables[i];
         panel.name(svg, named);
         let mut labels = Labels::default();
-        panel.recovery(svg, self.sheet, &mut labels);
+        panel.recovery(svg, self.sheet, i, &mut labels);
         for column in &self.columns {
-            self.unsafe_box(svg, &panel, column);
+            self.unsafe_box(svg, i, &panel, column);
             self.number(svg, &panel, column);
         }
         panel.finish(svg, named, labels);
         // Last, so that nothing is drawn over it.
         for column in &self.columns {
-            self.common(svg, &panel, column);
+            self.common(svg, i, &panel, column);
         }
+        panel.values.at
     }
 
     /// Where a column's boxes are drawn: the middle of its part of the panel.
@@ -154,8 +137,7 @@ impl Drawing<'_> {
     }
 
     /// The no-go box's sides, or a word where they lie outside the panel.
-    fn unsafe_box(&self, svg: &mut Svg, panel: &Panel, column: &Column) {
-        let i = panel.variable;
+    fn unsafe_box(&self, svg: &mut Svg, i: usize, panel: &Panel, column: &Column) {
         let (lower, upper) = (column.unsafe_box.lower[i], column.unsafe_box.upper[i]);
         let outside = if lower as f64 > panel.values.to {
             Some((panel.top() + 12.0, "above"))
@@ -185,11 +167,10 @@ impl Drawing<'_> {
     }
 
     /// Marks the common part, if there is one.
-    fn common(&self, svg: &mut Svg, panel: &Panel, column: &Column) {
+    fn common(&self, svg: &mut Svg, i: usize, panel: &Panel, column: &Column) {
         let Some(common) = &column.common else {
             return;
         };
-        let i = panel.variable;
         let area = Area {
             x: self.x(column),
             y: (panel.y(common.lower[i]), panel.y(common.upper[i])),
@@ -233,17 +214,5 @@ impl Drawing<'_> {
             "{unsafe_box}: shares no state, apart in {}",
             apart.join(", ")
         )
-    }
-}
-
-#[cfg(test)]
-mod tests {
-    use super::*;
-
-    #[test]
-    fn words_are_cut_at_spaces() {
-        let lines = cut("one and two longer_than_that and 3", 7);
-        assert_eq!(lines, ["one and", "two", "longer_than_that", "and 3"]);
-        assert_eq!(cut("one and", 6), ["one", "and"]);
     }
 }

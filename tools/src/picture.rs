@@ -1,11 +1,13 @@
-//! The boxes of an attempt over time: one panel for each variable, one above the other.
+//! The boxes of an attempt over time: one panel for each variable, one above the other. Where the bands have laws,
+//! a last panel has the commands.
 
 use crate::attempts::{Attempt, Attempts, Ending};
 use crate::names::Names;
 use crate::panels::{
-    heading, legend, Labels, Panel, BOLD, FAILED, FRAME, GAP, LEFT, LINE, PANEL, RECOVERY, RIGHT,
-    SMALL, UNSAFE, WIDTH,
+    cut, heading, legend, panel_height, with_forbidden, Labels, Panel, BOLD, BOLD_LETTERS, FAILED,
+    FRAME, GAP, LEFT, LETTERS, LINE, RECOVERY, RIGHT, SMALL, UNSAFE, WIDTH,
 };
+use crate::plain_law::{commands_over, hull};
 use crate::sheet_text::range;
 use crate::show::{command_range, ending, ticks_before, unit_sides};
 use crate::svg::{
@@ -13,12 +15,16 @@ use crate::svg::{
 };
 use second_guard::boxes::StateBox;
 use second_guard::reach::{Law, Step};
-use second_guard::sheet::{Sheet, FIRST_EDGE, SIDE_LIMIT};
+use second_guard::sheet::{Band, CommandRange, Kind, Sheet, FIRST_EDGE, SIDE_LIMIT};
 
 const TOP: f64 = 112.0;
+/// The height of the panel of commands.
+const COMMANDS: f64 = 90.0;
 
 const COMMAND: &str = "#2b6cb0";
 const BASELINE: &str = "#b7791f";
+/// The colours of a question's commands and of the plain law.
+const LAWS: [(&str, bool); 2] = [(COMMAND, false), (BASELINE, true)];
 const EDGE: &str = "#4a5568";
 const SWITCH: &str = "#1a202c";
 
@@ -51,9 +57,10 @@ pub fn picture(
     drawing.head(&mut svg, title, answer);
     let mut bottom = TOP;
     for variable in 0..sheet.n() {
-        let panel = drawing.panel_at(variable, bottom);
-        drawing.panel(&mut svg, &panel);
-        bottom += PANEL + GAP;
+        bottom = drawing.panel(&mut svg, variable, bottom) + GAP;
+    }
+    if sheet.kind() == Kind::Following {
+        bottom = drawing.commands(&mut svg, bottom) + GAP;
     }
     drawing.phases(&mut svg);
     drawing.time_axis(&mut svg, bottom - GAP);
@@ -103,42 +110,116 @@ impl Drawing<'_> {
     }
 
     /// A panel whose values hold every box drawn, the recovery box and what is forbidden nearby.
-    fn panel_at(&self, variable: usize, top: f64) -> Panel {
-        let i = variable;
+    fn panel_at(&self, i: usize, top: f64) -> Panel {
         let recovery = &self.sheet.recovery;
         let (mut lower, mut upper) = (recovery.lower[i], recovery.upper[i]);
         for step in &self.attempt.steps {
             lower = lower.min(step.swept.lower[i]);
             upper = upper.max(step.swept.upper[i]);
         }
-        Panel::new(self.sheet, variable, (lower, upper), top)
+        let values = with_forbidden(self.sheet, i, (lower, upper));
+        Panel::new(
+            values,
+            top,
+            panel_height(self.sheet.n(), self.most_labels(i)),
+        )
     }
 
-    fn panel(&self, svg: &mut Svg, panel: &Panel) {
-        let named = &self.names.variables[panel.variable];
+    /// The lines of words beside variable i's panel: the recovery box, and at most all that has a side or an edge.
+    fn most_labels(&self, i: usize) -> usize {
+        let boxes = self.sheet.unsafe_boxes().iter();
+        let bounded = boxes.filter(|unsafe_box| !is_free(unsafe_box, i)).count();
+        let bands = match i == self.sheet.band_variable as usize {
+            true => self.sheet.bands().len(),
+            false => 0,
+        };
+        1 + bounded + bands
+    }
+
+    /// Variable i's panel; gives where it ends.
+    fn panel(&self, svg: &mut Svg, i: usize, top: f64) -> f64 {
+        let panel = self.panel_at(i, top);
+        let named = &self.names.variables[i];
         panel.name(svg, named);
         let mut labels = Labels::default();
-        self.recovery(svg, panel, &mut labels);
-        self.unsafe_boxes(svg, panel, &mut labels);
-        self.band_edges(svg, panel, &mut labels);
-        self.boxes(svg, panel);
-        self.switch_line(svg, panel);
-        self.failure(svg, panel);
+        self.recovery(svg, i, &panel, &mut labels);
+        self.unsafe_boxes(svg, i, &panel, &mut labels);
+        self.band_edges(svg, i, &panel, &mut labels);
+        self.boxes(svg, i, &panel);
+        self.switch_line(svg, &panel);
+        self.failure(svg, i, &panel);
         panel.finish(svg, named, labels);
+        panel.values.at
     }
 
-    fn recovery(&self, svg: &mut Svg, panel: &Panel, labels: &mut Labels) {
-        panel.recovery(svg, self.sheet, labels);
+    /// The commands of each step's ticks: the question's, and those that the bands' laws have over its swept box.
+    /// Gives where the panel ends.
+    fn commands(&self, svg: &mut Svg, top: f64) -> f64 {
+        let CommandRange { least, greatest } = self.sheet.commands;
+        let head = (i64::from(least), i64::from(greatest));
+        let panel = Panel::new(head, top, COMMANDS);
+        let named = &self.names.command;
+        panel.name(svg, named);
+        let mut labels = Labels::default();
+        for (colour, baseline) in LAWS {
+            self.commands_of(svg, colour, baseline, &panel, &mut labels);
+        }
+        self.switch_line(svg, &panel);
+        panel.finish(svg, named, labels);
+        panel.values.at
+    }
+
+    /// The commands of one law, each step's over its ticks, and the least and the greatest of them.
+    fn commands_of(
+        &self,
+        svg: &mut Svg,
+        colour: &'static str,
+        baseline: bool,
+        panel: &Panel,
+        labels: &mut Labels,
+    ) {
+        let mut shapes = Vec::new();
+        let mut all: Option<CommandRange> = None;
+        for index in (0..self.attempt.steps.len()).filter(|&k| self.is_baseline(k) == baseline) {
+            let commands = self.step_commands(index);
+            let (from, to) = self.step_x(index);
+            let y = |command: i32| panel.y(i64::from(command));
+            let (low, high) = (y(commands.least), y(commands.greatest));
+            shapes.push(vec![(from, low), (to, low), (to, high), (from, high)]);
+            all = Some(all.map_or(commands, |all| hull(all, commands)));
+        }
+        svg.shapes(&shapes, edged(colour, 0.35, 1.2));
+        if let Some(CommandRange { least, greatest }) = all {
+            let law = if baseline { "plain law" } else { "command" };
+            let amount = self.names.command.amount(&command_range(least, greatest));
+            let middle = (panel.y(i64::from(least)) + panel.y(i64::from(greatest))) / 2.0;
+            labels.add(middle, colour, format!("{law}: {amount}"));
+        }
+    }
+
+    fn is_baseline(&self, index: usize) -> bool {
+        self.attempt.steps[index].law == Law::Baseline
+    }
+
+    fn step_commands(&self, index: usize) -> CommandRange {
+        let step = &self.attempt.steps[index];
+        match step.law {
+            Law::Baseline => commands_over(self.sheet, &step.swept),
+            Law::Span { least, greatest } => CommandRange { least, greatest },
+        }
+    }
+
+    fn recovery(&self, svg: &mut Svg, i: usize, panel: &Panel, labels: &mut Labels) {
+        panel.recovery(svg, self.sheet, i, labels);
         // Only at the last tick does the box have to be within the recovery box.
-        let (i, recovery) = (panel.variable, &self.sheet.recovery);
+        let recovery = &self.sheet.recovery;
         let end = panel.frame().x.1 + 4.0;
         let (lower, upper) = (panel.y(recovery.lower[i]), panel.y(recovery.upper[i]));
         svg.line((end, lower), (end, upper), outlined(RECOVERY, 4.0, ""));
     }
 
     /// Strong where every other variable's swept box meets the no-go box too, faint elsewhere.
-    fn unsafe_boxes(&self, svg: &mut Svg, panel: &Panel, labels: &mut Labels) {
-        let i = panel.variable;
+    fn unsafe_boxes(&self, svg: &mut Svg, i: usize, panel: &Panel, labels: &mut Labels) {
         for (j, unsafe_box) in self.sheet.unsafe_boxes().iter().enumerate() {
             let (lower, upper) = (unsafe_box.lower[i], unsafe_box.upper[i]);
             let values = &panel.values;
@@ -186,8 +267,8 @@ impl Drawing<'_> {
         ticks_before(self.attempt, self.attempt.steps.len())
     }
 
-    fn band_edges(&self, svg: &mut Svg, panel: &Panel, labels: &mut Labels) {
-        if panel.variable != self.sheet.band_variable as usize {
+    fn band_edges(&self, svg: &mut Svg, i: usize, panel: &Panel, labels: &mut Labels) {
+        if i != self.sheet.band_variable as usize {
             return;
         }
         let bands = self.sheet.bands();
@@ -203,33 +284,41 @@ impl Drawing<'_> {
                 let dots = outlined(EDGE, 1.0, "1 3");
                 svg.line((frame.x.0, lower), (frame.x.1, lower), dots);
             }
-            let commands = range(band.safety.least, band.safety.greatest);
-            let words = format!("plain law: {}", self.names.command.amount(&commands));
-            labels.add((lower + upper) / 2.0, EDGE, words);
+            labels.add((lower + upper) / 2.0, EDGE, self.plain_law(band));
+        }
+    }
+
+    /// The plain law has all commands of the safety range, or by the band's law some of them.
+    fn plain_law(&self, band: &Band) -> String {
+        let commands = range(band.safety.least, band.safety.greatest);
+        let commands = self.names.command.amount(&commands);
+        match self.sheet.kind() {
+            Kind::Fixed => format!("plain law: {commands}"),
+            Kind::Following => format!("plain law within {commands}"),
         }
     }
 
     /// Every step: its swept box, where its states lie tick by tick, and its end box.
-    fn boxes(&self, svg: &mut Svg, panel: &Panel) {
-        for (colour, baseline) in [(COMMAND, false), (BASELINE, true)] {
+    fn boxes(&self, svg: &mut Svg, i: usize, panel: &Panel) {
+        for (colour, baseline) in LAWS {
             let mut swept = Vec::new();
             let mut inside = Vec::new();
             let mut ends = Vec::new();
             for (index, step) in self.attempt.steps.iter().enumerate() {
-                if (step.law == Law::Baseline) != baseline {
+                if self.is_baseline(index) != baseline {
                     continue;
                 }
                 let (from, to) = self.step_x(index);
-                swept.push(self.quad(panel, (from, &step.swept), (to, &step.swept)));
-                inside.push(self.quad(panel, (from, &step.start), (to, &step.end)));
-                ends.push(self.quad(panel, (to, &step.end), (to, &step.end)));
+                swept.push(quad(i, panel, (from, &step.swept), (to, &step.swept)));
+                inside.push(quad(i, panel, (from, &step.start), (to, &step.end)));
+                ends.push(quad(i, panel, (to, &step.end), (to, &step.end)));
             }
             svg.shapes(&swept, filled(colour, 0.22));
             svg.shapes(&inside, edged(colour, 0.35, 0.8));
             svg.shapes(&ends, outlined(colour, 1.2, ""));
         }
         if let Some(first) = self.attempt.steps.first() {
-            let start = self.quad(panel, (LEFT, &first.start), (LEFT, &first.start));
+            let start = quad(i, panel, (LEFT, &first.start), (LEFT, &first.start));
             svg.shapes(&[start], outlined(SWITCH, 4.0, ""));
         }
     }
@@ -242,36 +331,23 @@ impl Drawing<'_> {
         (x(from), x(to))
     }
 
-    /// The four corners between two boxes at two places.
-    fn quad(&self, panel: &Panel, from: (f64, &StateBox), to: (f64, &StateBox)) -> Vec<(f64, f64)> {
-        let i = panel.variable;
-        let y = |side: i64| panel.values.place(side as f64);
-        vec![
-            (from.0, y(from.1.lower[i])),
-            (to.0, y(to.1.lower[i])),
-            (to.0, y(to.1.upper[i])),
-            (from.0, y(from.1.upper[i])),
-        ]
-    }
-
     /// Marks the first box that fails, and says why in the panels of the variables at fault.
-    fn failure(&self, svg: &mut Svg, panel: &Panel) {
+    fn failure(&self, svg: &mut Svg, i: usize, panel: &Panel) {
         let Some(index) = self.attempt.steps.len().checked_sub(1) else {
             return;
         };
         let step = &self.attempt.steps[index];
         let (from, to) = self.step_x(index);
-        let i = panel.variable;
         match self.attempt.ending {
             Ending::Success | Ending::Spent => {}
             Ending::Unsafe(j) => {
-                let shape = self.quad(panel, (from, &step.swept), (to, &step.swept));
+                let shape = quad(i, panel, (from, &step.swept), (to, &step.swept));
                 let words = format!("meets no-go {}", j + 1);
                 let at_fault = !is_free(&self.sheet.unsafe_boxes()[j], i);
                 self.mark(svg, panel, shape, at_fault.then_some(&words));
             }
             Ending::Outside(_) => {
-                let shape = self.quad(panel, (to - 3.0, &step.end), (to + 3.0, &step.end));
+                let shape = quad(i, panel, (to - 3.0, &step.end), (to + 3.0, &step.end));
                 let words = "not within the recovery box";
                 if !self.inside(step, i) {
                     self.mark(svg, panel, shape, Some(words));
@@ -290,7 +366,7 @@ impl Drawing<'_> {
         } else {
             (from - 8.0, Anchor::End)
         };
-        let y = (highest + 12.0).clamp(panel.values.at - PANEL + 14.0, panel.values.at - 6.0);
+        let y = (highest + 12.0).clamp(panel.top() + 14.0, panel.values.at - 6.0);
         if let Some(words) = words {
             let style = format!("{OVER_BOXES} fill=\"{FAILED}\"");
             svg.text((x, y), anchor, &style, words);
@@ -356,17 +432,28 @@ impl Drawing<'_> {
     fn widths(&self, svg: &mut Svg, found: &Attempts, top: f64) -> f64 {
         let mut y = top + LINE;
         for attempt in &found.all {
-            let style = match attempt.width == self.attempt.width {
-                true => BOLD,
-                false => SMALL,
+            let (style, letters) = match attempt.width == self.attempt.width {
+                true => (BOLD, BOLD_LETTERS),
+                false => (SMALL, LETTERS),
             };
             let words = ending(attempt, self.sheet, self.names, unit_sides);
-            let line = format!("width {}: {words}", attempt.width);
-            svg.text((LEFT, y), Anchor::Start, style, &line);
-            y += LINE;
+            for line in cut(&format!("width {}: {words}", attempt.width), letters) {
+                svg.text((LEFT, y), Anchor::Start, style, &line);
+                y += LINE;
+            }
         }
         y
     }
+}
+
+/// The four corners between two boxes at two places, in variable i.
+fn quad(i: usize, panel: &Panel, from: (f64, &StateBox), to: (f64, &StateBox)) -> Vec<(f64, f64)> {
+    vec![
+        (from.0, panel.y(from.1.lower[i])),
+        (to.0, panel.y(to.1.lower[i])),
+        (to.0, panel.y(to.1.upper[i])),
+        (from.0, panel.y(from.1.upper[i])),
+    ]
 }
 
 /// A no-go box takes every value of this variable.
