@@ -32,6 +32,8 @@ sheet picture SHEET [ASKS NUMBER]         draw the recovery check, or one decisi
 SHEET and ASKS are text, or bytes where the name ends in .bin.
 A text may have its no-go boxes in any order; the file has them in ascending order.
 A sheet whose recovery box shares a state with a no-go box is refused; its picture has the boxes alone.
+Where the bands have laws, show and picture have the least and the greatest command that they give over each
+step's swept box.
 ";
 
 /// Why the program fails. Of a sheet whose recovery box shares a state with a no-go box, it has the picture too.

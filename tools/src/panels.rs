@@ -194,7 +194,7 @@ impl Labels {
             label.0 = (label.0 + 4.0).max(free);
             free = label.0 + LABEL;
         }
-        let mut free = bottom + LABEL;
+        let mut free = bottom + 4.0;
         for label in self.0.iter_mut().rev() {
             label.0 = label.0.min(free);
             free = label.0 - LABEL;

@@ -1,8 +1,8 @@
 //! The commands that the plain law has over a box.
 
-use second_guard::boxes::StateBox;
-use second_guard::machine::{bands_met, greatest_command, least_command};
-use second_guard::sheet::{BandLaw, CommandRange, Sheet};
+use second_guard::boxes::{State, StateBox};
+use second_guard::machine::{bands_met, plain_commands};
+use second_guard::sheet::{CommandRange, Sheet};
 
 /// The least and the greatest command that the plain law has at a state of the box, on a sheet whose bands have
 /// laws. The box meets a band.
@@ -32,23 +32,18 @@ fn part(sheet: &Sheet, k: usize, over: &StateBox) -> StateBox {
     part
 }
 
-/// Band k's commands over a box in it: a law's sum is least, and greatest, at a corner.
+/// The commands over a box in band k: they follow the law's sum, which is least and greatest at a corner.
 fn commands_in(sheet: &Sheet, k: usize, over: &StateBox) -> CommandRange {
-    let band = &sheet.bands[k];
-    let BandLaw {
-        coefficients,
-        constant,
-        divisor,
-    } = band.law;
-    let (mut least, mut greatest) = (i64::from(constant), i64::from(constant));
-    for i in 0..sheet.n() {
-        let coefficient = i64::from(coefficients[i]);
-        let ends = [coefficient * over.lower[i], coefficient * over.upper[i]];
-        least += ends[0].min(ends[1]);
-        greatest += ends[0].max(ends[1]);
-    }
+    let law = &sheet.bands[k].law;
+    let corner = |least: bool| -> State {
+        std::array::from_fn(|i| match (law.coefficients[i] > 0) == least {
+            true => over.lower[i],
+            false => over.upper[i],
+        })
+    };
+    let at = |least| plain_commands(sheet, &corner(least)).expect("a state in a band");
     CommandRange {
-        least: least_command(least, divisor, band.safety) as i32,
-        greatest: greatest_command(greatest, divisor, band.safety) as i32,
+        least: at(true).least,
+        greatest: at(false).greatest,
     }
 }

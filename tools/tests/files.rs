@@ -107,60 +107,42 @@ fn both_lengths_are_said() {
     }
 }
 
+/// The words on a file in which one record has another mark.
+fn names_the_record(file: &[u8], at: usize, mark: &[u8; 2], words: &str) {
+    let expected = format!("refused 7 (later record's mark): {words}");
+    assert_eq!(said(&with(file, at, mark)), expected);
+}
+
 #[test]
-fn the_record_with_another_mark_is_named() {
-    let (fixed, following) = (bytes(Kind::Fixed), bytes(Kind::Following));
-    let band = |kind, k, mark: &[u8; 2]| match kind {
-        Kind::Fixed => with(&fixed, band_at(kind, k), mark),
-        Kind::Following => with(&following, band_at(kind, k), mark),
-    };
-    let cases = [
-        (
-            band(Kind::Following, 1, b"BD"),
-            "band 2 is marked BD, it has to be BF as the first band is",
-        ),
-        (
-            band(Kind::Following, 2, b"BD"),
-            "band 3 is marked BD, it has to be BF as the first band is",
-        ),
-        (
-            band(Kind::Fixed, 1, b"BF"),
-            "band 2 is marked BF, it has to be BD as the first band is",
-        ),
-        (
-            band(Kind::Fixed, 2, b"BF"),
-            "band 3 is marked BF, it has to be BD as the first band is",
-        ),
-        (
-            band(Kind::Following, 2, b"XY"),
-            "band 3 is marked XY, it has to be BF as the first band is",
-        ),
-        (
-            band(Kind::Fixed, 0, b"XY"),
-            "band 1 is marked XY, it has to be BD or BF",
-        ),
-        (
-            band(Kind::Fixed, 0, b"B\xff"),
-            "band 1 is marked B\\xff, it has to be BD or BF",
-        ),
-        (
-            with(&fixed, record_at(&fixed, 1), b"RC"),
-            "no-go record 2 is marked RC, it has to be NG",
-        ),
-        (
-            with(&following, record_at(&following, 2), b"NG"),
-            "the recovery record is marked NG, it has to be RC",
-        ),
-    ];
-    for (file, words) in cases {
-        assert_eq!(
-            said(&file),
-            format!("refused 7 (later record's mark): {words}")
-        );
+fn a_band_with_another_mark_is_named() {
+    for (kind, own, other) in [(Kind::Fixed, "BD", b"BF"), (Kind::Following, "BF", b"BD")] {
+        let file = bytes(kind);
+        for k in [1, 2] {
+            for mark in [other, b"XY", b"NG"] {
+                let (band, found) = (k + 1, mark.escape_ascii());
+                let words = format!("band {band} is marked {found}, it has to be {own}");
+                let words = format!("{words} as the first band is");
+                names_the_record(&file, band_at(kind, k), mark, &words);
+            }
+        }
+    }
+    let words = |mark: &str| format!("band 1 is marked {mark}, it has to be BD or BF");
+    let file = bytes(Kind::Fixed);
+    names_the_record(&file, FIRST_BAND, b"XY", &words("XY"));
+    names_the_record(&file, FIRST_BAND, b"B\xff", &words("B\\xff"));
+}
+
+#[test]
+fn a_box_with_another_mark_is_named() {
+    for kind in BOTH {
+        let file = bytes(kind);
+        let words = "no-go record 2 is marked RC, it has to be NG";
+        names_the_record(&file, record_at(&file, 1), b"RC", words);
+        let words = "the recovery record is marked NG, it has to be RC";
+        names_the_record(&file, record_at(&file, 2), b"NG", words);
     }
 }
 
-/// Bands one and three have another mark: band two's is the one that the others are compared with no more than its own.
 #[test]
 fn the_first_wrong_mark_counts() {
     let file = with(&bytes(Kind::Following), band_at(Kind::Following, 2), b"XY");
@@ -168,115 +150,57 @@ fn the_first_wrong_mark_counts() {
     assert!(said(&file).contains("band 2 is marked BD"));
 }
 
-/// The words on a file with other bytes from a place on.
+/// The words on a file with other bytes from a place on. Behind them stands what the number has to be.
 fn names_the_number(cases: &[(usize, &[u8], u8, &str)]) {
     let file = bytes(Kind::Following);
     for &(at, other, number, words) in cases {
-        let expected = format!("refused {number} ({}): {words}", cause(number));
-        assert_eq!(said(&with(&file, at, other)), expected);
+        let expected = format!("refused {number} ({}): {words}, it has to ", cause(number));
+        let said = said(&with(&file, at, other));
+        assert!(said.starts_with(&expected), "{said}");
     }
 }
 
 #[test]
 fn a_number_of_the_head_is_named() {
     names_the_number(&[
-        (
-            2,
-            &[7],
-            2,
-            "the number of variables is 7, it has to lie within 1..6",
-        ),
-        (
-            3,
-            &[0],
-            2,
-            "the number of bands is 0, it has to lie within 1..8",
-        ),
-        (
-            4,
-            &[255],
-            2,
-            "the number of no-go boxes is 255, it has to lie within 1..8",
-        ),
-        (
-            5,
-            &[2],
-            2,
-            "the band variable is 2, it has to lie within 0..1",
-        ),
-        (10, &[0, 0], 3, "rho is 0, it has to lie within 1..1000"),
-        (
-            16,
-            &[255; 2],
-            4,
-            "the greatest command is -65511, it has to lie within -25..10000",
-        ),
-        (
-            22,
-            &[0, 0],
-            6,
-            "the cap of x2 is 0, it has to lie within 1..1000",
-        ),
+        (2, &[7], 2, "the number of variables is 7"),
+        (3, &[0], 2, "the number of bands is 0"),
+        (4, &[255], 2, "the number of no-go boxes is 255"),
+        (5, &[2], 2, "the band variable is 2"),
+        (10, &[0, 0], 3, "rho is 0"),
+        (16, &[255; 2], 4, "the greatest command is -65511"),
+        (22, &[0, 0], 6, "the cap of x2 is 0"),
     ]);
 }
 
 #[test]
 fn a_number_of_a_band_is_named() {
     let [band, last] = [1, 2].map(|k| band_at(Kind::Following, k));
+    let law = |what: &str| format!("band 2, law: the {what}");
     names_the_number(&[
-        (
-            last + 2,
-            &[0; 4],
-            8,
-            "band 3: the edge is 0, it has to lie within 1..2000000",
-        ),
+        (last + 2, &[0; 4], 8, "band 3: the edge is 0"),
         (
             band + 13,
             &[26],
             9,
-            "band 2: the greatest safety command is 26, it has to lie within 0..25",
+            "band 2: the greatest safety command is 26",
         ),
-        (
-            band + 14,
-            &[4],
-            10,
-            "band 2, law: the coefficient of x1 is 1024, it has to lie within -1000..1000",
-        ),
-        (
-            band + 16,
-            &[252],
-            10,
-            "band 2, law: the coefficient of x2 is -1024, it has to lie within -1000..1000",
-        ),
-        (
-            band + 18,
-            &[6],
-            10,
-            "band 2, law: the constant is 100663296, it has to lie within -100000000..100000000",
-        ),
-        (
-            band + 22,
-            &[0, 0],
-            10,
-            "band 2, law: the divisor is 0, it has to lie within 1..4096",
-        ),
-        (
-            last + 22,
-            &[16, 1],
-            10,
-            "band 3, law: the divisor is 4097, it has to lie within 1..4096",
-        ),
+        (band + 14, &[4], 10, &law("coefficient of x1 is 1024")),
+        (band + 16, &[252], 10, &law("coefficient of x2 is -1024")),
+        (band + 18, &[6], 10, &law("constant is 100663296")),
+        (band + 22, &[0, 0], 10, &law("divisor is 0")),
+        (band + 22, &[16, 1], 10, &law("divisor is 4097")),
         (
             last + 38,
             &[0, 0],
             10,
-            "band 3, change of x1: the divisor is 0, it has to lie within 1..4096",
+            "band 3, change of x1: the divisor is 0",
         ),
         (
             band + 50,
             &[255],
             10,
-            "band 2, change of x2: the spread is -16777216, it has to lie within 0..100000000",
+            "band 2, change of x2: the spread is -16777216",
         ),
     ]);
 }
@@ -285,9 +209,11 @@ fn a_number_of_a_band_is_named() {
 fn a_side_of_a_box_is_named() {
     let file = bytes(Kind::Following);
     let [second, recovery] = [1, 2].map(|j| record_at(&file, j));
+    let upper = "no-go record 2: the upper side of x1 is 130";
+    let lower = "the recovery record: the lower side of x1 is 16777216";
     names_the_number(&[
-        (second + 9, &[130], 11, "no-go record 2: the upper side of x1 is 130, it has to lie within 131..2000000"),
-        (recovery + 2, &[1], 11, "the recovery record: the lower side of x1 is 16777216, it has to lie within -1000000..1000000"),
+        (second + 9, &[130], 11, upper),
+        (recovery + 2, &[1], 11, lower),
     ]);
 }
 

@@ -35,50 +35,33 @@ fn law_fault(law: &str) -> String {
 
 #[test]
 fn the_numbers_of_a_law() {
-    let refused = "line 10: refused 10 (law or row number): the";
+    for law in [
+        "(-1000 x - 100000000) / 4096",
+        "(1000 x + 100000000) / 1",
+        "(0) / 1",
+    ] {
+        assert_eq!(law_fault(&format!("law u = {law}")), "accepted");
+    }
+    let (coefficients, constants) = ("-1000..1000", "-100000000..100000000");
     let cases = [
-        ("(-1000 x - 100000000) / 4096", "accepted".into()),
-        ("(1000 x + 100000000) / 1", "accepted".into()),
-        ("(0) / 1", "accepted".into()),
-        (
-            "(1001 x) / 40",
-            format!("{refused} coefficient of x is 1001, it has to lie within -1000..1000"),
-        ),
-        (
-            "(-1001 x) / 40",
-            format!("{refused} coefficient of x is -1001, it has to lie within -1000..1000"),
-        ),
-        (
-            "(x + 100000001) / 40",
-            format!("{refused} constant is 100000001, it has to lie within -100000000..100000000"),
-        ),
-        (
-            "(-100000001) / 40",
-            format!("{refused} constant is -100000001, it has to lie within -100000000..100000000"),
-        ),
-        (
-            "(x) / 0",
-            format!("{refused} divisor is 0, it has to lie within 1..4096"),
-        ),
-        (
-            "(x) / -1",
-            format!("{refused} divisor is -1, it has to lie within 1..4096"),
-        ),
-        (
-            "(x) / 4097",
-            format!("{refused} divisor is 4097, it has to lie within 1..4096"),
-        ),
+        ("(1001 x) / 40", "coefficient of x is 1001", coefficients),
+        ("(-1001 x) / 40", "coefficient of x is -1001", coefficients),
+        ("(100000001) / 40", "constant is 100000001", constants),
+        ("(x - 100000001) / 40", "constant is -100000001", constants),
+        ("(x) / 0", "divisor is 0", "1..4096"),
+        ("(x) / -1", "divisor is -1", "1..4096"),
+        ("(x) / 4097", "divisor is 4097", "1..4096"),
         // In the order of the file.
         (
             "(1001 x + 100000001) / 0",
-            format!("{refused} coefficient of x is 1001, it has to lie within -1000..1000"),
+            "coefficient of x is 1001",
+            coefficients,
         ),
-        (
-            "(x + 100000001) / 0",
-            format!("{refused} constant is 100000001, it has to lie within -100000000..100000000"),
-        ),
+        ("(x + 100000001) / 0", "constant is 100000001", constants),
     ];
-    for (law, expected) in cases {
+    for (law, what, ends) in cases {
+        let refused = "line 10: refused 10 (law or row number): the";
+        let expected = format!("{refused} {what}, it has to lie within {ends}");
         assert_eq!(law_fault(&format!("law u = {law}")), expected);
     }
 }
@@ -436,22 +419,30 @@ fn state_in(sides: &StateBox, numbers: &mut Numbers) -> State {
     })
 }
 
-/// The state of a box where a coefficient's sign has every variable at the side that makes its term least, or
-/// greatest, within band k.
-fn corner(sheet: &Sheet, k: usize, sides: &StateBox, least: bool) -> State {
-    let mut part = *sides;
+/// Every corner of the parts that a box has in the bands.
+fn corners(sheet: &Sheet, sides: &StateBox) -> Vec<State> {
     let v = sheet.band_variable as usize;
-    let next = sheet
-        .bands()
-        .get(k + 1)
-        .map_or(i64::MAX, |band| i64::from(band.edge) - 1);
-    part.lower[v] = part.lower[v].max(i64::from(sheet.bands[k].edge));
-    part.upper[v] = part.upper[v].min(next);
-    let coefficients = sheet.bands[k].law.coefficients;
-    std::array::from_fn(|i| match (coefficients[i] >= 0) == least {
-        true => part.lower[i],
-        false => part.upper[i],
-    })
+    let edges = sheet.bands().iter().map(|band| i64::from(band.edge));
+    let inside = edges.filter(|edge| sides.lower[v] < *edge && *edge <= sides.upper[v]);
+    let mut values = vec![sides.lower[v], sides.upper[v]];
+    values.extend(inside.flat_map(|edge| [edge - 1, edge]));
+    let mut states = vec![State::default()];
+    for i in 0..sheet.n() {
+        let at = match i == v {
+            true => values.clone(),
+            false => vec![sides.lower[i], sides.upper[i]],
+        };
+        let with = |state: &State, value: &i64| {
+            let mut state = *state;
+            state[i] = *value;
+            state
+        };
+        let all = states
+            .iter()
+            .flat_map(|state| at.iter().map(|x| with(state, x)));
+        states = all.collect();
+    }
+    states
 }
 
 /// The law of a random sheet, made so that most of its commands are not cut to the safety range.
@@ -486,16 +477,12 @@ fn the_commands_over_a_box_are_those_of_its_states() {
             let at = plain_commands(&sheet, &state_in(&sides, &mut numbers)).expect("a band");
             assert!(over.holds_range(&at), "{over:?} {at:?}");
         }
-        let v = sheet.band_variable as usize;
-        let met = second_guard::machine::bands_met(&sheet, sides.lower[v], sides.upper[v]);
-        let ends = |least| {
-            let met = met.clone();
-            let corners = met.map(move |k| corner(&sheet, k, &sides, least));
-            corners.map(move |state| plain_commands(&sheet, &state).expect("a band"))
-        };
-        assert_eq!(ends(true).map(|at| at.least).min(), Some(over.least));
-        assert_eq!(ends(false).map(|at| at.greatest).max(), Some(over.greatest));
-        several_bands += usize::from(met.len() > 1);
+        let corners = corners(&sheet, &sides);
+        let at = |state| plain_commands(&sheet, state).expect("a band");
+        let least = corners.iter().map(|state| at(state).least).min();
+        let greatest = corners.iter().map(|state| at(state).greatest).max();
+        assert_eq!((least, greatest), (Some(over.least), Some(over.greatest)));
+        several_bands += usize::from(corners.len() > 1 << sheet.n());
         uncut += usize::from(
             over.least > sheet.commands.least && over.greatest < sheet.commands.greatest,
         );

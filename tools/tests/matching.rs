@@ -7,7 +7,7 @@ use common::{load, Numbers};
 use second_guard::boxes::StateBox;
 use second_guard::decision::{trace_recovery, Question};
 use second_guard::sheet::{CommandRange, Sheet};
-use sheet_tool::attempts::{attempts, Ending, Subject};
+use sheet_tool::attempts::{attempts, Attempts, Ending, Subject};
 use sheet_tool::questions::{AskedQuestion, Commands};
 use sheet_tool::{archive, listing};
 use std::collections::BTreeSet;
@@ -47,6 +47,16 @@ fn random_span(sheet: &Sheet, numbers: &mut Numbers) -> CommandRange {
     }
 }
 
+/// How the last attempt ended.
+fn ending(found: &Attempts) -> &'static str {
+    match found.last().ending {
+        Ending::Success => "success",
+        Ending::Unsafe(_) => "unsafe",
+        Ending::Outside(_) => "outside",
+        Ending::Spent => "spent",
+    }
+}
+
 /// Both one command and spans are kept, and end in each other way.
 #[test]
 fn random_questions_to_the_examples() {
@@ -57,17 +67,46 @@ fn random_questions_to_the_examples() {
         for _ in 0..1_000 {
             let question = random_question(&sheet, &mut numbers);
             let found = attempts(&bytes, &sheet, Subject::Question(&question));
-            let ending = match found.expect("no difference").last().ending {
-                Ending::Success => "success",
-                Ending::Unsafe(_) => "unsafe",
-                Ending::Outside(_) => "outside",
-                Ending::Spent => "spent",
-            };
             let one = question.span.least == question.span.greatest;
-            endings.insert((one, ending));
+            endings.insert((one, ending(&found.expect("no difference"))));
         }
     }
     assert_eq!(endings.len(), 8, "{endings:?}");
+}
+
+/// The sheet with a law in each band, which has any command of the head's and mostly one between its ends.
+fn with_laws(mut sheet: Sheet, numbers: &mut Numbers) -> Sheet {
+    let commands = sheet.commands;
+    let middle = i64::from(commands.least) + i64::from(commands.greatest);
+    for band in &mut sheet.bands {
+        band.safety = commands;
+        band.law.divisor = numbers.whole(1, 100) as i32;
+        let constant = i64::from(band.law.divisor) * middle / 2;
+        band.law.constant = (constant + numbers.whole(-1_000, 1_000)) as i32;
+        for coefficient in &mut band.law.coefficients {
+            *coefficient = numbers.whole(-3, 3) as i32;
+        }
+    }
+    sheet
+}
+
+/// The steps' commands follow the state, and the questions' do not.
+#[test]
+fn random_questions_to_machines_with_laws() {
+    let mut numbers = Numbers(19);
+    let mut endings = BTreeSet::new();
+    for name in NAMES {
+        let (sheet, _, _) = load(name);
+        for _ in 0..300 {
+            let sheet = with_laws(sheet, &mut numbers);
+            let bytes = archive::write(&sheet).expect("a sheet");
+            let question = random_question(&sheet, &mut numbers);
+            let found = attempts(&bytes, &sheet, Subject::Question(&question));
+            endings.insert(ending(&found.expect("no difference")));
+            attempts(&bytes, &sheet, Subject::Recovery).expect("no difference");
+        }
+    }
+    assert_eq!(endings.len(), 4, "{endings:?}");
 }
 
 /// The bytes of a random question of either kind.
