@@ -133,6 +133,30 @@ spans_are_asked() {
     )
 }
 
+# With a law behind each band's line the leg press packs with bands marked BF, ten bytes longer each, and comes back
+# as it was. A divisor of 0 and a band without a law are refused with their lines, and nothing is written.
+laws_pack() {
+    laws=$work/laws
+    mkdir -p "$laws" || return 1
+    sed '/^band from/a\  law force = (-coasting + 3000) / 10' "$root/examples/leg_press.txt" >"$laws/laws.txt"
+    first=$(grep -n '^  law' "$laws/laws.txt" | head -n 1 | cut -d : -f 1)
+    (
+        cd "$laws" || exit 1
+        "$sheet" pack laws.txt || exit 1
+        longer=$(($(wc -c <sheet.bin) - $(wc -c <"$work/sheet.bin")))
+        [ "$longer" -eq $((10 * $(grep -c '^band from' laws.txt))) ] || exit 1
+        [ "$(tail -c +25 "$work/sheet.bin" | head -c 2)$(tail -c +25 sheet.bin | head -c 2)" = BDBF ] || exit 1
+        "$sheet" text sheet.bin --like laws.txt | diff laws.txt - || exit 1
+        "$sheet" show laws.txt | grep -q ' plain law: force -*[0-9]' || exit 1
+        rm sheet.bin
+        sed "${first}s|/ 10|/ 0|" laws.txt >zero.txt
+        sed "${first}d" laws.txt >without.txt
+        ! "$sheet" pack zero.txt 2>zero && ! "$sheet" pack without.txt 2>without && ! [ -e sheet.bin ] || exit 1
+        grep -q "^zero.txt: line $first: refused 10 (law or row number): the divisor is 0, " zero || exit 1
+        grep -q '^without.txt: line [0-9]*: the first band has no law: every band has a law, or none has$' without
+    )
+}
+
 packs_without_a_word() {
     "$sheet" pack "$root/examples/leg_press.txt" "$root/examples/leg_press.asks.txt" --to "$work" \
         >"$work/said_at_packing" && ! [ -s "$work/said_at_packing" ]
@@ -153,6 +177,7 @@ check "the leg press packs in another order" other_order_packs
 check "the leg press's records are put in order" records_come_back
 check "the leg press on a no-go box is drawn" overlap_is_drawn
 check "spans are asked" spans_are_asked
+check "laws pack" laws_pack
 check "drive.c builds" compile "$work/drive" "$root/examples/drive.c"
 check "the drive prints its summary" drive_prints_its_summary
 check "the drive refuses no sheet" drive_refuses_no_sheet

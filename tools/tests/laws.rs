@@ -4,7 +4,7 @@
 mod common;
 
 use common::sheets::random_sheet;
-use common::{example, example_text, sheet, shell, Folder, Numbers};
+use common::{damaged, example, example_text, sheet, shell, Folder, Numbers};
 use second_guard::boxes::{State, StateBox, VARIABLES};
 use second_guard::machine::plain_commands;
 use second_guard::sheet::{CommandRange, Kind, Sheet, FIRST_EDGE, START_LIMIT};
@@ -333,6 +333,26 @@ fn names_and_comments_of_laws_stay() {
         .replace("- 3 coasting) / 41", "- 3 coasting) / 1");
     assert!(success);
     assert_eq!(print, expected);
+}
+
+/// The tool and the archive agree on whatever becomes of a text with laws.
+#[test]
+fn damaged_texts_are_accepted_or_faults() {
+    let mut numbers = Numbers(23);
+    let (mut accepted, mut refused, mut faults) = (0, 0, 0);
+    for _ in 0..8_000 {
+        let text = damaged(&commented(), &mut numbers);
+        match sheet_parser::parse(&text).and_then(|text| text.bytes()) {
+            Ok(_) => accepted += 1,
+            Err(fault) if fault.refusal.is_some() => refused += 1,
+            Err(fault) => {
+                assert!(!fault.what.contains("differ"), "{fault}");
+                faults += 1;
+            }
+        }
+    }
+    let counts = [accepted, refused, faults];
+    assert!(counts.iter().all(|&count| count > 10), "{counts:?}");
 }
 
 /// A text with laws has no lines for a sheet without, nor the other way round.

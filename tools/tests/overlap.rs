@@ -4,7 +4,8 @@
 mod common;
 
 use common::sheets::random_sheet;
-use common::{example, example_text, load, record_at, shell, with_records, Folder, Numbers};
+use common::{example, example_text, load, record_at, shell};
+use common::{with_equal_variables, with_records, Folder, Numbers};
 use second_guard::boxes::{StateBox, VARIABLES};
 use second_guard::sheet::Sheet;
 use sheet_tool::overlap_picture::overlap_picture;
@@ -134,11 +135,9 @@ fn every_other_fault_comes_first() {
 
 /// A sheet of n variables with two boxes: their sides are 10..20 and 20..30 in each variable.
 fn touching(n: usize) -> Sheet {
-    let (mut sheet, _, _) = load("sheet_a");
+    let (sheet, _, _) = load("pendulum");
+    let mut sheet = with_equal_variables(sheet);
     (sheet.variables, sheet.unsafe_count) = (n as i32, 1);
-    sheet.caps = [sheet.caps[0]; VARIABLES];
-    let band = &mut sheet.bands[0];
-    band.rows = [band.rows[0]; VARIABLES];
     sheet.recovery = StateBox {
         lower: [10; VARIABLES],
         upper: [20; VARIABLES],

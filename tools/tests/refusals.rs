@@ -2,8 +2,9 @@
 
 mod common;
 
-use common::{example_text, load, shell, with_records, Folder, Numbers};
-use second_guard::boxes::StateBox;
+use common::{damaged, example_text, load, shell};
+use common::{with_equal_variables, with_records, Folder, Numbers};
+use second_guard::boxes::{StateBox, VARIABLES};
 use sheet_tool::sheet_text::{self, SheetText};
 use sheet_tool::{archive, asks_text, sheet_parser};
 use std::collections::BTreeMap;
@@ -214,7 +215,7 @@ fn small_box(numbers: &mut Numbers) -> StateBox {
         upper: std::array::from_fn(|_| numbers.whole(8, 16) / 8),
     };
     if numbers.whole(0, 9) == 0 {
-        sides.lower[numbers.whole(0, 3) as usize] = 3;
+        sides.lower[numbers.whole(0, VARIABLES as i64 - 1) as usize] = 3;
     }
     sides
 }
@@ -228,7 +229,7 @@ fn small_recovery(numbers: &mut Numbers) -> StateBox {
         upper: lower,
     };
     if numbers.whole(0, 9) == 0 {
-        sides.lower[numbers.whole(0, 3) as usize] = 4;
+        sides.lower[numbers.whole(0, VARIABLES as i64 - 1) as usize] = 4;
     }
     sides
 }
@@ -240,9 +241,9 @@ fn the_archive_and_the_tool_agree_on_the_boxes() {
     let mut tally = Tally::default();
     let (sheet, _, _) = load("pendulum");
     for _ in 0..4_000 {
-        let mut sheet = sheet;
+        let mut sheet = with_equal_variables(sheet);
         sheet.unsafe_count = numbers.whole(1, 3) as i32;
-        sheet.variables = numbers.whole(1, 4) as i32;
+        sheet.variables = numbers.whole(1, VARIABLES as i64) as i32;
         sheet.unsafe_boxes = std::array::from_fn(|_| small_box(&mut numbers));
         sheet.recovery = small_recovery(&mut numbers);
         tally.count(&sheet_text::from_sheet(&sheet));
@@ -540,17 +541,6 @@ fn pack_writes_nothing_for_equal_boxes() {
     assert!(!success && out.is_empty() && !folder.0.join("sheet.bin").exists());
     let words = "this no-go box is equal to no-go box \"the end\" on line 12";
     assert_eq!(message, format!("{path}: line 13: {ORDER}: {words}\n"));
-}
-
-/// Puts other letters into a text, each taken from somewhere else in it.
-fn damaged(text: &str, numbers: &mut Numbers) -> String {
-    let mut letters: Vec<char> = text.chars().collect();
-    let last = letters.len() as i64 - 1;
-    for _ in 0..numbers.whole(1, 4) {
-        let (to, from) = (numbers.whole(0, last), numbers.whole(0, last));
-        letters[to as usize] = letters[from as usize];
-    }
-    letters.into_iter().collect()
 }
 
 /// A damaged text is a sheet or a fault, and the archive and the tool agree on which.

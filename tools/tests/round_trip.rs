@@ -4,9 +4,10 @@ mod common;
 
 use common::sheets::{random_boxes, random_sheet};
 use common::{example, example_text, load, sheet, shuffled, Folder, Numbers};
-use second_guard::boxes::StateBox;
+use second_guard::boxes::{StateBox, VARIABLES};
 use second_guard::sheet::{self as second, Sheet};
 use sheet_tool::{archive, asks_text, sheet_parser, sheet_text};
+use std::collections::BTreeSet;
 
 const NAMES: [&str; 4] = ["sheet_a", "leg_press", "motor", "pendulum"];
 
@@ -53,8 +54,10 @@ fn through_text(bytes: &[u8], asks: &[u8]) -> (Vec<u8>, Vec<u8>) {
 #[test]
 fn random_sheets_and_questions_come_back() {
     let mut numbers = Numbers(1);
+    let mut kinds = BTreeSet::new();
     for _ in 0..300 {
         let sheet = random_sheet(&mut numbers);
+        kinds.insert((sheet.n(), sheet.kind().mark()));
         let bytes = archive::write(&sheet).expect("within the ranges");
         let mut buffer = vec![0; bytes.len()];
         second::write(&sheet, &mut buffer, 0).expect("within the ranges");
@@ -62,6 +65,8 @@ fn random_sheets_and_questions_come_back() {
         let asks = random_asks(&sheet, &mut numbers);
         assert_eq!(through_text(&bytes, &asks), (bytes, asks));
     }
+    // Both marks with each number of variables.
+    assert_eq!(kinds.len(), 2 * VARIABLES);
 }
 
 /// Some questions of both kinds, most of them refused, and now and then a short tail or an unknown mark.

@@ -3,6 +3,7 @@
 
 pub mod sheets;
 
+use second_guard::boxes::VARIABLES;
 use second_guard::sheet::Sheet;
 use sheet_tool::{asks_text, sheet_parser};
 use std::path::PathBuf;
@@ -26,6 +27,15 @@ pub fn load(name: &str) -> (Sheet, Vec<u8>, Vec<u8>) {
     let asks = asks_text::parse(&asks, &text.sheet, &text.names).expect("questions");
     let asks_bytes = asks.bytes(&text.sheet);
     (text.sheet, bytes, asks_bytes)
+}
+
+/// Every variable of every band has the first one's cap and row, so that the sheet may have any number of them.
+pub fn with_equal_variables(mut sheet: Sheet) -> Sheet {
+    sheet.caps = [sheet.caps[0]; VARIABLES];
+    for band in &mut sheet.bands {
+        band.rows = [band.rows[0]; VARIABLES];
+    }
+    sheet
 }
 
 /// Runs the program: whether it succeeded, and what it printed.
@@ -87,6 +97,17 @@ pub fn shuffled(text: &str, numbers: &mut Numbers) -> String {
         })
         .map(|line| format!("{line}\n"))
         .collect()
+}
+
+/// Puts other letters into a text, each taken from somewhere else in it.
+pub fn damaged(text: &str, numbers: &mut Numbers) -> String {
+    let mut letters: Vec<char> = text.chars().collect();
+    let last = letters.len() as i64 - 1;
+    for _ in 0..numbers.whole(1, 4) {
+        let (to, from) = (numbers.whole(0, last), numbers.whole(0, last));
+        letters[to as usize] = letters[from as usize];
+    }
+    letters.into_iter().collect()
 }
 
 /// The numbers from 0 to `count` - 1 in another order.
