@@ -254,8 +254,7 @@ impl Parser {
         if k > 0 && !self.text.has_laws() {
             return cursor.fault(format!("the first band has no law: {ALL_OR_NONE}"));
         }
-        let variables = 0..self.text.sheet.n();
-        if variables.into_iter().any(|i| self.has(Item::Row(k, i))) {
+        if (0..self.text.sheet.n()).any(|i| self.has(Item::Row(k, i))) {
             return cursor.fault("a law comes before the changes of its band");
         }
         let Row { a, c, q, .. } = self.quotient(cursor, Quotient::Law)?;
