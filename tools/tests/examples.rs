@@ -12,11 +12,12 @@ use sheet_tool::sheet_parser;
 use std::collections::BTreeSet;
 
 /// Each example, and the question that its picture shows.
-const EXAMPLES: [(&str, &str); 4] = [
+const EXAMPLES: [(&str, &str); 5] = [
     ("sheet_a", "2"),
     ("leg_press", "6"),
     ("motor", "4"),
     ("pendulum", "6"),
+    ("cable_column", "8"),
 ];
 
 /// Compares with a file of examples/, or writes it.
@@ -97,6 +98,23 @@ fn show_says_the_span() {
     assert!(shown.starts_with("question 14 \"let go, as a span\", force 0..0 N: keep"));
     let shown = sheet(&["show", &text("leg_press"), &asks("leg_press"), "15"]);
     assert!(shown.contains("force -800..-1200 N: refused 14 (command)\n"));
+}
+
+/// The cable column's plain law pulls with all it has at first, and then follows the state. The other examples have
+/// the same commands everywhere in a band.
+#[test]
+fn show_says_what_the_plain_law_commands() {
+    let shown = sheet(&["show", &text("cable_column"), &asks("cable_column"), "8"]);
+    for row in [
+        "20..21    plain law: pull 280 ",
+        "179..180  plain law: pull 67..260 ",
+    ] {
+        assert!(shown.contains(&format!("\n    {row}")), "{shown}");
+    }
+    for (name, _) in &EXAMPLES[..4] {
+        let shown = sheet(&["show", &text(name), &asks(name)]);
+        assert!(shown.contains("  plain law  ") && !shown.contains("plain law:"));
+    }
 }
 
 /// What `motor.asks.txt` says: each set-point is kept, and the span of them is not.

@@ -12,7 +12,7 @@ use sheet_tool::questions::{AskedQuestion, Commands};
 use sheet_tool::{archive, listing};
 use std::collections::BTreeSet;
 
-const NAMES: [&str; 4] = ["sheet_a", "leg_press", "motor", "pendulum"];
+const NAMES: [&str; 5] = ["sheet_a", "leg_press", "motor", "pendulum", "cable_column"];
 
 /// A question about a small box in or close to the recovery box.
 fn random_question(sheet: &Sheet, numbers: &mut Numbers) -> Question {

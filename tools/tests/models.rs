@@ -4,81 +4,13 @@
 
 mod common;
 
+use common::machines::{allowed, disturbances, extreme, forbidden, kept, measured, state_of, step};
+use common::machines::{PARTS, STEPS};
 use common::{example_text, load, Numbers};
-use second_guard::boxes::{State, StateBox};
-use second_guard::machine::{allowed_change, band_of};
+use second_guard::boxes::State;
+use second_guard::machine::band_of;
 use second_guard::sheet::Sheet;
-use sheet_tool::archive;
-use sheet_tool::questions::{cut, AskedQuestion};
-
-/// Parts of a tick in which a disturbance stays the same.
-const PARTS: usize = 20;
-/// Steps of the simulation in each part.
-const STEPS: usize = 10;
-
-/// One step of a fourth-order method; `change` is the rate at a state.
-fn step<const N: usize>(
-    state: [f64; N],
-    seconds: f64,
-    change: impl Fn([f64; N]) -> [f64; N],
-) -> [f64; N] {
-    let moved = |by: [f64; N], part: f64| -> [f64; N] {
-        std::array::from_fn(|i| state[i] + by[i] * part * seconds)
-    };
-    let first = change(state);
-    let second = change(moved(first, 0.5));
-    let third = change(moved(second, 0.5));
-    let fourth = change(moved(third, 1.0));
-    std::array::from_fn(|i| {
-        let sum = first[i] + 2.0 * second[i] + 2.0 * third[i] + fourth[i];
-        state[i] + sum * seconds / 6.0
-    })
-}
-
-/// A state of as many variables as there are values.
-fn state_of(values: &[i64]) -> State {
-    let mut state = State::default();
-    state[..values.len()].copy_from_slice(values);
-    state
-}
-
-/// The sheet allows these changes of the whole numbers.
-fn allowed(sheet: &Sheet, before: State, after: State, command: i32) {
-    for i in 0..sheet.n() {
-        let change = after[i] - before[i];
-        let (least, greatest) =
-            allowed_change(sheet, &before, command, i).expect("a state in a band");
-        assert!(
-            (least..=greatest).contains(&change),
-            "variable {i} from {before:?} to {after:?} under {command}: {least}..{greatest}"
-        );
-    }
-}
-
-fn forbidden(sheet: &Sheet, state: &State) -> bool {
-    sheet
-        .unsafe_boxes()
-        .iter()
-        .any(|unsafe_box| unsafe_box.holds(state))
-}
-
-/// A number between two ends, often one of the ends.
-fn extreme(numbers: &mut Numbers, least: f64, greatest: f64) -> f64 {
-    match numbers.whole(0, 2) {
-        0 => least,
-        1 => greatest,
-        _ => numbers.real(least, greatest),
-    }
-}
-
-/// A disturbance in each part of a tick: in every other tick the same in all of them.
-fn disturbances(numbers: &mut Numbers, least: f64, greatest: f64) -> [f64; PARTS] {
-    let held = extreme(numbers, least, greatest);
-    if numbers.whole(0, 1) == 0 {
-        return [held; PARTS];
-    }
-    std::array::from_fn(|_| extreme(numbers, least, greatest))
-}
+use sheet_tool::questions::AskedQuestion;
 
 // The leg press.
 
@@ -163,12 +95,9 @@ fn leg_press_period(sheet: &Sheet, question: &AskedQuestion, numbers: &mut Numbe
 
 #[test]
 fn leg_press_keeps_hold_with_any_force_at_each_tick() {
-    let (sheet, bytes, asks) = load("leg_press");
+    let (sheet, _, _) = load("leg_press");
     let mut numbers = Numbers(12);
-    let kept: Vec<AskedQuestion> = cut(&asks, sheet.n())
-        .filter(|question| archive::decide(&bytes, question).code() == 0)
-        .filter_map(|question| AskedQuestion::from_bytes(question, sheet.n()))
-        .collect();
+    let kept = kept("leg_press");
     let several = |q: &&AskedQuestion| q.commands.span().least < q.commands.span().greatest;
     assert_eq!((kept.len(), kept.iter().filter(several).count()), (9, 2));
     for question in kept {
@@ -176,15 +105,6 @@ fn leg_press_keeps_hold_with_any_force_at_each_tick() {
             leg_press_period(&sheet, &question, &mut numbers);
         }
     }
-}
-
-/// The measured boxes of a file of questions, the refused ones too.
-fn measured(name: &str) -> Vec<StateBox> {
-    let (sheet, _, asks) = load(name);
-    cut(&asks, sheet.n())
-        .map(|bytes| AskedQuestion::from_bytes(bytes, sheet.n()))
-        .map(|question| question.expect("a question").measured)
-        .collect()
 }
 
 #[test]

@@ -86,7 +86,7 @@ fn the_program_says_the_order() {
 fn records_in_order_stay() {
     let folder = Folder::new("order-stays");
     let words = "no-go boxes in order already: sheet.bin has the same bytes";
-    for name in ["sheet_a", "leg_press", "motor", "pendulum"] {
+    for name in ["sheet_a", "leg_press", "motor", "pendulum", "cable_column"] {
         let (_, bytes, _) = load(name);
         let said = format!("{}: {words}\n", folder.file("old.bin"));
         assert_eq!(ordered(&bytes, &folder), (said, bytes));

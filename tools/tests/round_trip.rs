@@ -9,7 +9,7 @@ use second_guard::sheet::{self as second, Sheet};
 use sheet_tool::{archive, asks_text, sheet_parser, sheet_text};
 use std::collections::BTreeSet;
 
-const NAMES: [&str; 4] = ["sheet_a", "leg_press", "motor", "pendulum"];
+const NAMES: [&str; 5] = ["sheet_a", "leg_press", "motor", "pendulum", "cable_column"];
 
 #[test]
 fn examples_come_back_line_for_line() {

@@ -1,6 +1,7 @@
 //! What the tests share: the examples, the program, and a simple source of numbers.
 #![allow(dead_code)]
 
+pub mod machines;
 pub mod sheets;
 
 use second_guard::boxes::VARIABLES;
