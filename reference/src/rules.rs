@@ -23,6 +23,10 @@ pub enum Rule {
     LawInTheMiddle,
     /// Both ends of a law's commands from its least sum.
     LawFromItsLeast,
+    /// Both ends from its greatest sum.
+    LawFromItsGreatest,
+    /// The least end rounded up and the greatest one down.
+    LawRoundedInward,
     /// A law's commands clamped to the head's range and not to the band's safety range.
     LawWithinTheHead,
 }
@@ -70,11 +74,15 @@ fn commands(
         _ => band.safety,
     };
     let clamp = Clamp::new(band.law.divisor, range);
-    let greatest = match rule {
-        Rule::LawFromItsLeast => least,
-        _ => greatest,
+    let (from, to) = match rule {
+        Rule::LawFromItsLeast => (least, least),
+        Rule::LawFromItsGreatest => (greatest, greatest),
+        _ => (least, greatest),
     };
-    (clamp.least_command(least), clamp.greatest_command(greatest))
+    match rule {
+        Rule::LawRoundedInward => (clamp.greatest_command(from), clamp.least_command(to)),
+        _ => (clamp.least_command(from), clamp.greatest_command(to)),
+    }
 }
 
 /// The least or the greatest change by band k's row.

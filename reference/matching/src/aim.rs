@@ -3,7 +3,7 @@
 
 use crate::generate::{model, shape, times, widths, Case};
 use crate::random::Random;
-use second_guard::boxes::StateBox;
+use second_guard::boxes::{StateBox, VARIABLES};
 use second_guard::changes::{At, Change};
 use second_guard::decision::{decide_watched, Faults, Question};
 use second_guard::neighborhoods::{neighborhoods, Neighborhood};
@@ -63,7 +63,7 @@ fn first_round(case: &Case) -> Vec<(usize, Change)> {
 /// A case of a few ticks, in which a change of each variable is aimed at by a row's offset.
 pub fn aimed(random: &mut Random) -> Case {
     let times = times(random, 12);
-    let mut case = model(random, times, 4);
+    let mut case = model(random, times, VARIABLES);
     let n = case.sheet.n();
     if random.percent(40) {
         // The largest numbers.

@@ -4,10 +4,11 @@
 //! as paper 8 asks.
 
 use crate::expected::pairs;
+use crate::laws::{any_kind, any_law, put_laws};
 use crate::random::Random;
 use second_guard::boxes::{StateBox, VARIABLES};
 use second_guard::decision::{trace, Faults, Question};
-use second_guard::sheet::{self, Band, CommandRange, Row, Sheet, BANDS, UNSAFE_BOXES};
+use second_guard::sheet::{self, Band, CommandRange, Kind, Row, Sheet, BANDS, UNSAFE_BOXES};
 
 const SIDE: i64 = sheet::SIDE_LIMIT;
 const START: i64 = sheet::START_LIMIT;
@@ -98,9 +99,18 @@ struct Motion {
     noisy: bool,
 }
 
+/// How often each number of variables is drawn.
+const DRAWN_VARIABLES: [usize; 9] = [1, 1, 2, 2, 2, 3, 4, 5, 6];
+
 /// A random machine with a wide recovery box and an unsafe box out of reach.
 pub fn model(random: &mut Random, times: Times, most_variables: usize) -> Case {
-    let n = random.pick(&[1, 1, 2, 2, 2, 3, 4]).min(most_variables);
+    let n = random.pick(&DRAWN_VARIABLES).min(most_variables);
+    let kind = any_kind(random);
+    model_of(random, times, n, kind)
+}
+
+/// The same with n variables and bands of this kind.
+pub fn model_of(random: &mut Random, times: Times, n: usize, kind: Kind) -> Case {
     let ticks = i64::from(times.delta + times.alpha);
     let v = random.below(n);
     let mut sheet = Sheet {
@@ -172,13 +182,7 @@ pub fn model(random: &mut Random, times: Times, most_variables: usize) -> Case {
             edge: edge as i32,
             ..Band::default()
         };
-        let CommandRange { least, greatest } = sheet.commands;
-        let middle = random.int(-20, 20).clamp(least, greatest);
-        let room = random.pick(&[0, 0, 1, 5, 300]);
-        band.safety = CommandRange {
-            least: (middle - room).max(least),
-            greatest: (middle + room).min(greatest),
-        };
+        band.safety = any_safety(random, sheet.commands, kind);
         for (i, motion) in motions.iter().enumerate() {
             // Most bands differ from the first only in their offset.
             band.rows[i] = if k > 0 && random.percent(60) {
@@ -200,11 +204,30 @@ pub fn model(random: &mut Random, times: Times, most_variables: usize) -> Case {
     sheet.unsafe_count = 1;
     sheet.unsafe_boxes[0] = everywhere(n);
     sheet.unsafe_boxes[0].lower[0] = SIDE;
+    if kind == Kind::Following {
+        let distance = random.pick(&[&wide, &extent]);
+        let region = around(random, n, &center, distance);
+        put_laws(random, &mut sheet, &region);
+    }
     let command = pick_command(random, &sheet);
     Case {
         sheet,
         measured,
         command,
+    }
+}
+
+/// A safety range of a few commands; where a law follows the state mostly a wide one.
+fn any_safety(random: &mut Random, commands: CommandRange, kind: Kind) -> CommandRange {
+    let CommandRange { least, greatest } = commands;
+    let middle = random.int(-20, 20).clamp(least, greatest);
+    let room = match kind {
+        Kind::Fixed => random.pick(&[0, 0, 1, 5, 300]),
+        Kind::Following => random.pick(&[0, 1, 5, 40, 300, 300, 2_000, 20_000]),
+    };
+    CommandRange {
+        least: (middle - room).max(least),
+        greatest: (middle + room).min(greatest),
     }
 }
 
@@ -554,7 +577,20 @@ pub struct Everyday {
 pub fn everyday(random: &mut Random) -> Everyday {
     let most = random.pick(&[4, 12, 12, 40, 40, 120]);
     let times = times(random, most);
-    let mut case = model(random, times, 4);
+    let case = model(random, times, VARIABLES);
+    shaped(random, case)
+}
+
+/// The same with n variables and bands of this kind.
+pub fn everyday_of(random: &mut Random, n: usize, kind: Kind) -> Everyday {
+    let most = random.pick(&[4, 12, 12, 40]);
+    let times = times(random, most);
+    let case = model_of(random, times, n, kind);
+    shaped(random, case)
+}
+
+/// The case with its boxes placed for any number of halvings.
+fn shaped(random: &mut Random, mut case: Case) -> Everyday {
     let halvings = random.below(widths(&case.sheet).len());
     let shape = shape(random, &mut case, halvings);
     Everyday {
@@ -581,7 +617,7 @@ pub fn slow_growth(random: &mut Random) -> Case {
         alpha: random.int(1, 40),
         rho: random.int(1, 60),
     };
-    let mut case = model(random, times, 3);
+    let mut case = model(random, times, VARIABLES);
     let n = case.sheet.n();
     let i = random.below(n);
     case.sheet.caps[i] = random.int(600, 1_000);
@@ -624,7 +660,8 @@ pub fn worst_case() -> Case {
         ..Sheet::default()
     };
     sheet.bands[0].edge = sheet::FIRST_EDGE;
-    sheet.bands[0].rows = [Row { c: 1, ..still }, still, still, still];
+    sheet.bands[0].rows = [still; VARIABLES];
+    sheet.bands[0].rows[0].c = 1;
     sheet.bands[1].edge = 1_050;
     sheet.bands[1].rows = [still; VARIABLES];
     sheet.bands[2].edge = TOP as i32 + 1;
@@ -653,7 +690,7 @@ pub fn worst_case() -> Case {
 pub type Bound = (&'static str, fn(&mut Random, &mut Sheet));
 
 /// Every bound of a sheet's values.
-pub const BOUNDS: [Bound; 14] = [
+pub const BOUNDS: [Bound; 18] = [
     ("delta + alpha = 1,000", |random, sheet| {
         sheet.delta = random.pick(&[1, 2, 500, 999]);
         sheet.alpha = 1_000 - sheet.delta;
@@ -735,6 +772,30 @@ pub const BOUNDS: [Bound; 14] = [
         }
         move_unsafe_boxes(random, sheet);
     }),
+    ("law coefficients -1,000 and 1,000", |random, sheet| {
+        let n = sheet.n();
+        any_law(random, sheet, |random, law| {
+            for coefficient in &mut law.coefficients[..n] {
+                *coefficient = random.pick(&[-1_000, 1_000]);
+            }
+        });
+    }),
+    ("law coefficients 0", |random, sheet| {
+        any_law(random, sheet, |_, law| law.coefficients.fill(0));
+    }),
+    (
+        "law constant -100,000,000 and 100,000,000",
+        |random, sheet| {
+            any_law(random, sheet, |random, law| {
+                law.constant = random.pick(&[-100_000_000, 100_000_000]);
+            });
+        },
+    ),
+    ("law divisor 1 and 4,096", |random, sheet| {
+        any_law(random, sheet, |random, law| {
+            law.divisor = random.pick(&[1, 4_096]);
+        });
+    }),
 ];
 
 fn any_row(random: &mut Random, sheet: &mut Sheet, change: impl Fn(&mut Random, &mut Row)) {
@@ -745,13 +806,21 @@ fn any_row(random: &mut Random, sheet: &mut Sheet, change: impl Fn(&mut Random, 
 
 /// The bytes of a sheet that the writer takes.
 pub fn sheet_bytes(sheet: &Sheet) -> Vec<u8> {
-    let mut bytes = vec![0; sheet::length(VARIABLES, BANDS, UNSAFE_BOXES)];
+    let longest = sheet::length(Kind::Following, VARIABLES, BANDS, UNSAFE_BOXES);
+    let mut bytes = vec![0; longest];
     let length = sheet::write(sheet, &mut bytes, 0).expect("generated sheets are accepted");
     bytes.truncate(length);
     bytes
 }
 
-/// Where unsafe record j begins, and after the last one the recovery record.
+/// Where band k begins, and after the last one the first unsafe record.
+pub fn band_record(sheet: &Sheet, k: usize) -> usize {
+    let (bands, boxes) = (sheet.bands().len(), sheet.unsafe_boxes().len());
+    let length = |bands: usize| sheet::length(sheet.kind(), sheet.n(), bands, boxes);
+    record(sheet, 0) - (length(bands) - length(k))
+}
+
+/// Where unsafe record j begins, after the last one the recovery record, and after that the end.
 pub fn record(sheet: &Sheet, j: usize) -> usize {
     let records = sheet.unsafe_boxes().len() + 1;
     sheet.length() - (2 + 8 * sheet.n()) * (records - j)

@@ -2,6 +2,7 @@
 
 use crate::generate::{model, pick_command, shape_for, times, widths, Case};
 use crate::random::Random;
+use second_guard::boxes::VARIABLES;
 use second_guard::sheet::{CommandRange, Sheet};
 
 /// How much of the head's commands a span has.
@@ -80,7 +81,7 @@ pub fn any_span(random: &mut Random, sheet: &Sheet) -> CommandRange {
 pub fn spanned(random: &mut Random) -> (Case, CommandRange) {
     let most = random.pick(&[4, 12, 12, 40, 40, 120]);
     let times = times(random, most);
-    let mut case = model(random, times, 4);
+    let mut case = model(random, times, VARIABLES);
     let span = any_span(random, &case.sheet);
     let halvings = random.below(widths(&case.sheet).len());
     shape_for(random, &mut case, span, halvings);

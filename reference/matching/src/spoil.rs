@@ -2,17 +2,19 @@
 //! A fault's rank says which of two is found first.
 
 use crate::archive::format::{
-    slot_band, slot_row, slot_unsafe, SLOT_ALPHA, SLOT_BANDS, SLOT_BAND_VARIABLE, SLOT_CAPS,
-    SLOT_DELTA, SLOT_GREATEST_COMMAND, SLOT_LEAST_COMMAND, SLOT_N, SLOT_RECOVERY, SLOT_RHO,
-    SLOT_UNSAFE_BOXES, VARIABLES,
+    slot_band, slot_law, slot_row, slot_unsafe, BANDS, SLOT_ALPHA, SLOT_BANDS, SLOT_BAND_VARIABLE,
+    SLOT_CAPS, SLOT_DELTA, SLOT_GREATEST_COMMAND, SLOT_LEAST_COMMAND, SLOT_N, SLOT_RECOVERY,
+    SLOT_RHO, SLOT_UNSAFE_BOXES, UNSAFE_BOXES, VARIABLES,
 };
 use crate::expected::pairs;
+use crate::generate::{band_record, record};
+use crate::laws::LawNumber;
 use crate::order::any_not_greater;
 use crate::overlap::{moved_onto, Moved};
 use crate::random::Random;
 use crate::spans::{wrong_span, WRONGS};
 use second_guard::boxes::StateBox;
-use second_guard::sheet::{CommandRange, Sheet};
+use second_guard::sheet::{self, CommandRange, Kind, Sheet};
 
 /// All numbers by which a call can be refused.
 pub const REFUSALS: [u8; 19] = [
@@ -81,17 +83,107 @@ impl Fault {
 /// Ranks of what comes before the file's order.
 const FILE_ORDER: usize = 100;
 
+/// A band's mark, edge and safety range in bytes.
+pub const BAND_HEAD: usize = 14;
+
 fn not_mark(random: &mut Random, mark: &[u8; 2]) -> [u8; 2] {
     let mut wrong = *mark;
     let place = random.below(2);
     wrong[place] = wrong[place].wrapping_add(random.int(1, 255) as u8);
     if random.percent(30) {
-        wrong = random.pick(&[*b"SH", *b"BD", *b"NG", *b"RC", *b"QS", [0, 0]]);
+        wrong = random.pick(&[*b"SH", *b"BD", *b"BF", *b"NG", *b"RC", *b"QS", [0, 0]]);
         if wrong == *mark {
             wrong = *b"Sh";
         }
     }
     wrong
+}
+
+/// Neither of the bands' marks.
+pub fn no_band_mark(random: &mut Random) -> [u8; 2] {
+    let wrong = not_mark(random, b"BD");
+    if wrong == *b"BF" {
+        *b"BE"
+    } else {
+        wrong
+    }
+}
+
+/// The kind that the sheet is not of.
+pub fn other_kind(sheet: &Sheet) -> Kind {
+    match sheet.kind() {
+        Kind::Fixed => Kind::Following,
+        Kind::Following => Kind::Fixed,
+    }
+}
+
+/// The length that the sheet would have if it were of the other kind.
+pub fn other_length(sheet: &Sheet) -> usize {
+    let (bands, boxes) = (sheet.band_count, sheet.unsafe_count);
+    let kind = other_kind(sheet);
+    sheet::length(kind, sheet.n(), bands as usize, boxes as usize)
+}
+
+/// A band's mark that is refused by 7. One of the first band must not fix another length: it is neither
+/// of the two and stands in a sheet of the shorter form, or it is a later one's.
+fn band_mark_fault(random: &mut Random, sheet: &Sheet) -> Option<Fault> {
+    let k = random.below(sheet.band_count as usize);
+    let mark = match sheet.kind() {
+        _ if k > 0 && random.percent(50) => *other_kind(sheet).mark(),
+        kind if k > 0 => not_mark(random, kind.mark()),
+        Kind::Fixed => no_band_mark(random),
+        Kind::Following => return None,
+    };
+    let at = band_record(sheet, k);
+    Some(Fault::new(7, FILE_ORDER + at, at, &mark))
+}
+
+/// A box's mark that is refused by 7.
+fn box_mark_fault(random: &mut Random, sheet: &Sheet) -> Fault {
+    let boxes = sheet.unsafe_count as usize;
+    let j = random.below(boxes + 1);
+    let mark = if j == boxes { b"RC" } else { b"NG" };
+    let at = record(sheet, j);
+    Fault::new(7, FILE_ORDER + at, at, &not_mark(random, mark))
+}
+
+/// More bytes than the sheet has, or a first band's mark that fixes the other kind's length.
+fn length_fault(random: &mut Random, sheet: &Sheet) -> Fault {
+    if random.percent(40) {
+        let mark = match sheet.kind() {
+            Kind::Fixed => *b"BF",
+            Kind::Following if random.percent(50) => *b"BD",
+            Kind::Following => no_band_mark(random),
+        };
+        return Fault::new(5, 5, band_record(sheet, 0), &mark);
+    }
+    let to_other = other_length(sheet).saturating_sub(sheet.length());
+    let mut more = vec![0; random.pick(&[1, 1, 2, 14, 40, to_other.max(1)])];
+    random.fill(&mut more);
+    Fault::new(5, 5, usize::MAX, &more)
+}
+
+/// A law's number beyond its ends, in any band of a sheet with laws.
+pub fn law_fault(random: &mut Random, sheet: &Sheet) -> Fault {
+    let k = random.below(sheet.band_count as usize);
+    let number = LawNumber::any(random, sheet.n());
+    let ((least, greatest), (lowest, highest)) = (number.ends(), number.extremes());
+    let value = random.pick(&[least - 1, greatest + 1, lowest, highest]);
+    let at = band_record(sheet, k) + BAND_HEAD + number.place(sheet.n());
+    Fault::new(10, FILE_ORDER + at, at, &number.bytes(value))
+}
+
+/// The same in the numbers of a sheet. A first divisor of 0 is none: there the sheet has no laws.
+pub fn law_number_fault(random: &mut Random, sheet: &Sheet) -> Fault<i32> {
+    let k = random.below(sheet.band_count as usize);
+    let number = LawNumber::any(random, sheet.n());
+    let (least, greatest) = number.ends();
+    let mut value = random.pick(&[least - 1, greatest + 1, 1 << 28, i32::MIN, i32::MAX]);
+    if value == 0 && k == 0 {
+        value = -1;
+    }
+    let slot = slot_law(k) + number.slot();
+    Fault::new(10, FILE_ORDER + slot, slot, &[value])
 }
 
 fn beyond(random: &mut Random, limit: i64) -> i32 {
@@ -104,68 +196,41 @@ fn beyond(random: &mut Random, limit: i64) -> i32 {
     value as i32
 }
 
-/// Where the records of a sheet begin.
-struct Layout {
-    n: usize,
-    bands: usize,
-    unsafe_boxes: usize,
-}
-
-impl Layout {
-    fn of(sheet: &Sheet) -> Layout {
-        Layout {
-            n: sheet.n(),
-            bands: sheet.band_count as usize,
-            unsafe_boxes: sheet.unsafe_count as usize,
-        }
-    }
-
-    fn band(&self, k: usize) -> usize {
-        20 + 2 * self.n + k * (14 + self.n * (2 * self.n + 12))
-    }
-
-    /// The unsafe boxes, and after them the recovery box.
-    fn sides(&self, j: usize) -> usize {
-        self.band(self.bands) + j * (2 + 8 * self.n)
-    }
-}
-
 /// An unsafe record that is not greater than the one before: it is found after the record's last
 /// side.
 fn order_fault(random: &mut Random, sheet: &Sheet) -> Fault {
-    let layout = Layout::of(sheet);
     let (j, sides) = any_not_greater(random, sheet);
-    let rank = FILE_ORDER + layout.sides(j + 1) - 1;
-    Fault::new(20, rank, layout.sides(j) + 2, &pairs(&sides, layout.n))
+    let rank = FILE_ORDER + record(sheet, j + 1) - 1;
+    Fault::new(20, rank, record(sheet, j) + 2, &pairs(&sides, sheet.n()))
 }
 
 /// A recovery box on an unsafe box: it is found after all sides. The fault is in the pairs that move.
 fn overlap_fault(random: &mut Random, sheet: &Sheet) -> Fault {
-    let layout = Layout::of(sheet);
+    let n = sheet.n();
     let (moved, sides) = random.pick(&moved_onto(sheet));
-    let (record, before) = match moved {
-        Moved::Recovery => (layout.unsafe_boxes, &sheet.recovery),
+    let (j, before) = match moved {
+        Moved::Recovery => (sheet.unsafe_count as usize, &sheet.recovery),
         Moved::Unsafe(j) => (j, &sheet.unsafe_boxes[j]),
     };
     let other = |&i: &usize| (sides.lower[i], sides.upper[i]) != (before.lower[i], before.upper[i]);
-    let first = (0..layout.n).find(other).expect("a side that moves");
-    let last = (0..layout.n).rfind(other).expect("a side that moves");
-    let rank = FILE_ORDER + layout.sides(layout.unsafe_boxes + 1);
-    let bytes = pairs(&sides, layout.n);
-    let at = layout.sides(record) + 2 + 8 * first;
+    let first = (0..n).find(other).expect("a side that moves");
+    let last = (0..n).rfind(other).expect("a side that moves");
+    let rank = FILE_ORDER + sheet.length();
+    let bytes = pairs(&sides, n);
+    let at = record(sheet, j) + 2 + 8 * first;
     Fault::new(22, rank, at, &bytes[8 * first..8 * (last + 1)])
 }
 
 /// A fault for this refusal (1 to 11, 20, 22) in a sheet's bytes. With `layout_kept` the counts keep
 /// their values, so that the rest of the bytes means what it meant.
 pub fn sheet_fault(random: &mut Random, sheet: &Sheet, number: u8, layout_kept: bool) -> Fault {
-    let layout = Layout::of(sheet);
-    let n = layout.n;
-    let any_band = random.below(layout.bands);
-    let band = layout.band(any_band);
-    let any_sides = random.below(layout.unsafe_boxes + 1);
-    let sides = layout.sides(any_sides);
-    let is_recovery = any_sides == layout.unsafe_boxes;
+    let n = sheet.n();
+    let any_band = random.below(sheet.band_count as usize);
+    let band = band_record(sheet, any_band);
+    let boxes = sheet.unsafe_count as usize;
+    let any_sides = random.below(boxes + 1);
+    let sides = record(sheet, any_sides);
+    let is_recovery = any_sides == boxes;
     let int = |value: i32| value.to_be_bytes();
     let in_file = |number, at: usize, bytes: &[u8]| Fault::new(number, FILE_ORDER + at, at, bytes);
     match number {
@@ -176,7 +241,7 @@ pub fn sheet_fault(random: &mut Random, sheet: &Sheet, number: u8, layout_kept: 
             } else {
                 random.pick(&[
                     (2, 0),
-                    (2, 5),
+                    (2, VARIABLES as i32 + 1),
                     (2, 255),
                     (3, 0),
                     (3, 9),
@@ -211,20 +276,16 @@ pub fn sheet_fault(random: &mut Random, sheet: &Sheet, number: u8, layout_kept: 
             };
             Fault::new(4, 4, at, &int(value))
         }
-        5 => {
-            let mut more = vec![0; random.pick(&[1, 1, 2, 14, 40])];
-            random.fill(&mut more);
-            Fault::new(5, 5, usize::MAX, &more)
-        }
+        5 => length_fault(random, sheet),
         6 => {
             let cap: u16 = random.pick(&[0, 1_001, 32_768, 65_535]);
             let i = random.below(n);
             Fault::new(6, 6 + i, 20 + 2 * i, &cap.to_be_bytes())
         }
-        7 if random.percent(50) => in_file(7, band, &not_mark(random, b"BD")),
         7 => {
-            let mark = if is_recovery { b"RC" } else { b"NG" };
-            in_file(7, sides, &not_mark(random, mark))
+            let of_band = random.percent(50).then(|| band_mark_fault(random, sheet));
+            let of_band = of_band.flatten();
+            of_band.unwrap_or_else(|| box_mark_fault(random, sheet))
         }
         8 => {
             let edge = if any_band == 0 {
@@ -245,8 +306,10 @@ pub fn sheet_fault(random: &mut Random, sheet: &Sheet, number: u8, layout_kept: 
             };
             in_file(9, band + at, &int(value))
         }
+        10 if sheet.kind() == Kind::Following && random.percent(40) => law_fault(random, sheet),
         10 => {
-            let row = band + 14 + random.below(n) * (2 * n + 12);
+            let rows = band_record(sheet, any_band + 1) - n * (2 * n + 12);
+            let row = rows + random.below(n) * (2 * n + 12);
             let (b, c) = (row + 2 * n, row + 2 * n + 2);
             match random.below(5) {
                 0 | 1 => {
@@ -400,9 +463,14 @@ pub fn number_fault(
             at_slot(2, SLOT_BAND_VARIABLE, variable)
         }
         2 => {
-            let counts = [SLOT_N, SLOT_BANDS, SLOT_UNSAFE_BOXES, SLOT_BAND_VARIABLE];
-            let slot = random.pick(&counts);
-            let value = random.pick(&[-1, 9, 256, 257, i32::MIN, i32::MAX]);
+            let counts = [
+                (SLOT_N, VARIABLES),
+                (SLOT_BANDS, BANDS),
+                (SLOT_UNSAFE_BOXES, UNSAFE_BOXES),
+                (SLOT_BAND_VARIABLE, n - 1),
+            ];
+            let (slot, most) = random.pick(&counts);
+            let value = random.pick(&[-1, most as i32 + 1, 256, 257, i32::MIN, i32::MAX]);
             at_slot(2, slot, value)
         }
         3 => {
@@ -436,6 +504,9 @@ pub fn number_fault(
                 _ => (band + 1, sheet.bands[any_band].safety.greatest + 1),
             };
             at_slot(FILE_ORDER + band + 1, slot, value)
+        }
+        10 if sheet.kind() == Kind::Following && random.percent(40) => {
+            law_number_fault(random, sheet)
         }
         10 => {
             let row = slot_row(any_band, random.below(n));
@@ -475,12 +546,12 @@ pub fn number_fault(
 
 /// The boxes in the bytes of a sheet of this layout: the unsafe ones, then the recovery box.
 fn boxes_in(bytes: &[u8], sheet: &Sheet) -> Vec<StateBox> {
-    let layout = Layout::of(sheet);
+    let n = sheet.n();
     let sides = |j: usize| {
-        let at = layout.sides(j) + 2;
-        StateBox::from_pairs(&bytes[at..at + 8 * layout.n], layout.n).expect("n pairs")
+        let at = record(sheet, j) + 2;
+        StateBox::from_pairs(&bytes[at..at + 8 * n], n).expect("n pairs")
     };
-    (0..=layout.unsafe_boxes).map(sides).collect()
+    (0..=sheet.unsafe_boxes().len()).map(sides).collect()
 }
 
 /// A fault of 20 or 22 is in the boxes, the last of which is the recovery box. One fault can undo

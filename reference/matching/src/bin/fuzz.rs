@@ -1,7 +1,7 @@
 //! A million calls of the archive with random, cut, flipped and spliced bytes in fenced buffers:
 //! no access outside a buffer, no write on refusal, every answer that of the second guard.
 
-use matching::archive::format::{reach_length, LONGEST_SHEET, NUMBERS};
+use matching::archive::format::{reach_length, LONGEST_SHEET, NUMBERS, VARIABLES};
 use matching::archive::{self, Answer, ReachCall};
 use matching::expected;
 use matching::fences::{array, array_mut, watch_fences, Fenced, Side};
@@ -102,7 +102,7 @@ fn corpus(random: &mut Random) -> Vec<Sound> {
         .map(|number| {
             let most = random.pick(&[3, 6, 10]);
             let times = times(random, most);
-            let mut case = model(random, times, 4);
+            let mut case = model(random, times, VARIABLES);
             let turns = widths(&case.sheet).len();
             let halvings = random.below(turns);
             shape(random, &mut case, halvings);

@@ -17,7 +17,7 @@ use matching::spoil::{can_have, damage, question_fault, sheet_fault, span_fault}
 use matching::tally::{hex, KindId, Tally};
 use plain_guard::decision::{decide_values, recovery_values};
 use plain_guard::reach::{step, to_box, Count};
-use second_guard::boxes::StateBox;
+use second_guard::boxes::{StateBox, VARIABLES};
 use second_guard::sheet::{CommandRange, Sheet};
 
 const SHEETS: usize = 20_000;
@@ -447,7 +447,7 @@ fn main() {
     let mut random = Random::new(20_261_115);
     for _ in 0..SHEETS {
         let times = times(&mut random, TICKS);
-        let mut case = model(&mut random, times, 4);
+        let mut case = model(&mut random, times, VARIABLES);
         let halvings = random.below(4);
         shape(&mut random, &mut case, halvings);
         let sheet = sheet_bytes(&case.sheet);

@@ -1,27 +1,33 @@
 //! Runs the machine itself, kept and handed over as the archive answers, with random allowed
 //! changes and the worst ones; fails on a forbidden state or a missed return. The coach asks by one
-//! command or by a span, and then varies its command at every tick. With `--fault` a faulty guard stands
-//! in the archive's place, or a faulty drive runs the motor, and has to be found out; `--self-test`
-//! tries all.
+//! command or by a span, and then varies its command at every tick. The plain law takes any command of
+//! the safety range, or where it follows the state any one between its ends at the true state. With
+//! `--fault` a faulty guard stands in the archive's place, or a faulty drive runs the motor, and has to be
+//! found out; `--self-test` tries all.
 
 use matching::archive::{self, Answer};
 use matching::expected::decide_before;
 use matching::generate::{everywhere, question_bytes, set_in_order, sheet_bytes, span_bytes};
+use matching::laws::{OtherGuard, OTHER_GUARDS};
 use matching::random::Random;
+use matching::scenes::{drawn, Drawn};
 use matching::tally::{hex, KindId, Tally};
 use second_guard::boxes::{State, StateBox, VARIABLES};
 use second_guard::decision::{
-    check_recovery, decide_watched, read_question, trace_recovery, Bounded, Faults, RecoveryCheck,
+    check_recovery_watched, decide_watched, read_question, trace_recovery, Bounded, Faults,
+    RecoveryCheck,
 };
-use second_guard::machine::{allowed_change, band_of};
+use second_guard::machine::{allowed_change, band_of, plain_commands};
 use second_guard::reach::NoWatch;
-use second_guard::sheet::{self, Band, CommandRange, Row, Sheet};
+use second_guard::rules::Rule;
+use second_guard::sheet::{CommandRange, Kind, Sheet};
 use std::time::{Duration, Instant};
 
 /// A run without fault takes so many ticks in all.
 const TICKS: u64 = 12_000_000;
-/// Periods on one sheet.
+/// Periods on one sheet, and where a fault is to be found.
 const PERIODS: usize = 1_000;
+const FAULTY_PERIODS: usize = 100;
 /// A fault has to be found within this time.
 const PATIENCE: Duration = Duration::from_secs(60);
 
@@ -30,6 +36,8 @@ const PATIENCE: Duration = Duration::from_secs(60);
 enum Guard {
     Archive,
     Faulty(Faults),
+    /// One that bounds a law by another rule.
+    Other(OtherGuard),
     AlwaysKeeps,
 }
 
@@ -42,6 +50,10 @@ impl Guard {
                 Ok(question) => decide_watched(sheet, &question, faults, &mut NoWatch).pack(),
                 Err(_) => 3 << 48,
             }),
+            Guard::Other(guard) => Answer(match read_question(sheet, question) {
+                Ok(question) => (guard.decide)(sheet, &question).pack(),
+                Err(_) => 3 << 48,
+            }),
             Guard::AlwaysKeeps => Answer(match read_question(sheet, question) {
                 Ok(_) => 1 << 32,
                 Err(_) => 3 << 48,
@@ -50,22 +62,40 @@ impl Guard {
         (answer.code(), answer.width())
     }
 
-    /// The sheet passes its recovery check.
-    fn passes(self, bytes: &[u8]) -> bool {
+    /// The width at which the sheet passes its recovery check.
+    fn passes(self, sheet: &Sheet) -> Option<u32> {
+        let check = match self {
+            Guard::Archive => {
+                let answer = archive::recovery(&sheet_bytes(sheet));
+                return (answer.code() == 0).then_some(answer.width());
+            }
+            Guard::Other(guard) => (guard.check)(sheet),
+            _ => check_recovery_watched(sheet, &mut NoWatch),
+        };
+        match check {
+            RecoveryCheck::Pass { width, .. } => Some(width),
+            _ => None,
+        }
+    }
+
+    /// The kinds of sheets that it is tried on.
+    fn kinds(self) -> &'static [Kind] {
         match self {
-            Guard::Archive => archive::recovery(bytes).code() == 0,
-            _ => matches!(check_recovery(bytes), RecoveryCheck::Pass { .. }),
+            Guard::Other(_) => &[Kind::Following],
+            _ => &[Kind::Fixed, Kind::Following],
         }
     }
 }
 
-/// How the drive uses a kept span.
+/// How the drive uses a kept span and the plain law.
 #[derive(Clone, Copy, PartialEq, Eq)]
 enum Drive {
-    /// Any command of it at each tick.
+    /// Any command of the span, or of the plain law, at each tick.
     Obeys,
     /// Any command of the head, where the span has several.
-    Leaves,
+    LeavesSpan,
+    /// Any command of the safety range, where the plain law follows the state.
+    LeavesLaw,
 }
 
 struct Kinds {
@@ -92,6 +122,45 @@ struct Kinds {
     varied: KindId,
     /// A tick under a span at its least command, at its greatest, and between.
     at: [KindId; 3],
+    law: LawKinds,
+    /// Sheets that pass, by the number of variables.
+    variables: [KindId; VARIABLES],
+}
+
+/// What is seen on sheets whose plain law follows the state.
+struct LawKinds {
+    sheets: KindId,
+    keeps: KindId,
+    finest: KindId,
+    returns: KindId,
+    ticks: KindId,
+    behind_keep: KindId,
+    /// The law's commands are an end of the safety range, or lie within it.
+    at_least: KindId,
+    at_greatest: KindId,
+    within: KindId,
+    /// Of two commands the least one or the greatest one was taken.
+    rounded_down: KindId,
+    rounded_up: KindId,
+}
+
+impl LawKinds {
+    fn new(tally: &mut Tally) -> LawKinds {
+        let mut kind = |name: &str, least: u64| tally.kind(format!("by a law: {name}"), least);
+        LawKinds {
+            sheets: kind("sheets that pass", 50),
+            keeps: kind("periods kept", 20_000),
+            finest: kind("periods handed over: finest", 10_000),
+            returns: kind("returns", 10_000),
+            ticks: kind("plain ticks", 500_000),
+            behind_keep: kind("plain ticks behind a keep", 200_000),
+            at_least: kind("plain ticks at the least command of the range", 10_000),
+            at_greatest: kind("plain ticks at the greatest command of the range", 10_000),
+            within: kind("plain ticks within the range", 100_000),
+            rounded_down: kind("plain ticks, the law rounded down", 50_000),
+            rounded_up: kind("plain ticks, the law rounded up", 50_000),
+        }
+    }
 }
 
 impl Kinds {
@@ -120,137 +189,42 @@ impl Kinds {
             varied: tally.kind("ticks under a span, another command than before", 100_000),
             at: ["at its least command", "at its greatest command", "between"]
                 .map(|at| tally.kind(format!("ticks under a span, {at}"), 50_000)),
+            law: LawKinds::new(tally),
+            variables: std::array::from_fn(|i| {
+                tally.kind(format!("sheets that pass: n = {}", i + 1), 20)
+            }),
         }
     }
 }
 
-/// A sheet whose check passes, and how it was found.
+/// A sheet whose check passes.
 struct Scene {
     sheet: Sheet,
     bytes: Vec<u8>,
 }
 
-fn clamp(value: i64, limit: i64) -> i32 {
-    value.clamp(-limit, limit) as i32
+/// A machine drawn toward a center, with walls beside what the recovery check sweeps; nothing where
+/// the check does not pass.
+fn scene(random: &mut Random, guard: Guard) -> Option<Scene> {
+    let n = random.pick(&[1, 1, 2, 2, 3, 4, 5, 6]);
+    let kind = random.pick(guard.kinds());
+    let mut drawn = drawn(random, n, kind);
+    let width = guard.passes(&drawn.sheet)?;
+    put_walls(random, &mut drawn, width);
+    let sheet = drawn.sheet;
+    guard.passes(&sheet)?;
+    let bytes = sheet_bytes(&sheet);
+    Some(Scene { sheet, bytes })
 }
 
-/// A machine that its plain law draws toward a center, with walls beside what the recovery
-/// check sweeps; nothing where the check does not pass.
-fn scene(random: &mut Random, guard: Guard) -> Option<Scene> {
-    let n = random.pick(&[1, 1, 2, 2, 3, 4]);
-    let v = random.below(n);
-    let strongest = random.spread(5, 2_000) as i32;
-    let mut sheet = Sheet {
-        variables: n as i32,
-        band_variable: v as i32,
-        delta: random.int(1, 12),
-        alpha: random.int(1, 25),
-        rho: random.int(1, 20),
-        commands: CommandRange {
-            least: -strongest,
-            greatest: strongest,
-        },
-        ..Sheet::default()
-    };
-    let mut center = [0; VARIABLES];
-    let mut radius = [0; VARIABLES];
-    let mut pull = [0; VARIABLES];
-    let mut divisor = [0; VARIABLES];
-    for i in 0..n {
-        let cap = random.spread(1, 300);
-        sheet.caps[i] = cap as i32;
-        if random.percent(40) {
-            center[i] = random.range(-20_000, 20_000);
-        }
-        radius[i] = cap * random.spread(3, 50);
-        // At the radius the plain law changes by `strength` tenths of the cap.
-        let strength = random.range(6, 30);
-        pull[i] = random.spread(10, 1_000);
-        divisor[i] = 10 * pull[i] * radius[i] / (cap * strength);
-        if divisor[i] > 4_096 {
-            pull[i] = (4_096 * cap * strength / (10 * radius[i])).clamp(1, 1_000);
-            divisor[i] = 4_096;
-        }
-        divisor[i] = divisor[i].max(1);
-        sheet.recovery.lower[i] = center[i] - radius[i];
-        sheet.recovery.upper[i] = center[i] + radius[i];
-    }
-
-    let mut edges = vec![i64::from(sheet::FIRST_EDGE)];
-    for _ in 1..random.pick(&[1, 2, 3, 4, 8]) {
-        // Some edges near the sides of the recovery box, where the machine is driven to.
-        let cap = i64::from(sheet.caps[v]);
-        let edge = if random.percent(50) {
-            let side = random.pick(&[-radius[v], radius[v]]);
-            center[v] + side + random.range(-4 * cap, 4 * cap)
-        } else {
-            center[v] + random.range(-radius[v], radius[v])
-        };
-        if !edges.contains(&edge) {
-            edges.push(edge);
-        }
-    }
-    edges.sort_unstable();
-    sheet.band_count = edges.len() as i32;
-
-    let mut base = [Row::default(); VARIABLES];
-    for i in 0..n {
-        let cap = i64::from(sheet.caps[i]);
-        let row = &mut base[i];
-        row.q = divisor[i] as i32;
-        row.a[i] = -pull[i] as i32;
-        let mut offset = pull[i] * center[i];
-        for j in (0..n).filter(|&j| j != i) {
-            if random.percent(60) {
-                let most = pull[i] * radius[i] / (3 * n as i64 * radius[j]);
-                let a = random.range(-most, most).clamp(-1_000, 1_000);
-                row.a[j] = a as i32;
-                offset -= a * center[j];
-            }
-        }
-        row.c = clamp(offset, 100_000_000);
-        let push = divisor[i] * cap * random.range(10, 40) / (10 * i64::from(strongest));
-        row.b = clamp(random.pick(&[push, push, -push, 0]), 1_000);
-        if random.percent(40) {
-            row.d = random.spread(1, (pull[i] * radius[i] / 12).max(1)) as i32;
-        }
-    }
-    for (k, &edge) in edges.iter().enumerate() {
-        let mut band = Band {
-            edge: edge as i32,
-            rows: base,
-            ..Band::default()
-        };
-        let soft = (strongest / 20).max(1);
-        let middle = random.int(-soft, soft);
-        let room = random.pick(&[0, 0, soft]);
-        band.safety = CommandRange {
-            least: (middle - room).max(-strongest),
-            greatest: (middle + room).min(strongest),
-        };
-        for (i, row) in band.rows[..n].iter_mut().enumerate() {
-            if random.percent(50) {
-                let shift = (pull[i] * radius[i] / 12).max(1);
-                row.c = clamp(i64::from(row.c) + random.range(-shift, shift), 100_000_000);
-            }
-            if random.percent(30) {
-                row.b = -row.b;
-            }
-        }
-        sheet.bands[k] = band;
-    }
-
-    // No wall yet: what does the recovery check sweep?
-    sheet.unsafe_count = 1;
-    sheet.unsafe_boxes[0] = everywhere(n);
-    sheet.unsafe_boxes[0].lower[0] = sheet::SIDE_LIMIT;
-    let RecoveryCheck::Pass { width, .. } = check_recovery(&sheet_bytes(&sheet)) else {
-        return None;
-    };
-    let swept = trace_recovery(&sheet, width)
+/// Puts walls beside what the recovery check sweeps at a width.
+fn put_walls(random: &mut Random, drawn: &mut Drawn, width: u32) {
+    let sheet = &mut drawn.sheet;
+    let swept = trace_recovery(sheet, width)
         .steps
         .iter()
         .fold(sheet.recovery, |all, step| all.hull(&step.swept));
+    let n = sheet.n();
     for j in 0..random.pick(&[1, 2, 4, 8]) {
         let i = random.below(n);
         let cap = i64::from(sheet.caps[i]);
@@ -267,15 +241,14 @@ fn scene(random: &mut Random, guard: Guard) -> Option<Scene> {
         // Some walls have an end in another variable.
         let other = random.below(n);
         if other != i && random.percent(40) {
-            wall.lower[other] = center[other] - random.range(0, 2 * radius[other]);
-            wall.upper[other] = center[other] + random.range(0, 2 * radius[other]);
+            let (center, radius) = (drawn.center[other], drawn.radius[other]);
+            wall.lower[other] = center - random.range(0, 2 * radius);
+            wall.upper[other] = center + random.range(0, 2 * radius);
         }
         sheet.unsafe_boxes[j] = wall;
         sheet.unsafe_count = j as i32 + 1;
     }
-    set_in_order(&mut sheet);
-    let bytes = sheet_bytes(&sheet);
-    guard.passes(&bytes).then_some(Scene { sheet, bytes })
+    set_in_order(sheet);
 }
 
 /// How the machine takes its changes, and how the plain law picks its command.
@@ -294,8 +267,7 @@ enum Adversary {
 }
 
 struct Run<'a> {
-    guard: Guard,
-    drive: Drive,
+    trial: &'a Trial,
     random: &'a mut Random,
     tally: &'a mut Tally,
     kinds: &'a Kinds,
@@ -372,17 +344,53 @@ impl Run<'_> {
     fn command(&mut self, kept: Option<CommandRange>, band: usize) -> i32 {
         let sheet = &self.scene.sheet;
         let Some(span) = kept else {
-            return self.pick_command(sheet.bands[band].safety, band);
+            return self.plain_command(band);
         };
         if span.least == span.greatest {
             return span.least;
         }
-        let command = match self.drive {
-            Drive::Obeys => self.pick_command(span, band),
-            Drive::Leaves => self.pick_command(sheet.commands, band),
+        let command = match self.trial.drive {
+            Drive::LeavesSpan => self.pick_command(sheet.commands, band),
+            _ => self.pick_command(span, band),
         };
         self.look_at_command(span, command);
         command
+    }
+
+    /// A command of the plain law at the state.
+    fn plain_command(&mut self, band: usize) -> i32 {
+        let sheet = &self.scene.sheet;
+        let safety = sheet.bands[band].safety;
+        let commands = plain_commands(sheet, &self.state).expect("the state has a band");
+        let command = match self.trial.drive {
+            Drive::LeavesLaw => self.pick_command(safety, band),
+            _ => self.pick_command(commands, band),
+        };
+        if sheet.kind() == Kind::Following {
+            self.look_at_law(safety, commands, command);
+        }
+        command
+    }
+
+    /// Counts where the law's commands lie in the safety range, and which one of them was taken.
+    fn look_at_law(&mut self, safety: CommandRange, commands: CommandRange, command: i32) {
+        let CommandRange { least, greatest } = commands;
+        let kinds = &self.kinds.law;
+        let seen = [
+            (true, kinds.ticks),
+            (greatest == safety.least, kinds.at_least),
+            (least == safety.greatest, kinds.at_greatest),
+            (
+                safety.least < least && greatest < safety.greatest,
+                kinds.within,
+            ),
+            (least < greatest && command == least, kinds.rounded_down),
+            (least < greatest && command == greatest, kinds.rounded_up),
+            (self.behind_keep.is_some(), kinds.behind_keep),
+        ];
+        for (_, kind) in seen.into_iter().filter(|&(seen, _)| seen) {
+            self.tally.saw(kind);
+        }
     }
 
     /// Counts where a command lies in its span.
@@ -441,6 +449,9 @@ impl Run<'_> {
         self.tally.check(self.kinds.returns, returned, || {
             format!("state {state:?} on sheet {}", hex(&scene.bytes))
         });
+        if scene.sheet.kind() == Kind::Following {
+            self.tally.saw(self.kinds.law.returns);
+        }
         returned
     }
 
@@ -560,7 +571,10 @@ impl Run<'_> {
             let Some((span, question)) = self.question(allowance, command, room, &measured) else {
                 continue;
             };
-            let (code, width) = self.guard.answer(&scene.sheet, &scene.bytes, &question);
+            let (code, width) = self
+                .trial
+                .guard
+                .answer(&scene.sheet, &scene.bytes, &question);
             tries -= 1;
             if code == 0 || tries == 0 {
                 self.look_at_answer(code, width, span, &question);
@@ -577,6 +591,7 @@ impl Run<'_> {
         let several = span.least < span.greatest;
         let refined = width < sheet.delta.max(sheet.alpha) as u32;
         let outside = !sheet.recovery.holds(&self.state);
+        let by_law = sheet.kind() == Kind::Following;
         self.tally.saw(match code {
             0 => kinds.keeps,
             1 => kinds.finest,
@@ -593,6 +608,8 @@ impl Run<'_> {
             (code == 0 && several, kinds.spans_kept),
             (code == 0 && several && refined, kinds.spans_refined),
             (code == 1 && several, kinds.spans_finest),
+            (code == 0 && by_law, kinds.law.keeps),
+            (code == 1 && by_law, kinds.law.finest),
         ];
         for (_, kind) in seen.into_iter().filter(|&(seen, _)| seen) {
             self.tally.saw(kind);
@@ -620,7 +637,7 @@ impl Run<'_> {
     fn periods(&mut self) -> bool {
         let sheet = &self.scene.sheet;
         let mut quiet = 0;
-        for _ in 0..PERIODS {
+        for _ in 0..self.trial.periods {
             if self.random.percent(2) {
                 self.pick_adversary();
             }
@@ -670,26 +687,62 @@ fn first_state(random: &mut Random, sheet: &Sheet) -> State {
     state
 }
 
+/// What is run, and how long.
+struct Trial {
+    guard: Guard,
+    drive: Drive,
+    periods: usize,
+    ticks: u64,
+    patience: Duration,
+}
+
+impl Trial {
+    /// One in which nothing should be found.
+    fn sound(guard: Guard, ticks: u64) -> Trial {
+        Trial {
+            guard,
+            drive: Drive::Obeys,
+            periods: PERIODS,
+            ticks,
+            patience: Duration::MAX,
+        }
+    }
+
+    /// One in which a fault should be found.
+    fn faulty(guard: Guard, drive: Drive) -> Trial {
+        Trial {
+            guard,
+            drive,
+            periods: FAULTY_PERIODS,
+            ticks: u64::MAX,
+            patience: PATIENCE,
+        }
+    }
+}
+
 /// Runs sheet after sheet; the answer is whether all went well.
-fn simulate(guard: Guard, drive: Drive, ticks: u64, patience: Duration, tally: &mut Tally) -> bool {
+fn simulate(trial: &Trial, tally: &mut Tally) -> bool {
     let kinds = Kinds::new(tally);
     let mut random = Random::new(11);
     let start = Instant::now();
     // A guard under which hardly any sheet passes comes to an end, too.
     let mut drawn = 0_u64;
-    while tally.seen(kinds.ticks) < ticks && start.elapsed() < patience {
+    while tally.seen(kinds.ticks) < trial.ticks && start.elapsed() < trial.patience {
         drawn += 1;
         if drawn > 10_000 && tally.seen(kinds.sheets) < drawn / 100 {
             break;
         }
-        let Some(scene) = scene(&mut random, guard) else {
+        let Some(scene) = scene(&mut random, trial.guard) else {
             continue;
         };
         tally.saw(kinds.sheets);
+        tally.saw(kinds.variables[scene.sheet.n() - 1]);
+        if scene.sheet.kind() == Kind::Following {
+            tally.saw(kinds.law.sheets);
+        }
         let state = first_state(&mut random, &scene.sheet);
         let mut run = Run {
-            guard,
-            drive,
+            trial,
             random: &mut random,
             tally,
             kinds: &kinds,
@@ -707,8 +760,14 @@ fn simulate(guard: Guard, drive: Drive, ticks: u64, patience: Duration, tally: &
     true
 }
 
-/// The faulty guards, and the faulty drive, that have to be found out.
-fn faults() -> [(&'static str, Guard, Drive); 7] {
+/// The guard that bounds laws by this rule.
+fn by_rule(rule: Rule) -> Guard {
+    let guard = OTHER_GUARDS.into_iter().find(|guard| guard.rule == rule);
+    Guard::Other(guard.expect("a rule of the list"))
+}
+
+/// The faulty guards, and the faulty drives, that have to be found out.
+fn faults() -> [(&'static str, Guard, Drive); 12] {
     let none = Faults::default();
     let faulty = |name, faults| (name, Guard::Faulty(faults), Drive::Obeys);
     let bounded = |name, bounded| faulty(name, Faults { bounded, ..none });
@@ -727,7 +786,16 @@ fn faults() -> [(&'static str, Guard, Drive); 7] {
         bounded("inner", Bounded::Inner),
         bounded("least", Bounded::Least),
         bounded("greatest", Bounded::Greatest),
-        ("drive", Guard::Faulty(none), Drive::Leaves),
+        ("drive", Guard::Faulty(none), Drive::LeavesSpan),
+        ("law_least", by_rule(Rule::LawFromItsLeast), Drive::Obeys),
+        (
+            "law_greatest",
+            by_rule(Rule::LawFromItsGreatest),
+            Drive::Obeys,
+        ),
+        ("law_head", by_rule(Rule::LawWithinTheHead), Drive::Obeys),
+        ("law_middle", by_rule(Rule::LawInTheMiddle), Drive::Obeys),
+        ("law_drive", Guard::Faulty(none), Drive::LeavesLaw),
     ]
 }
 
@@ -748,18 +816,16 @@ fn self_test() -> i32 {
     };
     for (name, guard, drive) in faults() {
         let start = Instant::now();
-        let well = simulate(guard, drive, u64::MAX, PATIENCE, &mut Tally::new());
-        let found = !well;
+        let well = simulate(&Trial::faulty(guard, drive), &mut Tally::new());
         verdict(
             &format!("fault {name} is found"),
-            found,
+            !well,
             start.elapsed().as_secs_f64(),
         );
     }
     let start = Instant::now();
     let sound = Guard::Faulty(Faults::default());
-    let (ticks, tally) = (TICKS / 4, &mut Tally::new());
-    let well = simulate(sound, Drive::Obeys, ticks, Duration::MAX, tally);
+    let well = simulate(&Trial::sound(sound, TICKS / 4), &mut Tally::new());
     verdict(
         "nothing is found without a fault",
         well,
@@ -772,18 +838,18 @@ fn self_test() -> i32 {
 fn main() {
     let arguments: Vec<String> = std::env::args().skip(1).collect();
     let words: Vec<&str> = arguments.iter().map(String::as_str).collect();
-    let (guard, drive, ticks, patience) = match words[..] {
-        [] => (Guard::Archive, Drive::Obeys, TICKS, Duration::MAX),
+    let trial = match words[..] {
+        [] => Trial::sound(Guard::Archive, TICKS),
         ["--self-test"] => std::process::exit(self_test()),
         ["--fault", name] => match faults().into_iter().find(|fault| fault.0 == name) {
-            Some((_, guard, drive)) => (guard, drive, u64::MAX, PATIENCE),
+            Some((_, guard, drive)) => Trial::faulty(guard, drive),
             None => usage(),
         },
         _ => usage(),
     };
     let mut tally = Tally::new();
     let start = Instant::now();
-    simulate(guard, drive, ticks, patience, &mut tally);
+    simulate(&trial, &mut tally);
     println!("{:.1} s", start.elapsed().as_secs_f64());
     std::process::exit(tally.finish());
 }

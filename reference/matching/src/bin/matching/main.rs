@@ -2,10 +2,13 @@
 //! bytes written, recovery checks, decisions and reach boxes. It fails where an answer differs
 //! or a kind of case is too rare.
 
+mod faults;
+mod laws;
 mod order;
 mod overlap;
 mod spans;
 
+use laws::{kind_of_bytes, kind_of_numbers, Call};
 use matching::aim::{aimed, PLACES};
 use matching::archive::format::{
     reach_length, slot_band, slot_unsafe, LONGEST_SHEET, NUMBERS, SLOT_BAND, SLOT_CAPS,
@@ -20,12 +23,9 @@ use matching::generate::{
     Shape, BOUNDS,
 };
 use matching::random::Random;
-use matching::spoil::{
-    bytes_have, can_have, damage, damage_number, number_fault, question_fault, refusal_place,
-    sheet_fault, values_have, Fault, REFUSALS,
-};
+use matching::spoil::{damage, damage_number, refusal_place, REFUSALS};
 use matching::tally::{hex, KindId, Tally};
-use second_guard::boxes::StateBox;
+use second_guard::boxes::{StateBox, VARIABLES};
 use second_guard::changes::Change;
 use second_guard::decision::{
     check_recovery_watched, decide_watched, read_question, trace, Decision, Faults, Question,
@@ -162,7 +162,9 @@ struct Kinds {
     order: order::Kinds,
     overlap: overlap::Kinds,
     spans: spans::Kinds,
-    pairs: HashMap<(&'static str, u8, u8), KindId>,
+    laws: laws::Kinds,
+    /// Of two faults, by their names.
+    pairs: HashMap<String, KindId>,
 }
 
 impl Kinds {
@@ -198,7 +200,7 @@ impl Kinds {
             spent_between: tally.kind("spent right after a failed attempt", 200),
             beside: tally.kind("unsafe box beside the swept box: keep", 200),
             touching: tally.kind("unsafe box touching the swept box: no keep there", 200),
-            by_variables: (1..=4)
+            by_variables: (1..=VARIABLES)
                 .map(|n| tally.kind(format!("decisions with n = {n}"), 200))
                 .collect(),
             sheets: tally.kind("sheets accepted", 200),
@@ -221,6 +223,7 @@ impl Kinds {
             order: order::Kinds::new(tally),
             overlap: overlap::Kinds::new(tally),
             spans: spans::Kinds::new(tally),
+            laws: laws::Kinds::new(tally),
             pairs: HashMap::new(),
         }
     }
@@ -331,6 +334,7 @@ impl Matching {
 
     fn call_recovery(&mut self, kinds: &[KindId], sheet: &[u8]) -> Answer {
         let (wanted, found) = (expected::recovery(sheet), archive::recovery(sheet));
+        self.by_kind(kind_of_bytes(sheet), Call::Recovery, found);
         self.note(kinds, wanted, wanted == found, || {
             format!(
                 "recovery {}: wanted {}, found {}",
@@ -357,6 +361,7 @@ impl Matching {
     ) {
         let found = archive::decide(sheet, question);
         self.by_mark(sheet, question, found);
+        self.by_kind(kind_of_bytes(sheet), Call::Decide, found);
         self.note(kinds, wanted, wanted == found, || {
             format!(
                 "decide {} {}: wanted {}, found {}",
@@ -372,6 +377,7 @@ impl Matching {
         let (mut wanted_numbers, mut numbers) = ([0x77; NUMBERS], [0x77; NUMBERS]);
         let wanted = expected::sheet_read(sheet, &mut wanted_numbers);
         let found = archive::sheet_read(sheet, &mut numbers);
+        self.by_kind(kind_of_bytes(sheet), Call::Read, found);
         let right = wanted == found && wanted_numbers == numbers;
         self.note(kinds, wanted, right, || {
             format!(
@@ -397,6 +403,7 @@ impl Matching {
         let mut found_buffer = wanted_buffer.clone();
         let wanted = expected::sheet_write(numbers, &mut wanted_buffer[..room], place);
         let found = archive::sheet_write(numbers, &mut found_buffer[..room], place);
+        self.by_kind(kind_of_numbers(numbers), Call::Write, found);
         let right = wanted == found && wanted_buffer == found_buffer;
         self.note(kinds, wanted, right, || {
             format!(
@@ -421,6 +428,9 @@ impl Matching {
         let mut found_out = wanted_out.clone();
         let wanted = expected::reach(sheet, call, start, &mut wanted_out[..room]);
         let found = archive::reach(sheet, call, start, &mut found_out[..room]);
+        if call.law == 0 {
+            self.by_kind(kind_of_bytes(sheet), Call::PlainReach, found);
+        }
         let right = wanted == found && wanted_out == found_out;
         self.note(kinds, wanted, right, || {
             format!(
@@ -637,7 +647,7 @@ impl Matching {
             }
             let halvings = self.random.pick(&rare);
             let times = long_times(&mut self.random);
-            let most_variables = self.random.pick(&[1, 1, 2, 2, 4]);
+            let most_variables = self.random.pick(&[1, 1, 2, 2, VARIABLES]);
             let mut case = model(&mut self.random, times, most_variables);
             if shape(&mut self.random, &mut case, halvings) == Shape::None {
                 continue;
@@ -677,226 +687,6 @@ impl Matching {
         self.decisions_around(&case, &bytes, 0);
     }
 
-    /// The kind of a pair of faults; the first is the one reported.
-    fn pair(&mut self, call: &'static str, first: u8, second: u8) -> KindId {
-        let tally = &mut self.tally;
-        *self
-            .kinds
-            .pairs
-            .entry((call, first, second))
-            .or_insert_with(|| tally.kind(format!("{call}: {first} before {second}"), 200))
-    }
-
-    /// Two faults of these numbers, the first of which is found first.
-    fn two_faults<T: Copy>(
-        &mut self,
-        first: u8,
-        second: u8,
-        mut draw: impl FnMut(&mut Random, u8) -> Fault<T>,
-    ) -> Option<(Fault<T>, Fault<T>)> {
-        let one = draw(&mut self.random, first);
-        let other = draw(&mut self.random, second);
-        (one.rank < other.rank && one.apart(&other)).then_some((one, other))
-    }
-
-    /// One of the cases, into which faults of these numbers can be put.
-    fn any_case(&mut self, cases: &[Case], numbers: &[u8]) -> Case {
-        loop {
-            let case = cases[self.random.below(cases.len())];
-            if numbers.iter().all(|&number| can_have(&case.sheet, number)) {
-                return case;
-            }
-        }
-    }
-
-    /// All pairs of faults that can stand together.
-    fn faults(&mut self) {
-        let mut cases = Vec::new();
-        for turn in 0..400 {
-            let times = times(&mut self.random, 12);
-            let mut case = model(&mut self.random, times, 4);
-            shape(&mut self.random, &mut case, 0);
-            if turn % 2 == 0 && case.sheet.band_count == 1 {
-                continue;
-            }
-            cases.push(case);
-        }
-
-        // Two faults in one sheet: by number up to 6, then in the file's order.
-        let in_file = [(8, 7), (9, 7), (9, 8), (10, 7), (10, 8), (10, 9), (11, 7)];
-        let twice = (6..=11).map(|number| (number, number));
-        let order = [(20, 7), (20, 11), (20, 20)];
-        let pairs: Vec<(u8, u8)> = (1..=11)
-            .flat_map(|first| (first + 1..=11).map(move |second| (first, second)))
-            .chain(in_file)
-            .chain(twice)
-            .chain((1..=11).map(|first| (first, 20)))
-            .chain(order)
-            .chain((1..=11).chain([20]).map(|first| (first, 22)))
-            .collect();
-        for (first, second) in pairs {
-            let kind = self.pair("sheet", first, second);
-            for _ in 0..200 * PAIRS {
-                if self.tally.seen(kind) >= PAIRS {
-                    break;
-                }
-                let case = self.any_case(&cases, &[first, second]);
-                let layout_kept = second > 4;
-                let draw = |random: &mut Random, number: u8| {
-                    sheet_fault(random, &case.sheet, number, layout_kept)
-                };
-                let Some((one, other)) = self.two_faults(first, second, draw) else {
-                    continue;
-                };
-                let mut bytes = sheet_bytes(&case.sheet);
-                one.apply(&mut bytes);
-                other.apply(&mut bytes);
-                if !bytes_have(&bytes, &case.sheet, [first, second]) {
-                    continue;
-                }
-                let answer = self.any_sheet_call(&[kind], &case, &bytes);
-                assert_eq!(answer.refusal(), Some(first), "{one:?} {other:?}");
-            }
-        }
-
-        // Cut sheets: too short for a head, or for their length.
-        for turn in 0..2 * PAIRS {
-            let case = cases[self.random.below(cases.len())];
-            let bytes = sheet_bytes(&case.sheet);
-            let length = if turn % 2 == 0 {
-                self.random.below(20)
-            } else {
-                self.random.range(20, bytes.len() as i64 - 1) as usize
-            };
-            self.any_sheet_call(&[self.kinds.cut_bytes], &case, &bytes[..length]);
-        }
-
-        // Faults of a sheet and of the call on it.
-        for first in (1..=11).chain([20, 22]) {
-            for second in [12, 13, 14, 15] {
-                let kind = self.pair("sheet and question", first, second);
-                for _ in 0..PAIRS {
-                    let case = self.any_case(&cases, &[first]);
-                    let mut bytes = sheet_bytes(&case.sheet);
-                    sheet_fault(&mut self.random, &case.sheet, first, true).apply(&mut bytes);
-                    let mut question = plain_question(&case);
-                    question_fault(&mut self.random, &case.sheet, second).apply(&mut question);
-                    let answer = self.call_decide(&[kind], &bytes, &question);
-                    assert_eq!(answer.refusal(), Some(first));
-                }
-            }
-            for second in [14, 15, 16, 17] {
-                let kind = self.pair("sheet and reach", first, second);
-                for _ in 0..PAIRS {
-                    let case = self.any_case(&cases, &[first]);
-                    let mut bytes = sheet_bytes(&case.sheet);
-                    sheet_fault(&mut self.random, &case.sheet, first, true).apply(&mut bytes);
-                    let answer = self.faulty_reach(&[kind], &case, &bytes, &[second]);
-                    assert_eq!(answer.refusal(), Some(first));
-                }
-            }
-        }
-
-        // Two faults in one question.
-        for (first, second) in [(12, 13), (12, 14), (12, 15), (13, 14), (13, 15), (14, 15)] {
-            let kind = self.pair("question", first, second);
-            for _ in 0..PAIRS {
-                let case = cases[self.random.below(cases.len())];
-                let bytes = sheet_bytes(&case.sheet);
-                let mut question = plain_question(&case);
-                // The length goes last, so that the other places stay.
-                question_fault(&mut self.random, &case.sheet, second).apply(&mut question);
-                question_fault(&mut self.random, &case.sheet, first).apply(&mut question);
-                let answer = self.call_decide(&[kind], &bytes, &question);
-                assert_eq!(answer.refusal(), Some(first));
-            }
-        }
-
-        // Two faults in one reach: 16, 14, 15, 17.
-        let order = [16, 14, 15, 17];
-        for (place, &first) in order.iter().enumerate() {
-            for &second in &order[place + 1..] {
-                let kind = self.pair("reach", first, second);
-                for _ in 0..PAIRS {
-                    let case = cases[self.random.below(cases.len())];
-                    let bytes = sheet_bytes(&case.sheet);
-                    let answer = self.faulty_reach(&[kind], &case, &bytes, &[first, second]);
-                    assert_eq!(answer.refusal(), Some(first));
-                }
-            }
-        }
-
-        // Too little room for a reach's boxes.
-        for _ in 0..PAIRS {
-            let case = cases[self.random.below(cases.len())];
-            let bytes = sheet_bytes(&case.sheet);
-            let answer = self.faulty_reach(&[], &case, &bytes, &[17]);
-            assert_eq!(answer.refusal(), Some(17));
-        }
-
-        self.writer_faults(&cases);
-    }
-
-    fn writer_faults(&mut self, cases: &[Case]) {
-        let numbers = [2, 3, 4, 6, 8, 9, 10, 11, 20, 22];
-        let mut pairs: Vec<(u8, u8)> = vec![(9, 8), (10, 8), (10, 9), (20, 11)];
-        for (place, &first) in numbers.iter().enumerate() {
-            for &second in &numbers[place..] {
-                if first != second || (6..22).contains(&first) {
-                    pairs.push((first, second));
-                }
-            }
-        }
-        for (first, second) in pairs {
-            let kind = self.pair("writer", first, second);
-            for _ in 0..200 * PAIRS {
-                if self.tally.seen(kind) >= PAIRS {
-                    break;
-                }
-                let case = self.any_case(cases, &[first, second]);
-                let draw = |random: &mut Random, number: u8| {
-                    number_fault(random, &case.sheet, number, second > 4)
-                };
-                let Some((one, other)) = self.two_faults(first, second, draw) else {
-                    continue;
-                };
-                let mut numbers = case.sheet.numbers();
-                one.put(&mut numbers);
-                other.put(&mut numbers);
-                let values = Sheet::from_numbers(&numbers);
-                if !values_have(&values, &case.sheet, [first, second]) {
-                    continue;
-                }
-                let answer = self.call_write(&[kind], &numbers, LONGEST_SHEET + 9, 9);
-                assert_eq!(answer.refusal(), Some(first), "{one:?} {other:?}");
-            }
-        }
-        for first in numbers.into_iter().chain([17]) {
-            let kinds: Vec<KindId> = (first != 17)
-                .then(|| self.pair("writer", first, 17))
-                .into_iter()
-                .collect();
-            for _ in 0..PAIRS {
-                let case = self.any_case(cases, &[first]);
-                let mut numbers = case.sheet.numbers();
-                if first != 17 {
-                    number_fault(&mut self.random, &case.sheet, first, true).put(&mut numbers);
-                }
-                let length = case.sheet.length() as u64;
-                let (room, place) = match self.random.below(6) {
-                    0 => (length - 1, 0),
-                    1 => (length + 10, 11),
-                    2 => (length, u64::MAX),
-                    3 => (length, u64::MAX - length + 1),
-                    4 => (length, length + self.random.bits() % 1_000),
-                    _ => (0, 0),
-                };
-                let answer = self.call_write(&kinds, &numbers, room as usize, place);
-                assert_eq!(answer.refusal(), Some(first));
-            }
-        }
-    }
-
     /// One of the calls that take a sheet, all else being in range.
     fn any_sheet_call(&mut self, kinds: &[KindId], case: &Case, bytes: &[u8]) -> Answer {
         match self.random.below(5) {
@@ -906,57 +696,14 @@ impl Matching {
             3 => self.call_read(kinds, bytes),
             _ => {
                 let n = case.sheet.n();
-                let call = plain_reach(case);
+                let call = ReachCall {
+                    law: self.random.below(2) as u32,
+                    ..plain_reach(case)
+                };
                 let start = expected::pairs(&case.measured, n);
                 self.call_reach(kinds, bytes, call, &start, reach_length(n))
             }
         }
-    }
-
-    /// A reach with the faults of these numbers.
-    fn faulty_reach(
-        &mut self,
-        kinds: &[KindId],
-        case: &Case,
-        bytes: &[u8],
-        faults: &[u8],
-    ) -> Answer {
-        let sheet = &case.sheet;
-        let n = sheet.n();
-        let mut call = plain_reach(case);
-        let mut start = expected::pairs(&case.measured, n);
-        let mut room = reach_length(n);
-        for fault in faults {
-            match fault {
-                14 => {
-                    call.law = self.random.pick(&[1, 2, u32::MAX]);
-                    call.command = self.random.pick(&[
-                        sheet.commands.least - 1,
-                        sheet.commands.greatest + 1,
-                        i32::MIN,
-                        i32::MAX,
-                    ]);
-                }
-                15 => match self.random.below(3) {
-                    0 => {
-                        start.pop();
-                    }
-                    1 => start.extend([0; 8]),
-                    _ => {
-                        let at = 8 * self.random.below(n);
-                        let beyond = self.random.pick(&[1_000_001, i32::MAX]);
-                        start[at..at + 4].copy_from_slice(&beyond.to_be_bytes());
-                    }
-                },
-                16 => match self.random.below(3) {
-                    0 => call.ticks = self.random.pick(&[1_001, 65_536, u32::MAX]),
-                    1 => call.width = 0,
-                    _ => call.width = self.random.pick(&[1_001, 65_537, u32::MAX]),
-                },
-                _ => room = self.random.below(reach_length(n)),
-            }
-        }
-        self.call_reach(kinds, bytes, call, &start, room)
     }
 
     /// The archives' arrays have as many numbers as the header says.
@@ -974,7 +721,7 @@ impl Matching {
             let kind = self.tally.kind(format!("bound: {name}"), 200);
             for _ in 0..PAIRS {
                 let times = times(&mut self.random, 12);
-                let mut case = model(&mut self.random, times, 4);
+                let mut case = model(&mut self.random, times, VARIABLES);
                 shape(&mut self.random, &mut case, 0);
                 put(&mut self.random, &mut case.sheet);
                 let (sheet, n) = (&case.sheet, case.sheet.n());
@@ -1004,7 +751,7 @@ impl Matching {
         ];
         for _ in 0..PAIRS {
             let times = times(&mut self.random, 12);
-            let mut case = model(&mut self.random, times, 4);
+            let mut case = model(&mut self.random, times, VARIABLES);
             shape(&mut self.random, &mut case, 0);
             let n = case.sheet.n();
             let bytes = sheet_bytes(&case.sheet);
@@ -1035,7 +782,7 @@ impl Matching {
     fn damaged(&mut self) {
         for _ in 0..DAMAGED {
             let times = times(&mut self.random, 12);
-            let mut case = model(&mut self.random, times, 4);
+            let mut case = model(&mut self.random, times, VARIABLES);
             shape(&mut self.random, &mut case, 0);
             let sound = sheet_bytes(&case.sheet);
             let mut bytes = sound.clone();
@@ -1070,7 +817,7 @@ type Part = (&'static str, fn(&mut Matching));
 
 fn main() {
     let mut matching = Matching::new();
-    let parts: [Part; 15] = [
+    let parts: [Part; 22] = [
         ("numbers", Matching::sizes),
         ("values at their bounds", Matching::bounds),
         ("pairs of faults", Matching::faults),
@@ -1086,6 +833,13 @@ fn main() {
         ("spans of commands", Matching::spans),
         ("spans that are refused", Matching::wrong_spans),
         ("pairs of faults with a span", Matching::span_faults),
+        ("laws that follow the state", Matching::laws),
+        ("machines drawn to a center", Matching::drawn),
+        ("laws aimed at their ends", Matching::aimed_laws),
+        ("law numbers", Matching::law_numbers),
+        ("marks and lengths of both kinds", Matching::marks),
+        ("values of both kinds", Matching::values_of_kinds),
+        ("pairs of faults with laws", Matching::law_faults),
     ];
     for (name, part) in parts {
         let start = Instant::now();

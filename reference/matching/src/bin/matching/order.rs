@@ -111,7 +111,7 @@ impl Matching {
     fn case_of_boxes(&mut self) -> Case {
         loop {
             let times = times(&mut self.random, 12);
-            let mut case = model(&mut self.random, times, 4);
+            let mut case = model(&mut self.random, times, VARIABLES);
             shape(&mut self.random, &mut case, 0);
             if case.sheet.unsafe_count > 1 {
                 return case;

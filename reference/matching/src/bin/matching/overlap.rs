@@ -17,7 +17,7 @@ use second_guard::decision::{check_recovery_watched, RecoveryCheck};
 use second_guard::sheet::{Sheet, UNSAFE_BOXES};
 
 /// How many sheets a box is put on and beside, in each way.
-const OVERLAP_SHEETS: usize = 4_000;
+const OVERLAP_SHEETS: usize = 6_000;
 
 /// Which of the unsafe boxes is on the recovery box, and no other.
 const ALONE: [&str; 4] = [

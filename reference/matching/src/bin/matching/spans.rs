@@ -2,11 +2,12 @@
 //! guard would answer that bounds only a part of a span, spans that are refused, and faults beside
 //! others. A span of one command is asked beside every question about one command, in all parts.
 
+use super::faults::{Cases, Cause};
 use super::{Matching, PAIRS};
 use matching::archive::{self, Answer};
 use matching::generate::{bytes_of, near, question_bytes, sheet_bytes, span_bytes, Case};
 use matching::spans::{any_span, spanned, wrong_span, Extent, EXTENTS, WRONGS};
-use matching::spoil::{sheet_fault, span_fault};
+use matching::spoil::span_fault;
 use matching::tally::{hex, KindId, Tally};
 use second_guard::decision::{decide_watched, Bounded, Decision, Faults, Question};
 use second_guard::reach::NoWatch;
@@ -265,7 +266,7 @@ impl Matching {
         let cases: Vec<(Case, CommandRange)> =
             (0..400).map(|_| spanned(&mut self.random)).collect();
         for (first, second) in [(12, 13), (12, 14), (12, 15), (13, 14), (13, 15), (14, 15)] {
-            let kind = self.pair("span", first, second);
+            let kind = self.pair("span", &first.to_string(), &second.to_string());
             for _ in 0..PAIRS {
                 let (case, span) = cases[self.random.below(cases.len())];
                 let mut asked = span_bytes(500, span, &case.measured, case.sheet.n());
@@ -276,25 +277,22 @@ impl Matching {
                 assert_eq!(answer.refusal(), Some(first));
             }
         }
-        let plain: Vec<Case> = cases.iter().map(|&(case, _)| case).collect();
+        let cases = Cases {
+            of: "",
+            all: cases.into_iter().map(|(case, _)| case).collect(),
+        };
         for first in (1..=11).chain([20, 22]) {
             for second in [12, 13, 14, 15] {
-                self.sheet_and_span(&plain, first, second);
+                self.sheet_and_span(&cases, Cause::Any(first), second);
             }
         }
     }
 
-    fn sheet_and_span(&mut self, cases: &[Case], first: u8, second: u8) {
-        let kind = self.pair("sheet and span", first, second);
-        for _ in 0..PAIRS {
-            let case = self.any_case(cases, &[first]);
-            let span = any_span(&mut self.random, &case.sheet);
-            let mut asked = span_bytes(500, span, &case.measured, case.sheet.n());
-            span_fault(&mut self.random, &case.sheet, second).apply(&mut asked);
-            let mut bytes = sheet_bytes(&case.sheet);
-            sheet_fault(&mut self.random, &case.sheet, first, true).apply(&mut bytes);
-            let answer = self.call_decide(&[kind], &bytes, &asked);
-            assert_eq!(answer.refusal(), Some(first));
-        }
+    /// A question about any span with a fault of this number.
+    pub(super) fn faulty_span(&mut self, case: &Case, number: u8) -> Vec<u8> {
+        let span = any_span(&mut self.random, &case.sheet);
+        let mut asked = span_bytes(500, span, &case.measured, case.sheet.n());
+        span_fault(&mut self.random, &case.sheet, number).apply(&mut asked);
+        asked
     }
 }
