@@ -1,7 +1,7 @@
 //! Plain laws that follow the state (document 02, paper 9): random laws of every sort, where their sums
 //! lie over the parts of a round, and guards that bound a law by another rule.
 
-use crate::archive::format::{LAW_CONSTANT, LAW_DIVISOR};
+use crate::archive::format::{slot_law, LAW_CONSTANT, LAW_DIVISOR, NUMBERS};
 use crate::generate::{everyday_of, Case};
 use crate::random::Random;
 use second_guard::boxes::{StateBox, VARIABLES};
@@ -130,6 +130,24 @@ fn put_at_end(random: &mut Random, law: &mut BandLaw) {
 pub fn followed(random: &mut Random) -> Case {
     let n = random.pick(&[1, 2, 2, 3, 4, 5, 6]);
     everyday_of(random, n, Kind::Following).case
+}
+
+/// The kind and the number of variables of a sheet's bytes, by n and by the first band's mark.
+pub fn kind_of_bytes(sheet: &[u8]) -> Option<(Kind, usize)> {
+    let n = usize::from(*sheet.get(2)?);
+    let mark = sheet.get(20 + 2 * n..)?.first_chunk()?;
+    let kinds = [Kind::Fixed, Kind::Following];
+    let kind = kinds.into_iter().find(|kind| kind.mark() == mark);
+    kind.map(|kind| (kind, n))
+}
+
+/// The same of a sheet's numbers.
+pub fn kind_of_numbers(numbers: &[i32; NUMBERS]) -> Option<(Kind, usize)> {
+    let kind = match numbers[slot_law(0) + LAW_DIVISOR] {
+        0 => Kind::Fixed,
+        _ => Kind::Following,
+    };
+    Some((kind, usize::try_from(numbers[0]).ok()?))
 }
 
 /// How the commands over a part lie beside the safety range: by the law's least and greatest sum.

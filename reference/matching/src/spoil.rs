@@ -7,7 +7,7 @@ use crate::archive::format::{
     SLOT_RHO, SLOT_UNSAFE_BOXES, UNSAFE_BOXES, VARIABLES,
 };
 use crate::expected::pairs;
-use crate::generate::{band_record, record};
+use crate::generate::{band_record, record, sheet_bytes};
 use crate::laws::LawNumber;
 use crate::order::any_not_greater;
 use crate::overlap::{moved_onto, Moved};
@@ -100,7 +100,7 @@ fn not_mark(random: &mut Random, mark: &[u8; 2]) -> [u8; 2] {
 }
 
 /// Neither of the bands' marks.
-pub fn no_band_mark(random: &mut Random) -> [u8; 2] {
+fn no_band_mark(random: &mut Random) -> [u8; 2] {
     let wrong = not_mark(random, b"BD");
     if wrong == *b"BF" {
         *b"BE"
@@ -110,7 +110,7 @@ pub fn no_band_mark(random: &mut Random) -> [u8; 2] {
 }
 
 /// The kind that the sheet is not of.
-pub fn other_kind(sheet: &Sheet) -> Kind {
+fn other_kind(sheet: &Sheet) -> Kind {
     match sheet.kind() {
         Kind::Fixed => Kind::Following,
         Kind::Following => Kind::Fixed,
@@ -118,10 +118,101 @@ pub fn other_kind(sheet: &Sheet) -> Kind {
 }
 
 /// The length that the sheet would have if it were of the other kind.
-pub fn other_length(sheet: &Sheet) -> usize {
+fn other_length(sheet: &Sheet) -> usize {
     let (bands, boxes) = (sheet.band_count, sheet.unsafe_count);
     let kind = other_kind(sheet);
     sheet::length(kind, sheet.n(), bands as usize, boxes as usize)
+}
+
+/// How the marks of the bands are wrong, or the length.
+#[derive(Clone, Copy, Debug, PartialEq, Eq)]
+enum Marks {
+    /// A later one is the other kind's, or neither.
+    LaterOther,
+    LaterNeither,
+    /// The first one, likewise.
+    FirstNeither,
+    FirstOther,
+    AllOther,
+    /// The length is the other kind's.
+    OtherLength,
+    /// A byte less or more.
+    OneByte,
+    /// The file ends before the first band's mark does.
+    Cut,
+}
+
+/// Wrong marks of a sheet's bands, or a wrong length: of which kind the sheet was before, and the refusal.
+#[derive(Clone, Copy, Debug)]
+pub struct WrongMarks {
+    marks: Marks,
+    pub of: Kind,
+    pub number: u8,
+}
+
+const fn wrong(marks: Marks, of: Kind, number: u8) -> WrongMarks {
+    WrongMarks { marks, of, number }
+}
+
+/// All of them.
+pub const WRONG_MARKS: [WrongMarks; 16] = [
+    wrong(Marks::LaterOther, Kind::Fixed, 7),
+    wrong(Marks::LaterOther, Kind::Following, 7),
+    wrong(Marks::LaterNeither, Kind::Fixed, 7),
+    wrong(Marks::LaterNeither, Kind::Following, 7),
+    wrong(Marks::FirstNeither, Kind::Fixed, 7),
+    wrong(Marks::FirstNeither, Kind::Following, 5),
+    wrong(Marks::FirstOther, Kind::Fixed, 5),
+    wrong(Marks::FirstOther, Kind::Following, 5),
+    wrong(Marks::AllOther, Kind::Fixed, 5),
+    wrong(Marks::AllOther, Kind::Following, 5),
+    wrong(Marks::OtherLength, Kind::Fixed, 5),
+    wrong(Marks::OtherLength, Kind::Following, 5),
+    wrong(Marks::OneByte, Kind::Fixed, 5),
+    wrong(Marks::OneByte, Kind::Following, 5),
+    wrong(Marks::Cut, Kind::Fixed, 5),
+    wrong(Marks::Cut, Kind::Following, 5),
+];
+
+impl WrongMarks {
+    pub fn text(&self) -> String {
+        let what = match self.marks {
+            Marks::LaterOther => "a later band with the other mark",
+            Marks::LaterNeither => "a later band with neither mark",
+            Marks::FirstNeither => "the first band with neither mark",
+            Marks::FirstOther => "the first band with the other mark",
+            Marks::AllOther => "all bands with the other mark",
+            Marks::OtherLength => "the other kind's length",
+            Marks::OneByte => "a byte less or more",
+            Marks::Cut => "cut before the first mark ends",
+        };
+        let mark = String::from_utf8_lossy(self.of.mark());
+        format!("{mark}, {what}: refused by {}", self.number)
+    }
+
+    /// The bytes of a sheet of two bands or more, made wrong.
+    pub fn bytes(&self, random: &mut Random, sheet: &Sheet) -> Vec<u8> {
+        let mut bytes = sheet_bytes(sheet);
+        let bands = sheet.band_count as usize;
+        let later = 1 + random.below(bands - 1);
+        let (other, neither) = (*other_kind(sheet).mark(), no_band_mark(random));
+        let mut put = |k: usize, mark: [u8; 2]| {
+            let at = band_record(sheet, k);
+            bytes[at..at + 2].copy_from_slice(&mark);
+        };
+        match self.marks {
+            Marks::LaterOther => put(later, other),
+            Marks::LaterNeither => put(later, neither),
+            Marks::FirstNeither => put(0, neither),
+            Marks::FirstOther => put(0, other),
+            Marks::AllOther => (0..bands).for_each(|k| put(k, other)),
+            Marks::OtherLength => bytes.resize(other_length(sheet), 0),
+            Marks::OneByte if random.percent(50) => bytes.push(0),
+            Marks::OneByte => bytes.truncate(bytes.len() - 1),
+            Marks::Cut => bytes.truncate(band_record(sheet, 0) + random.below(2)),
+        }
+        bytes
+    }
 }
 
 /// A band's mark that is refused by 7. One of the first band must not fix another length: it is neither

@@ -1,30 +1,38 @@
-//! The archive against the plain guard, which was written from document 01 and papers 2, 3, 4 and 8 of
+//! The archive against the plain guard, which was written from document 01 and papers 2, 3, 4, 8 and 9 of
 //! document 02 alone: a check of the readings, on sheets and questions from fixed seeds.
 
 use matching::aim::aimed;
-use matching::archive::format::reach_length;
+use matching::archive::format::{reach_length, slot_law, LAW_DIVISOR, LONGEST_SHEET, NUMBERS};
 use matching::archive::{self, Answer, ReachCall};
 use matching::expected::{decide_before, pairs};
 use matching::generate::{
-    bytes_as_they_are, everyday, model, near, pick_command, question_bytes, shape, sheet_bytes,
-    span_bytes, times, Case,
+    bytes_as_they_are, bytes_of, everyday, model, near, pick_command, question_bytes, shape,
+    sheet_bytes, span_bytes, times, Case,
 };
+use matching::laws::{aimed_laws, followed, kind_of_bytes, LawNumber};
+use matching::machines::any_question;
 use matching::order::{any_not_greater, difference, shuffled, DIFFERENCES};
 use matching::overlap::{any_sharing, moved_beside, with_box, Sharing, SHARINGS};
 use matching::random::Random;
+use matching::scenes::drawn;
 use matching::spans::{any_span, spanned, wrong_span, WRONGS};
-use matching::spoil::{can_have, damage, question_fault, sheet_fault, span_fault};
+use matching::spoil::{
+    can_have, damage, law_fault, question_fault, sheet_fault, span_fault, WRONG_MARKS,
+};
 use matching::tally::{hex, KindId, Tally};
 use plain_guard::decision::{decide_values, recovery_values};
 use plain_guard::reach::{step, to_box, Count};
 use second_guard::boxes::{StateBox, VARIABLES};
-use second_guard::sheet::{CommandRange, Sheet};
+use second_guard::sheet::{CommandRange, Kind, Sheet};
 
 const SHEETS: usize = 20_000;
 const AIMED_SHEETS: usize = 10_000;
 const SHEETS_OF_BOXES: usize = 5_000;
 const OVERLAP_SHEETS: usize = 1_000;
 const SPANNED_SHEETS: usize = 10_000;
+const LAW_SHEETS: usize = 4_000;
+const AIMED_LAWS: usize = 4_000;
+const DRAWN_SHEETS: usize = 400;
 const TICKS: i64 = 200;
 const REFUSED: u64 = 3 << 48;
 /// The numbers by which a decision is refused.
@@ -57,6 +65,62 @@ struct Kinds {
     wrong_span: [KindId; WRONGS.len()],
     faulty_span: [KindId; 4],
     files: [KindId; ENDS.len()],
+    laws: LawKinds,
+}
+
+/// The sheets that are counted apart.
+const GROUPS: [(Kind, Option<usize>, &str); 5] = [
+    (Kind::Following, None, "BF"),
+    (Kind::Following, Some(5), "BF, n = 5"),
+    (Kind::Following, Some(6), "BF, n = 6"),
+    (Kind::Fixed, Some(5), "BD, n = 5"),
+    (Kind::Fixed, Some(6), "BD, n = 6"),
+];
+
+/// The kinds of sheets with laws, and of five and six variables.
+struct LawKinds {
+    /// By group and by the answer's code.
+    decisions: [[KindId; CODES.len()]; GROUPS.len()],
+    /// By group: passes and fails.
+    checks: [[KindId; 2]; GROUPS.len()],
+    reaches: KindId,
+    aimed: KindId,
+    bad_number: KindId,
+    wrong_marks: [KindId; WRONG_MARKS.len()],
+    written_number: [KindId; 2],
+    as_fixed: KindId,
+}
+
+impl LawKinds {
+    fn new(tally: &mut Tally) -> LawKinds {
+        LawKinds {
+            decisions: GROUPS
+                .map(|(_, _, group)| CODES.map(|code| tally.kind(format!("{group}: {code}"), 200))),
+            checks: GROUPS.map(|(_, _, group)| {
+                ["check passes", "check fails"]
+                    .map(|result| tally.kind(format!("{group}: {result}"), 100))
+            }),
+            reaches: tally.kind("BF: reaches", 3_000),
+            aimed: tally.kind("sheets with laws aimed at their ends", 4_000),
+            bad_number: tally.kind("BF: refused by 10 for a law's number", 2_000),
+            wrong_marks: WRONG_MARKS.map(|wrong| tally.kind(wrong.text(), 100)),
+            written_number: ["accepted", "refused by 10"]
+                .map(|what| tally.kind(format!("BF: a law's number written, {what}"), 1_000)),
+            as_fixed: tally.kind("values with the first divisor 0: written as BD", 2_000),
+        }
+    }
+
+    /// The places of the groups that a sheet's bytes are of.
+    fn groups(sheet: &[u8]) -> Vec<usize> {
+        let Some((kind, n)) = kind_of_bytes(sheet) else {
+            return Vec::new();
+        };
+        let of = |group: &usize| {
+            let (of_kind, of_n, _) = GROUPS[*group];
+            of_kind == kind && of_n.is_none_or(|of_n| of_n == n)
+        };
+        (0..GROUPS.len()).filter(of).collect()
+    }
 }
 
 /// The answers to a question about a span, by their code.
@@ -110,6 +174,7 @@ impl Kinds {
             faulty_span: [12, 13, 14, 15]
                 .map(|number| tally.kind(format!("QR with a fault: refused {number}"), 1_000)),
             files: ENDS.map(|end| tally.kind(format!("listing of both marks {end}"), 200)),
+            laws: LawKinds::new(tally),
         }
     }
 
@@ -135,6 +200,9 @@ fn decide(tally: &mut Tally, kinds: &Kinds, sheet: &[u8], question: &[u8]) {
         Answer(plain_guard::decide(sheet, question)),
     );
     tally.saw(kinds.of(plain));
+    for group in LawKinds::groups(sheet) {
+        tally.saw(kinds.laws.decisions[group][plain.code() as usize]);
+    }
     if decide_before(sheet, question) != plain {
         tally.saw(kinds.other_before);
     }
@@ -144,6 +212,20 @@ fn decide(tally: &mut Tally, kinds: &Kinds, sheet: &[u8], question: &[u8]) {
             hex(sheet),
             hex(question)
         )
+    });
+}
+
+/// Both check a sheet that is accepted.
+fn check(tally: &mut Tally, kinds: &Kinds, sheet: &[u8]) {
+    let (guard, plain) = (
+        archive::recovery(sheet),
+        Answer(plain_guard::recovery(sheet)),
+    );
+    for group in LawKinds::groups(sheet) {
+        tally.saw(kinds.laws.checks[group][plain.code() as usize]);
+    }
+    tally.check(kinds.recovery, guard == plain, || {
+        format!("{guard:x?} not {plain:x?}: {}", hex(sheet))
     });
 }
 
@@ -441,6 +523,131 @@ fn sheets_of_spans(tally: &mut Tally, kinds: &Kinds) {
     }
 }
 
+/// Sheets with laws: answers, law numbers and marks that are refused, and values.
+fn sheets_of_laws(tally: &mut Tally, kinds: &Kinds) {
+    let random = &mut Random::new(9);
+    for _ in 0..LAW_SHEETS {
+        let case = followed(random);
+        let (sheet, n) = (sheet_bytes(&case.sheet), case.sheet.n());
+        let question = question_bytes(730_000, case.command, &case.measured, n);
+        check(tally, kinds, &sheet);
+        decide(tally, kinds, &sheet, &question);
+        reach(tally, kinds, random, &case, &sheet);
+        tally.saw(kinds.laws.reaches);
+        bad_law_number(tally, kinds, random, &case.sheet, &question);
+        written_law_number(tally, kinds, random, &sheet);
+        written_as_fixed(tally, kinds, &sheet);
+    }
+    for _ in 0..AIMED_LAWS {
+        let mut case = aimed_laws(random);
+        case.measured = case.sheet.recovery;
+        let sheet = sheet_bytes(&case.sheet);
+        reach(tally, kinds, random, &case, &sheet);
+        let same = archive::recovery(&sheet) == Answer(plain_guard::recovery(&sheet));
+        tally.check(kinds.laws.aimed, same, || hex(&sheet));
+    }
+}
+
+/// Machines of five and six variables that are drawn to a center.
+fn drawn_machines(tally: &mut Tally, kinds: &Kinds) {
+    let random = &mut Random::new(10);
+    for turn in 0..4 * DRAWN_SHEETS {
+        let kind = [Kind::Fixed, Kind::Following][turn % 2];
+        let sheet = drawn(random, 5 + turn / 2 % 2, kind).sheet;
+        let bytes = sheet_bytes(&sheet);
+        check(tally, kinds, &bytes);
+        let question = any_question(random, &sheet);
+        decide(tally, kinds, &bytes, &bytes_of(&question, sheet.n()));
+    }
+}
+
+/// A law's number out of range in a file; and marks or a length that are not the first band's.
+fn bad_law_number(
+    tally: &mut Tally,
+    kinds: &Kinds,
+    random: &mut Random,
+    sheet: &Sheet,
+    question: &[u8],
+) {
+    let mut bytes = sheet_bytes(sheet);
+    law_fault(random, sheet).apply(&mut bytes);
+    let refused = |bytes: &[u8], number: u8| {
+        let wanted = Answer(REFUSED | u64::from(number) << 32);
+        let plain = Answer(plain_guard::decide(bytes, question));
+        archive::decide(bytes, question) == wanted && plain == wanted
+    };
+    let right = refused(&bytes, 10);
+    tally.check(kinds.laws.bad_number, right, || hex(&bytes));
+    let place = random.below(WRONG_MARKS.len());
+    let wrong = WRONG_MARKS[place];
+    let mut other = *sheet;
+    if wrong.of == Kind::Fixed {
+        other.bands.iter_mut().for_each(|band| band.law.divisor = 0);
+    }
+    if sheet.band_count > 1 {
+        let bytes = wrong.bytes(random, &other);
+        let right = refused(&bytes, wrong.number);
+        tally.check(kinds.laws.wrong_marks[place], right, || hex(&bytes));
+    }
+}
+
+/// The archive's and the plain guard's writing of values that were read, one of which was changed in both.
+fn written(
+    sheet: &[u8],
+    slots: impl Fn(&mut [i32; NUMBERS]),
+    values: impl Fn(&mut plain_guard::Sheet),
+) -> (Result<Vec<u8>, u8>, Result<Vec<u8>, u8>) {
+    let mut numbers = [0; NUMBERS];
+    archive::sheet_read(sheet, &mut numbers);
+    slots(&mut numbers);
+    let mut buffer = vec![0; LONGEST_SHEET];
+    let guard = archive::sheet_write(&numbers, &mut buffer, 0).length();
+    let mut value = plain_guard::read(sheet).expect("an accepted sheet");
+    values(&mut value);
+    let bytes = guard.map(|length| buffer[..length].to_vec());
+    (bytes, plain_guard::write(&value))
+}
+
+/// A law's number at its ends or past them, in values.
+fn written_law_number(tally: &mut Tally, kinds: &Kinds, random: &mut Random, sheet: &[u8]) {
+    let (n, bands) = (usize::from(sheet[2]), usize::from(sheet[3]));
+    let (k, number) = (random.below(bands), LawNumber::any(random, n));
+    let (least, greatest) = number.ends();
+    let more = match number {
+        LawNumber::Coefficient(_) => [i16::MIN.into(), i16::MAX.into()],
+        _ => [i32::MIN, i32::MAX],
+    };
+    let near = [least - 1, least, greatest, greatest + 1];
+    let value = random.pick(&[near[0], near[1], near[2], near[3], more[0], more[1]]);
+    let (guard, plain) = written(
+        sheet,
+        |numbers| numbers[slot_law(k) + number.slot()] = value,
+        |values| {
+            let law = &mut values.band[k].law;
+            match number {
+                LawNumber::Coefficient(i) => law.coefficients[i] = value as i16,
+                LawNumber::Constant => law.constant = value,
+                LawNumber::Divisor => law.divisor = value,
+            }
+        },
+    );
+    let kind = kinds.laws.written_number[usize::from(plain.is_err())];
+    let right = guard == plain && plain.as_ref().err().is_none_or(|&by| by == 10);
+    tally.check(kind, right, || hex(sheet));
+}
+
+/// The same values with the first divisor 0.
+fn written_as_fixed(tally: &mut Tally, kinds: &Kinds, sheet: &[u8]) {
+    let (guard, plain) = written(
+        sheet,
+        |numbers| numbers[slot_law(0) + LAW_DIVISOR] = 0,
+        |values| values.band[0].law.divisor = 0,
+    );
+    let is_fixed = |bytes: &Vec<u8>| kind_of_bytes(bytes).is_some_and(|of| of.0 == Kind::Fixed);
+    let right = guard == plain && plain.as_ref().is_ok_and(is_fixed);
+    tally.check(kinds.laws.as_fixed, right, || hex(sheet));
+}
+
 fn main() {
     let mut tally = Tally::new();
     let kinds = Kinds::new(&mut tally);
@@ -453,14 +660,7 @@ fn main() {
         let sheet = sheet_bytes(&case.sheet);
         let n = case.sheet.n();
 
-        let (guard, plain) = (
-            archive::recovery(&sheet),
-            Answer(plain_guard::recovery(&sheet)),
-        );
-        tally.check(kinds.recovery, guard == plain, || {
-            format!("{guard:x?} not {plain:x?}: {}", hex(&sheet))
-        });
-
+        check(&mut tally, &kinds, &sheet);
         let mut question = question_bytes(730_000, case.command, &case.measured, n);
         decide(&mut tally, &kinds, &sheet, &question);
         let rounds = plain_guard::decide(&sheet, &question) as u32;
@@ -495,5 +695,7 @@ fn main() {
     sheets_of_boxes(&mut tally, &kinds);
     sheets_on_recovery(&mut tally, &kinds);
     sheets_of_spans(&mut tally, &kinds);
+    sheets_of_laws(&mut tally, &kinds);
+    drawn_machines(&mut tally, &kinds);
     std::process::exit(tally.finish());
 }

@@ -15,7 +15,7 @@ use matching::machines::any_question;
 use matching::random::Random;
 use matching::scenes::drawn;
 use matching::spans::any_span;
-use matching::spoil::{no_band_mark, other_kind, other_length, BAND_HEAD};
+use matching::spoil::{BAND_HEAD, WRONG_MARKS};
 use matching::tally::{KindId, Tally};
 use second_guard::boxes::StateBox;
 use second_guard::decision::{check_recovery_watched, decide_watched, Faults, Question};
@@ -78,24 +78,6 @@ const GROUPS: [(Kind, Option<usize>, u64); 5] = [
     (Kind::Fixed, Some(6), 300),
 ];
 
-/// The kind and the number of variables of a sheet's bytes, by n and by the first band's mark.
-pub(super) fn kind_of_bytes(sheet: &[u8]) -> Option<(Kind, usize)> {
-    let n = usize::from(*sheet.get(2)?);
-    let mark = sheet.get(20 + 2 * n..)?.first_chunk()?;
-    let kinds = [Kind::Fixed, Kind::Following];
-    let kind = kinds.into_iter().find(|kind| kind.mark() == mark);
-    kind.map(|kind| (kind, n))
-}
-
-/// The same of a sheet's numbers.
-pub(super) fn kind_of_numbers(numbers: &[i32; NUMBERS]) -> Option<(Kind, usize)> {
-    let kind = match numbers[slot_law(0) + LAW_DIVISOR] {
-        0 => Kind::Fixed,
-        _ => Kind::Following,
-    };
-    Some((kind, usize::try_from(numbers[0]).ok()?))
-}
-
 /// What a law's number is set to, and whether that is accepted.
 const VALUES: [(&str, bool); 6] = [
     ("just below its least", false),
@@ -104,25 +86,6 @@ const VALUES: [(&str, bool); 6] = [
     ("just above its greatest", false),
     ("the lowest there is", false),
     ("the highest there is", false),
-];
-
-/// Sheets with another mark of a band, or of another length; of which kind they were before, and the
-/// refusal.
-const WRONGS: [(&str, Kind, u8); 14] = [
-    ("BF first, a later BD", Kind::Following, 7),
-    ("BD first, a later BF", Kind::Fixed, 7),
-    ("BF first, a later one neither", Kind::Following, 7),
-    ("BD first, a later one neither", Kind::Fixed, 7),
-    ("the first one neither, BF's length", Kind::Following, 5),
-    ("the first one neither, BD's length", Kind::Fixed, 7),
-    ("the first one BD, BF's length", Kind::Following, 5),
-    ("the first one BF, BD's length", Kind::Fixed, 5),
-    ("all BD, BF's length", Kind::Following, 5),
-    ("all BF, BD's length", Kind::Fixed, 5),
-    ("BF, cut to BD's length", Kind::Following, 5),
-    ("BD, filled up to BF's length", Kind::Fixed, 5),
-    ("BF, a byte less or more", Kind::Following, 5),
-    ("cut before the first band's mark ends", Kind::Following, 5),
 ];
 
 /// Values in which some law numbers do not count, and of which kind they were before.
@@ -154,7 +117,7 @@ pub(super) struct Kinds {
     /// By number and value: in a file, and in values.
     numbers: [[[KindId; VALUES.len()]; 2]; LawNumber::KINDS.len()],
     first_divisor: KindId,
-    wrongs: [KindId; WRONGS.len()],
+    wrongs: [KindId; WRONG_MARKS.len()],
     uncounted: [KindId; UNCOUNTED.len()],
     zeros: KindId,
 }
@@ -210,10 +173,7 @@ impl Kinds {
             }),
             numbers: LawNumber::KINDS.map(|number| numbers_of(tally, number)),
             first_divisor: tally.kind("BF with the first divisor 0: read, refused by 10", 500),
-            wrongs: WRONGS.map(|(what, _, by)| {
-                let name = format!("bands' marks: {what}: refused by {by}");
-                tally.kind(name, 500)
-            }),
+            wrongs: WRONG_MARKS.map(|wrong| tally.kind(wrong.text(), 500)),
             uncounted: UNCOUNTED.map(|(what, _)| tally.kind(what, 400)),
             zeros: tally.kind("BD is read with all law numbers 0", 500),
         }
@@ -426,41 +386,17 @@ impl Matching {
         for _ in 0..WRONG_SHEETS {
             let following = self.of_bands(Kind::Following);
             let fixed = self.of_bands(Kind::Fixed);
-            for (place, (_, of, number)) in WRONGS.into_iter().enumerate() {
-                let case = match of {
+            for (place, wrong) in WRONG_MARKS.into_iter().enumerate() {
+                let case = match wrong.of {
                     Kind::Following => &following,
                     Kind::Fixed => &fixed,
                 };
-                let bytes = self.wrong_marks(&case.sheet, place);
+                let bytes = wrong.bytes(&mut self.random, &case.sheet);
                 let kind = self.kinds.laws.wrongs[place];
                 let answer = self.any_sheet_call(&[kind], case, &bytes);
-                assert_eq!(answer.refusal(), Some(number), "{}", WRONGS[place].0);
+                assert_eq!(answer.refusal(), Some(wrong.number), "{}", wrong.text());
             }
         }
-    }
-
-    /// The sheet's bytes with the marks or the length at this place among `WRONGS`.
-    fn wrong_marks(&mut self, sheet: &Sheet, place: usize) -> Vec<u8> {
-        let mut bytes = sheet_bytes(sheet);
-        let bands = sheet.band_count as usize;
-        let later = 1 + self.random.below(bands - 1);
-        let (other, neither) = (*other_kind(sheet).mark(), no_band_mark(&mut self.random));
-        let mut put = |k: usize, mark: [u8; 2]| {
-            let at = band_record(sheet, k);
-            bytes[at..at + 2].copy_from_slice(&mark);
-        };
-        match place {
-            0 | 1 => put(later, other),
-            2 | 3 => put(later, neither),
-            4 | 5 => put(0, neither),
-            6 | 7 => put(0, other),
-            8 | 9 => (0..bands).for_each(|k| put(k, other)),
-            10 | 11 => bytes.resize(other_length(sheet), 0),
-            12 if self.random.percent(50) => bytes.push(0),
-            12 => bytes.truncate(bytes.len() - 1),
-            _ => bytes.truncate(band_record(sheet, 0) + self.random.below(2)),
-        }
-        bytes
     }
 
     /// Values in which law numbers do not count, and what is read of sheets without laws.

@@ -8,7 +8,7 @@ mod order;
 mod overlap;
 mod spans;
 
-use laws::{kind_of_bytes, kind_of_numbers, Call};
+use laws::Call;
 use matching::aim::{aimed, PLACES};
 use matching::archive::format::{
     reach_length, slot_band, slot_unsafe, LONGEST_SHEET, NUMBERS, SLOT_BAND, SLOT_CAPS,
@@ -22,6 +22,7 @@ use matching::generate::{
     question_near, shape, sheet_bytes, slow_growth, times, widths, worst_case, Case, Everyday,
     Shape, BOUNDS,
 };
+use matching::laws::{kind_of_bytes, kind_of_numbers};
 use matching::random::Random;
 use matching::spoil::{damage, damage_number, refusal_place, REFUSALS};
 use matching::tally::{hex, KindId, Tally};
