@@ -230,7 +230,7 @@ fn worst() -> Vec<Group> {
 }
 
 fn main() {
-    let machines = ["leg_press", "motor", "pendulum"];
+    let machines = ["leg_press", "motor", "pendulum", "cable_column"];
     let mut groups: Vec<Group> = machines.into_iter().flat_map(machine_groups).collect();
     groups.extend(random_sheets());
     groups.extend(worst());

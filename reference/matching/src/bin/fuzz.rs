@@ -6,16 +6,20 @@ use matching::archive::{self, Answer, ReachCall};
 use matching::expected;
 use matching::fences::{array, array_mut, watch_fences, Fenced, Side};
 use matching::generate::{
-    model, near, question_bytes, shape, sheet_bytes, span_bytes, times, widths, Case,
+    band_record, model, near, question_bytes, shape, sheet_bytes, span_bytes, times, widths, Case,
 };
+use matching::laws::{kind_of_bytes, kind_of_numbers};
 use matching::random::Random;
 use matching::spans::any_span;
 use matching::spoil::{damage, refusal_place, REFUSALS};
 use matching::tally::{hex, KindId, Tally};
+use second_guard::sheet::Kind;
 
 const CALLS: usize = 1_000_000;
 /// How many sound cases the bytes are made from.
 const CORPUS: usize = 500;
+/// Of a hundred mangled sheets so many have damaged marks of bands.
+const DAMAGED_MARKS: usize = 8;
 /// The longest input in bytes.
 const ROOM: usize = 4_096;
 /// The bytes of an array of numbers.
@@ -43,7 +47,19 @@ struct Kinds {
     /// Decisions accepted and refused by mark: `QS`, `QR` and others, which are refused.
     decided: [[KindId; 2]; 2],
     other_mark: KindId,
+    /// Sheets in bytes or numbers, accepted and refused by kind and for five and six variables.
+    sheets: [[KindId; 2]; GROUPS.len()],
+    /// Sheets with damaged marks of bands: accepted, refused by 5 and by 7, and otherwise.
+    marks: [KindId; 4],
 }
+
+/// The kinds of sheets and the numbers of variables that are counted.
+const GROUPS: [(Kind, Option<usize>, &str); 4] = [
+    (Kind::Fixed, None, "BD"),
+    (Kind::Following, None, "BF"),
+    (Kind::Following, Some(5), "BF, n = 5"),
+    (Kind::Following, Some(6), "BF, n = 6"),
+];
 
 const NAMES: [&str; 6] = [
     "sheet",
@@ -82,6 +98,17 @@ impl Kinds {
                     .map(|what| tally.kind(format!("guard_decide {mark}: {what}"), 10_000))
             }),
             other_mark: tally.kind("guard_decide with another mark: refused", 10_000),
+            sheets: GROUPS.map(|(_, _, group)| {
+                ["accepted", "refused"]
+                    .map(|what| tally.kind(format!("sheets marked {group}: {what}"), 5_000))
+            }),
+            marks: [
+                "accepted",
+                "refused by 5",
+                "refused by 7",
+                "refused otherwise",
+            ]
+            .map(|what| tally.kind(format!("damaged marks of bands: {what}"), 1_000)),
         }
     }
 }
@@ -95,6 +122,8 @@ struct Fuzz {
     first: Fenced,
     second: Fenced,
     out: Fenced,
+    /// The last sheet has damaged marks.
+    marks_damaged: bool,
 }
 
 fn corpus(random: &mut Random) -> Vec<Sound> {
@@ -187,6 +216,23 @@ fn mangle(random: &mut Random, sound: &[u8], other: &[u8]) -> Vec<u8> {
     bytes
 }
 
+/// A sound sheet with any marks in some of its bands; rarely with a fault besides.
+fn damaged_marks(random: &mut Random, sound: &Sound) -> Vec<u8> {
+    let mut bytes = sound.sheet.clone();
+    let sheet = &sound.case.sheet;
+    let mark = random.pick(&[*b"BD", *b"BF", *b"BE", *b"FB", [0, 0]]);
+    let all = random.percent(30);
+    let any = random.below(sheet.bands().len());
+    for k in (0..sheet.bands().len()).filter(|&k| all || k == any) {
+        let at = band_record(sheet, k);
+        bytes[at..at + 2].copy_from_slice(&mark);
+    }
+    if random.percent(20) {
+        damage(random, &mut bytes);
+    }
+    bytes
+}
+
 impl Fuzz {
     fn new() -> Fuzz {
         let mut random = Random::new(7);
@@ -199,6 +245,7 @@ impl Fuzz {
             first: Fenced::new(ROOM),
             second: Fenced::new(ROOM),
             out: Fenced::new(ROOM),
+            marks_damaged: false,
         }
     }
 
@@ -221,8 +268,36 @@ impl Fuzz {
         self.tally.saw(kind);
     }
 
+    /// Counts an answer under its sheet's kind and number of variables.
+    fn note_kind(&mut self, of: Option<(Kind, usize)>, answer: Answer) {
+        let refused = usize::from(answer.refusal().is_some());
+        let Some((kind, n)) = of else {
+            return;
+        };
+        for ((of_kind, of_n, _), kinds) in GROUPS.into_iter().zip(self.kinds.sheets) {
+            if of_kind == kind && of_n.is_none_or(|of_n| of_n == n) {
+                self.tally.saw(kinds[refused]);
+            }
+        }
+    }
+
+    /// Counts what comes of damaged marks.
+    fn note_damaged_marks(&mut self, answer: Answer) {
+        let place = match answer.refusal() {
+            None => 0,
+            Some(5) => 1,
+            Some(7) => 2,
+            Some(_) => 3,
+        };
+        self.tally.saw(self.kinds.marks[place]);
+    }
+
     /// Bytes made from the sheets of two sound cases.
     fn mangled_sheet(&mut self, at: usize, other: usize) -> Vec<u8> {
+        if self.random.percent(DAMAGED_MARKS) {
+            self.marks_damaged = true;
+            return damaged_marks(&mut self.random, &self.corpus[at]);
+        }
         let (sound, other) = (&self.corpus[at].sheet, &self.corpus[other].sheet);
         mangle(&mut self.random, sound, other)
     }
@@ -230,6 +305,7 @@ impl Fuzz {
     fn call(&mut self, call: usize) {
         let at = self.random.below(CORPUS);
         let other = self.random.below(CORPUS);
+        self.marks_damaged = false;
         let (one, two) = match call {
             0 | 1 | 3 => (self.mangled_sheet(at, other), Vec::new()),
             2 => {
@@ -265,15 +341,15 @@ impl Fuzz {
                 _ => self.corpus[at].sheet.len() + self.random.below(30),
             },
             5 => match self.random.below(4) {
-                0 => self.random.below(80),
+                0 => self.random.below(reach_length(VARIABLES) + 16),
                 _ => reach_length(self.corpus[at].case.sheet.n()) + self.random.below(3),
             },
             _ => 0,
         };
         let place = match self.random.below(12) {
             0 => self.random.bits(),
-            1 => u64::MAX - self.random.below(1_200) as u64,
-            2 => self.random.below(1_200) as u64,
+            1 => u64::MAX - self.random.below(LONGEST_SHEET + 100) as u64,
+            2 => self.random.below(LONGEST_SHEET + 100) as u64,
             3..=6 => self.random.below(30) as u64,
             _ => 0,
         };
@@ -350,6 +426,14 @@ impl Fuzz {
         }
         if call == 2 {
             self.note_mark(&two, wanted);
+        }
+        let of = match call {
+            4 => kind_of_numbers(&numbers_of(&one)),
+            _ => kind_of_bytes(&one),
+        };
+        self.note_kind(of, wanted);
+        if self.marks_damaged {
+            self.note_damaged_marks(wanted);
         }
         let kept = self.first.lent() == one && self.second.lent() == two;
         self.tally.check(self.kinds.inputs_kept, kept, describe);

@@ -157,7 +157,7 @@ fn worked() -> Vec<Group> {
 fn main() {
     // Random sheets and worked examples show each kind of change.
     let showing = [everyday_sheets(), worked()].concat();
-    let machines = ["leg_press", "motor", "pendulum"]
+    let machines = ["leg_press", "motor", "pendulum", "cable_column"]
         .map(machine_groups)
         .concat();
     println!(
