@@ -8,7 +8,8 @@ use crate::laws::{any_kind, any_law, put_laws};
 use crate::random::Random;
 use second_guard::boxes::{StateBox, VARIABLES};
 use second_guard::decision::{trace, Faults, Question};
-use second_guard::sheet::{self, Band, CommandRange, Kind, Row, Sheet, BANDS, UNSAFE_BOXES};
+use second_guard::sheet::{self, Band, BandLaw, CommandRange, Kind, Row, Sheet};
+use second_guard::sheet::{BANDS, UNSAFE_BOXES};
 
 const SIDE: i64 = sheet::SIDE_LIMIT;
 const START: i64 = sheet::START_LIMIT;
@@ -574,17 +575,20 @@ pub struct Everyday {
     pub halvings: usize,
 }
 
-pub fn everyday(random: &mut Random) -> Everyday {
+fn everyday_times(random: &mut Random) -> Times {
     let most = random.pick(&[4, 12, 12, 40, 40, 120]);
-    let times = times(random, most);
+    times(random, most)
+}
+
+pub fn everyday(random: &mut Random) -> Everyday {
+    let times = everyday_times(random);
     let case = model(random, times, VARIABLES);
     shaped(random, case)
 }
 
 /// The same with n variables and bands of this kind.
 pub fn everyday_of(random: &mut Random, n: usize, kind: Kind) -> Everyday {
-    let most = random.pick(&[4, 12, 12, 40]);
-    let times = times(random, most);
+    let times = everyday_times(random);
     let case = model_of(random, times, n, kind);
     shaped(random, case)
 }
@@ -683,6 +687,51 @@ pub fn worst_case() -> Case {
         sheet,
         measured,
         command: 0,
+    }
+}
+
+/// A case of over 300,000 rounds with six variables and eight bands, most of which each neighborhood
+/// meets. It grows as in `worst_case`, at six scales; over all bands that grow the law's commands are
+/// divided, and under them the growth is the same.
+pub fn worst_case_of(kind: Kind) -> Case {
+    const SCALES: [i32; VARIABLES] = [1, 3, 8, 20, 50, 175];
+    let mut case = worst_case();
+    let sheet = &mut case.sheet;
+    (sheet.variables, sheet.band_count) = (VARIABLES as i32, BANDS as i32);
+    (sheet.delta, sheet.alpha) = (480, 520);
+    let top = sheet.bands[2].edge - 1;
+    for (k, band) in sheet.bands.iter_mut().enumerate().skip(2) {
+        band.edge = top + k as i32 - 1;
+        for (i, (row, q)) in band.rows.iter_mut().zip(SCALES).enumerate() {
+            *row = Row {
+                c: q,
+                q,
+                ..Row::default()
+            };
+            row.a[i] = 1;
+        }
+        band.rows[0].c -= top;
+    }
+    sheet.unsafe_boxes[0] = everywhere(VARIABLES);
+    sheet.unsafe_boxes[0].lower[VARIABLES - 1] = SIDE;
+    if kind == Kind::Following {
+        put_worst_laws(sheet);
+    }
+    case
+}
+
+/// Commands from -1 to 1 in the bands that grow, and none but 0 in the first two.
+fn put_worst_laws(sheet: &mut Sheet) {
+    for (k, band) in sheet.bands.iter_mut().enumerate() {
+        band.law = BandLaw {
+            coefficients: [1, -1, 1, -1, 1, -1],
+            constant: 0,
+            divisor: 4_096,
+        };
+        if k >= 2 {
+            (band.safety.least, band.safety.greatest) = (-1, 1);
+        }
+        band.rows.iter_mut().for_each(|row| row.b = 1);
     }
 }
 

@@ -19,8 +19,8 @@ use matching::archive::{self, Answer, ReachCall};
 use matching::expected;
 use matching::generate::{
     bytes_of, cut_recovery, everyday, long_times, model, near, pick_command, question_bytes,
-    question_near, shape, sheet_bytes, slow_growth, times, widths, worst_case, Case, Everyday,
-    Shape, BOUNDS,
+    question_near, shape, sheet_bytes, slow_growth, times, widths, worst_case, worst_case_of, Case,
+    Everyday, Shape, BOUNDS,
 };
 use matching::laws::{kind_of_bytes, kind_of_numbers};
 use matching::random::Random;
@@ -34,7 +34,7 @@ use second_guard::decision::{
 };
 use second_guard::neighborhoods::{neighborhoods, Face};
 use second_guard::reach::{Step, Watch};
-use second_guard::sheet::{CommandRange, Sheet};
+use second_guard::sheet::{CommandRange, Kind, Sheet};
 use std::collections::HashMap;
 use std::ops::ControlFlow;
 use std::time::Instant;
@@ -686,6 +686,13 @@ impl Matching {
         let case = worst_case();
         let bytes = sheet_bytes(&case.sheet);
         self.decisions_around(&case, &bytes, 0);
+        for kind in [Kind::Fixed, Kind::Following] {
+            let case = worst_case_of(kind);
+            let (bytes, n) = (sheet_bytes(&case.sheet), case.sheet.n());
+            let question = question_bytes(1_000_000, case.command, &case.measured, n);
+            let answer = self.call_decide(&[self.kinds.many_rounds], &bytes, &question);
+            assert!(answer.rounds() > 300_000, "{answer:?}");
+        }
     }
 
     /// One of the calls that take a sheet, all else being in range.
