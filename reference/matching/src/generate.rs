@@ -690,15 +690,15 @@ pub fn worst_case() -> Case {
     }
 }
 
-/// A case of over 300,000 rounds with six variables and eight bands, most of which each neighborhood
-/// meets. It grows as in `worst_case`, at six scales; over all bands that grow the law's commands are
-/// divided, and under them the growth is the same.
+/// A case of over 280,000 rounds with six variables and eight bands, most of which each neighborhood
+/// meets, and nearly all under the plain law. It grows as in `worst_case`, at six scales. Where the plain
+/// law follows the state, each growing band's law is divided, and under its commands the growth is the same.
 pub fn worst_case_of(kind: Kind) -> Case {
     const SCALES: [i32; VARIABLES] = [1, 3, 8, 20, 50, 175];
     let mut case = worst_case();
     let sheet = &mut case.sheet;
     (sheet.variables, sheet.band_count) = (VARIABLES as i32, BANDS as i32);
-    (sheet.delta, sheet.alpha) = (480, 520);
+    (sheet.delta, sheet.alpha) = (1, 999);
     let top = sheet.bands[2].edge - 1;
     for (k, band) in sheet.bands.iter_mut().enumerate().skip(2) {
         band.edge = top + k as i32 - 1;

@@ -691,7 +691,7 @@ impl Matching {
             let (bytes, n) = (sheet_bytes(&case.sheet), case.sheet.n());
             let question = question_bytes(1_000_000, case.command, &case.measured, n);
             let answer = self.call_decide(&[self.kinds.many_rounds], &bytes, &question);
-            assert!(answer.rounds() > 300_000, "{answer:?}");
+            assert!(answer.rounds() > 280_000, "{answer:?}");
         }
     }
 
