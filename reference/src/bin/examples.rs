@@ -159,6 +159,8 @@ fn other_rule_text(rule: Rule) -> &'static str {
         Rule::LawOverWhole => "another answer by laws over whole neighborhoods",
         Rule::LawInTheMiddle => "another answer by laws in the middle of a part",
         Rule::LawFromItsLeast => "another answer by the least of a law's sum alone",
+        Rule::LawFromItsGreatest => "another answer by the greatest of a law's sum alone",
+        Rule::LawRoundedInward => "another answer by laws rounded inward",
         Rule::LawWithinTheHead => "another answer by laws clamped to the head's commands",
     }
 }
