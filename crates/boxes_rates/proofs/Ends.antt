@@ -4,11 +4,13 @@ use mathlib.Core.Bool.{Bool, true, false}
 use mathlib.Core.List.{List}
 use Prim.Native.Nat.{ℕ, _+_, _<_, _≤_}
 use native.Mathlib.Omega.{arith}
+use lib.Dec.{lit≤}
 use lib.IntN.{ℤ, pos, natAbs, _*ℤ_}
 use lib.Signed.{_≤ℤ_}
 use Rattle.integers.specs.Bound.{Bound}
 use Rattle.integers.specs.Order.{minZ}
-use Rattle.integers.proofs.Z.{ints, flat, neg, min-is, max-is, bound-in}
+use Rattle.integers.proofs.Z.{ints, flat, neg, min-is, max-is, bound-in, bound-less}
+use Rattle.sheet_spec.specs.Limits.{maxCommand}
 use Rattle.sheet_spec.specs.Slots.{_!_, N, bandSize, bandSlot, slots, leastInBand, greatestInBand, lawInBand, divisorInLaw, vars, bands, bandKind, feedback, feedbackAt}
 use Rattle.sheet_spec.specs.Valid.{ValidNumbers}
 use Rattle.sheet_spec.specs.declared.BandKind.the-variants.{Feedback}
@@ -18,6 +20,7 @@ use Rattle.machine_spec.specs.Machine.{machine, clampTo, outwardDiv, baselineEn
 use Rattle.machine_spec.specs.Rate.{lawOver, outer}
 use Rattle.machine_spec.proofs.Face.{outer-one}
 use Rattle.machine_spec.proofs.Offers.{over-ordered}
+use Rattle.boxes_arithmetic.specs.Limits.{word}
 use Rattle.boxes_rates.specs.Limits.{BandAt, endOver}
 use Rattle.boxes_rates.proofs.Rates.{over-plain}
 
@@ -43,6 +46,15 @@ end-at up v at n B k p e =
 pub clamp-near : {l h : ℤ} (y : ℤ) {b : ℕ} → Bound l b → Bound h b → l ≤ℤ h → Bound (clampTo l h y) b
 clamp-near {l} {h} y {b} p q o =
     bound-in (omega (ints, p .at-most, neg (pos b), max-is l (minZ y h))) (omega (ints, q .at-most, o, max-is l (minZ y h), min-is y h))
+
+-- so does an end of the law that follows the state: its range is the safety range
+pub end-near : {v : List ℤ} → ValidNumbers v → (up : Bool) (k : ℕ) → k < bands v → (B : List ℤ) → Bound (endOver Feedback up v k B) word
+unfolding baselineEnd
+end-near {v} wf up k h B =
+    clamp-near _
+    (bound-less {B = maxCommand} (bound-in (omega (ints, wf .commands-low, wf .safety-low k h)) (omega (ints, wf .safety k h, wf .safety-high k h, wf .commands-high))) (lit≤ tt))
+    (bound-less {B = maxCommand} (bound-in (omega (ints, wf .commands-low, wf .safety-low k h, wf .safety k h)) (omega (ints, wf .safety-high k h, wf .commands-high))) (lit≤ tt))
+    (wf .safety k h)
 
 -- over a box that is not empty the least end is not above the greatest
 pub ends-ordered : {v : List ℤ} → ValidNumbers v → bandKind v ≡ Feedback → (B : List ℤ) → Ordered (vars v) B → (k : ℕ) → k < bands v → endOver Feedback false v k B ≤ℤ endOver Feedback true v k B

@@ -4,3 +4,5 @@ pub mod Rates
 mod RowNumbers
 pub mod Terms
 pub mod Ends
+mod Chosen
+mod Known

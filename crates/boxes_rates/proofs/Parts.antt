@@ -25,7 +25,7 @@ use Rattle.machine_spec.proofs.Part.{low-stays, low-cut}
 use Rattle.machine_spec.proofs.Sound.{share-between, outer-neutral, outer-limit, outermost-between}
 use Rattle.machine_spec.proofs.Face.{cond-yes, cond-no}
 use Rattle.boxes_rates.specs.Plant.{nextStartsBy, FirstBand}
-use Rattle.boxes_rates.proofs.Cut.{put-back}
+use Rattle.boxes_rates.proofs.Cut.{put-back, set-own}
 
 -- ---- whether the next band starts at or below a number
 
@@ -103,9 +103,6 @@ module _ (m : Machine) (B : List ℤ) (up : Bool) (i : ℕ) where
   limit-stays c k (suc d) e = rw (add-suc k d, limit-stays c k d e) (outer-limit (share-between up m B i (k + d) c) up)
 
 -- ---- the parts, made in the box
-
-set-own : (l : List ℤ) (j : ℕ) → set l j (l ! j) ≡ l
-set-own l j = sym (set-set l j (l ! j) (l ! j)) ∙ put-back l j (l ! j)
 
 -- but for the band variable's upper side O is the part of B that lies in band k
 pub record Cutting (m : Machine) (k : ℕ) (B O : List ℤ) : Type 0 where

@@ -1,2 +1,3 @@
 pub mod Plant
 pub mod Limits
+pub mod Known

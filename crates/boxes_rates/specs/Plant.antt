@@ -8,6 +8,10 @@ use lib.IntN.{ℤ}
 use lib.Signed.{leZ, _≤ℤ_, _<ℤ_}
 use Rattle.sheet_spec.specs.Slots.{_!_, N, bandSize, bandSlot, vars, bands, bandVar, bandKind, edge}
 use Rattle.sheet_spec.specs.Valid.{ValidNumbers}
+use Rattle.sheet_spec.specs.declared.BandKind.{BandKind}
+use Rattle.sheet_spec.specs.declared.BandKind.the-variants.{Fixed, Feedback}
+use Rattle.machine_spec.specs.declared.Law.{Law}
+use Rattle.machine_spec.specs.declared.Law.the-variants.{Baseline, Span}
 use Rattle.machine_spec.specs.Accepted.{Lawful}
 use Rattle.boxes_rates.specs.declared.Plant.{Plant}
 
@@ -19,6 +23,17 @@ pub record Describes (p : Plant) (v : List ℤ) : Type 0 where
   pub bands : p .bands ≡ bands v
   pub var : p .var ≡ bandVar v
   pub kind : p .kind ≡ bandKind v
+
+-- the plain law acts, and it follows the state
+unfoldable pub followsState : Law → BandKind → Bool
+followsState Baseline Feedback = true
+followsState Baseline Fixed = false
+followsState (Span l h) b = false
+
+-- the case of the code that is taken: whether the law follows the state, and the number of variables
+pub record Chosen (follows : Bool) (n : ℕ) (p : Plant) (v : List ℤ) : Type 0 where
+  pub law-is : follows ≡ followsState (p .law) (p .kind)
+  pub n-is : n ≡ vars v
 
 -- ---- bands, by the slots of their edges
 

@@ -21,6 +21,10 @@ use Rattle.machine_spec.specs.Machine.{Machine, machine}
 use Rattle.machine_spec.specs.Accepted.{LawfulSpan, Lawful}
 use Rattle.machine_spec.specs.Rate.{outer, offeredOver}
 use Rattle.boxes_rates.specs.Limits.{BaselineTerm, CommandTerm, CommandsAsked}
+use Rattle.boxes_rates.specs.Plant.{Chosen}
+use Rattle.boxes_rates.specs.Known.{Noted}
+use Rattle.boxes_rates.proofs.Chosen.{follows-yes, follows-no}
+use Rattle.boxes_rates.proofs.Known.{noted-none}
 use Rattle.boxes_rates.proofs.Rates.{over-plain, over-span}
 use Rattle.boxes_rates.proofs.commands.command_term.Statement.{statement}
 use Rattle.boxes_rates.proofs.commands.command_term.Tie as tie
@@ -39,7 +43,14 @@ module _ (at-start : tie.Start) where
   b = rowAt v (at-start .args .row) .b
 
   asked : CommandsAsked (at-start .args .plant) v B (at-start .args .row) (at-start .args .band)
-  asked = at-start .pre
+  asked = at-start .pre .0 .0
+
+  chosen : Chosen (at-start .args .follows) (at-start .args .n) (at-start .args .plant) v
+  chosen = at-start .pre .0 .1
+
+  -- what is known is left as it is
+  as-known : Noted (at-start .args .shared) v (at-start .args .k) B (at-start .args .ends .now) (at-start .args .ends .now)
+  as-known = noted-none (at-start .pre .1)
 
   -- what the commands from x to y give is what those that the law offers do
   offered-term : {x y : ℤ} (k : ℕ) → x ≡ offeredOver false M k B → y ≡ offeredOver true M k B
@@ -57,48 +68,58 @@ module _ (at-start : tie.Start) where
     near = term .near;
   }
 
-safety-term-requires : tie.Need-safety-term-requires
-safety-term-requires at-fixed κs =
-    let s = at-fixed .before .before .before .before .before in
-    record { sheet = asked s .plant .sheet; slot = asked s .slot }
+-- the law follows the state
+module _ (at-follows : tie.Then1) where
+  abbrev at-b : tie.After-coefficient
+  at-b = at-follows .before
+
+  abbrev start : tie.Start
+  start = at-b .before
+
+  cases : (start .args .plant .law ≡ Baseline) × (start .args .plant .kind ≡ Feedback)
+  cases = follows-yes _ _ (sym (chosen start .law-is) ∙ at-follows .if1 .taken)
 
 feedback-term-requires : tie.Need-feedback-term-requires
-feedback-term-requires at-feedback κs =
-    let s = at-feedback .before .before .before .before .before in
-    record { sheet = asked s .plant .sheet; kind = kind-is s (at-feedback .enum-told3 .given .1); n-is = asked s .plant .n; sides = asked s .sides; slot = asked s .slot }
+feedback-term-requires at-call κs =
+    let at-follows = at-call .before in
+    let s = start at-follows in
+    (record { sheet = asked s .plant .sheet; kind = kind-is s (cases at-follows .1); n-is = chosen s .n-is; sides = asked s .sides; slot = asked s .slot }, s .pre .1)
 
--- bands without a law
 returns : tie.Need-returns
 returns at-term =
-    let at-fixed = at-term .before in
-    let at-plain = at-fixed .before .before in
-    let at-b = at-plain .before .before in
-    let s = at-b .before in
-    let term : BaselineTerm Fixed (s .args .up) (v s) (b s) (s .args .band) (B s) (at-term .safety-term .result) =
-    simp (told, at-b .coefficient .given) at (at-term .safety-term .ensures (B s)) in
-    rw (toZ-ofZ (fits64 (term .near) tt)) (plain-term s (at-plain .enum-told .given .1) (kind-is s (at-fixed .enum-told2 .given .1)) term)
+    let at-follows = at-term .before .before in
+    let s = start at-follows in
+    let term : BaselineTerm Feedback (s .args .up) (v s) (b s) (s .args .band) (B s) (at-term .feedback-term .result) =
+    simp (told, at-b at-follows .coefficient .given) at (at-term .feedback-term .ensures .0) in
+    (rw (toZ-ofZ (fits64 (term .near) tt)) (plain-term s (cases at-follows .0) (kind-is s (cases at-follows .1)) term), at-term .feedback-term .ensures .1)
 
--- bands with one
+safety-term-requires : tie.Need-safety-term-requires
+safety-term-requires at-plain κs =
+    let s = at-plain .before .before .before .before in
+    record { sheet = asked s .plant .sheet; slot = asked s .slot }
+
+-- the plain law of bands without one
 returns-2 : tie.Need-returns-2
 returns-2 at-term =
-    let at-feedback = at-term .before in
-    let at-plain = at-feedback .before .before in
-    let at-b = at-plain .before .before in
+    let at-plain = at-term .before in
+    let at-else = at-plain .before .before in
+    let at-b = at-else .before in
     let s = at-b .before in
-    let term : BaselineTerm Feedback (s .args .up) (v s) (b s) (s .args .band) (B s) (at-term .feedback-term .result) =
-    simp (told, at-b .coefficient .given) at (at-term .feedback-term .ensures) in
-    rw (toZ-ofZ (fits64 (term .near) tt)) (plain-term s (at-plain .enum-told .given .1) (kind-is s (at-feedback .enum-told3 .given .1)) term)
+    let plain = at-plain .enum-told .given .1 in
+    let term : BaselineTerm Fixed (s .args .up) (v s) (b s) (s .args .band) (B s) (at-term .safety-term .result) =
+    simp (told, at-b .coefficient .given) at (at-term .safety-term .ensures (B s)) in
+    (rw (toZ-ofZ (fits64 (term .near) tt)) (plain-term s plain (kind-is s (follows-no _ _ (sym (chosen s .law-is) ∙ at-else .if1 .left) plain)) term), as-known s)
 
 -- a span
 module _ (at-known : tie.After-known-told) where
   abbrev at-span : tie.After-law
   at-span = at-known .before
 
-  abbrev at-b : tie.After-coefficient
-  at-b = at-span .before .before
+  abbrev coefficient-read : tie.After-coefficient
+  coefficient-read = at-span .before .before .before
 
   abbrev span-start : tie.Start
-  span-start = at-b .before
+  span-start = coefficient-read .before
 
   abbrev low : ℤ
   low = at-span .law .given .0 .0
@@ -135,12 +156,14 @@ returns-3 at-term =
     let span = at-span k .law .given .1 in
     let near = at-term .span-term .ensures .1 in
     let term-is : at-term .span-term .result ≡ outer (s .args .up) (b s *ℤ low k) (b s *ℤ high k) =
-    at-term .span-term .ensures .0 ∙ simp (told, at-b k .coefficient .given, toZ-ofZ, low-fits k, high-fits k) in
-    rw (toZ-ofZ (fits64 near tt))
-    (record {
-      same = λ i p. term-is ∙ offered-term s i (sym (over-span false (v s) i (B s) span)) (sym (over-span true (v s) i (B s) span));
-      near = near;
-    })
+    at-term .span-term .ensures .0 ∙ simp (told, coefficient-read k .coefficient .given, toZ-ofZ, low-fits k, high-fits k) in (
+      rw (toZ-ofZ (fits64 near tt))
+          (record {
+            same = λ i p. term-is ∙ offered-term s i (sym (over-span false (v s) i (B s) span)) (sym (over-span true (v s) i (B s) span));
+            near = near;
+          }),
+      as-known s,
+    )
 
 pub command-term-spec : {M : Type 1} → statement M
 command-term-spec =
@@ -149,13 +172,11 @@ command-term-spec =
     (λ c. omega (arith, asked c .room))
     (λ c. search needs)
     (λ c. omega (arith, asked c .room))
-    (λ c. search needs)
+    feedback-term-requires
+    returns
     (λ c. search needs)
     safety-term-requires
     (λ c. search needs)
-    feedback-term-requires
-    (λ c. search needs)
     span-term-requires
-    returns
     returns-2
     returns-3)

@@ -1,8 +1,9 @@
 -- `rate` gives the outermost over all bands, each over the part of the box that lies in it, and puts the two sides that are cut back. It is
 -- done where the outermost is the cap.
--- Invariant: the band at the slot is met; the outermost is that of the bands before it; the box is cut to it but for its upper side.
+-- Invariant: the band at the slot is met; the outermost is that of the bands before it; the box is cut to it but for its upper side; what is
+-- known of the plain law's commands is right.
 -- Measure: the slots left. Assumes nothing.
-use mathlib.Core.Path.{_≡_, sym, ap, _∙_}
+use mathlib.Core.Path.{_≡_, sym, ap, _∙_, subst}
 use mathlib.Core.Bool.{Bool, true, not}
 use mathlib.Core.List.{List}
 use Prim.Native.Nat.{ℕ, _+_, _*_, _-_, _≤_, _<_}
@@ -30,27 +31,32 @@ use Rattle.machine_spec.proofs.Part.{high-stays, high-cut, part-within, part-or
 use Rattle.machine_spec.proofs.Ranges.{sized-less, sized-as, sized-part, above-first}
 use Rattle.machine_spec.proofs.Sound.{outermost-between}
 use Rattle.boxes_rates.specs.Limits.{BandAsked, RowRated, RateAsked}
-use Rattle.boxes_rates.specs.Plant.{FirstBand}
+use Rattle.boxes_rates.specs.Plant.{Chosen, FirstBand}
+use Rattle.boxes_rates.specs.Known.{KnownAsked, Noted, NotedAll}
 use Rattle.boxes_rates.proofs.Parts.{starts-yes, starts-no, first-starts, first-met, next-met, unmet-before, unmet-behind, share-met, unmet-stays, limit-stays, Cutting, cutting-starts, cutting-part, cutting-on, cutting-undone, cutting-ends}
 use Rattle.boxes_rates.proofs.Rates.{outermost-more}
+use Rattle.boxes_rates.proofs.Known.{noted-start, known-asked, noted-on}
 use Rattle.boxes_rates.proofs.rate.rate.Statement.{statement}
 use Rattle.boxes_rates.proofs.rate.rate.Tie as tie
 
--- at the slot of a band that B meets, where O is B cut to that band but for its upper side and z the outermost of the bands before it
-record Invariant (m : Machine) (B : List ℤ) (up : Bool) (i : ℕ) (O : List ℤ) (z : ℤ) (at : ℕ) : Type 0 where
+-- at the slot of a band that B meets, where O is B cut to that band but for its upper side and z the outermost of the bands before it; o is what
+-- is known of the commands, and o₀ what was
+record Invariant (m : Machine) (B : List ℤ) (up : Bool) (i : ℕ) (shared : Bool) (o₀ O o : List ℤ) (z : ℤ) (at number : ℕ) : Type 0 where
   band : ℕ
   place : at ≡ bandSlot band
   among : band < bands (m .sheet)
   met : Meets (m .sheet) (bands (m .sheet)) band (lo B (bandVar (m .sheet))) (hi B (bandVar (m .sheet)))
   cutting : Cutting m band B O
   so-far : z ≡ outermost up (neutral up (cap (m .sheet) i)) band (bandRate up m B i)
+  count : number ≡ band
+  noted : NotedAll shared m B o₀ o
 
 abbrev Inv-loop : tie.InvT-loop
-Inv-loop up plant sheet over₀ i lower upper low high slot last outermost₀ band₀ over outermost band =
-    Invariant (machine sheet (plant .law)) over₀ up i over (toZ w64 outermost) band
+Inv-loop up follows n plant sheet over₀ i shared ends₀ lower upper low high slot last outermost₀ band₀ k₀ over ends outermost band k =
+    Invariant (machine sheet (plant .law)) over₀ up i shared ends₀ over ends (toZ w64 outermost) band k
 
 abbrev μ-loop : tie.MeasureT-loop
-μ-loop up plant sheet over₀ i lower upper low high slot last outermost₀ band₀ over outermost band = last - band
+μ-loop up follows n plant sheet over₀ i shared ends₀ lower upper low high slot last outermost₀ band₀ k₀ over ends outermost band k = last - band
 
 -- what is asked, as it is used
 module _ (at-start : tie.Start Inv-loop μ-loop) where
@@ -64,7 +70,10 @@ module _ (at-start : tie.Start Inv-loop μ-loop) where
   B = at-start .args .over .now
 
   asked : RateAsked (at-start .args .plant) v B (at-start .args .i)
-  asked = at-start .pre
+  asked = at-start .pre .0 .0
+
+  chosen : Chosen (at-start .args .follows) (at-start .args .n) (at-start .args .plant) v
+  chosen = at-start .pre .0 .1
 
   -- the band variable
   var-is : at-start .args .plant .var ≡ bandVar v
@@ -98,6 +107,9 @@ first-band-requires at-neutral κs =
     let at-start = at-neutral .before .before .before .before .before in
     (asked at-start .plant .sheet, ends at-start)
 
+band-number-requires : tie.Need-band-number-requires Inv-loop μ-loop
+band-number-requires at-first κs = omega (arith, at-first .first-band .ensures .from .place)
+
 -- the band variable's sides, as they are read
 module _ (at-high : tie.After-high Inv-loop μ-loop) where
   abbrev at-low : tie.After-low Inv-loop μ-loop
@@ -114,7 +126,8 @@ module _ (at-high : tie.After-high Inv-loop μ-loop) where
 
 loop-holds : tie.Need-loop-holds Inv-loop μ-loop
 unfolding outermost
-loop-holds at-first =
+loop-holds at-number =
+    let at-first = at-number .before in
     let at-neutral = at-first .before in
     let at-high = at-neutral .before .before .before in
     let at-start = start at-high in
@@ -132,18 +145,17 @@ loop-holds at-first =
           ∙ ap (neutral (at-start .args .up)) (cap-is (at-neutral .before))
           ∙ (sym (rw (zero-add (first .from .band)) at (unmet-stays (M at-start) (B at-start) (at-start .args .up) (at-start .args .i) (cap-low (asked at-start .plant .sheet) (at-start .args .i) (asked at-start .var)) 0 (first .from .band)
           (λ j h. rw (zero-add j) (unmet-before first j h))))));
+      count = at-number .band-number .ensures (first .from .band) (first .from .place);
+      noted = noted-start (at-start .pre .1);
     }
 
 -- in the loop, at band k
 module _ (at-loop : tie.At-loop Inv-loop μ-loop) where
   abbrev at-high : tie.After-high Inv-loop μ-loop
-  at-high = at-loop .before .before .before .before .before
+  at-high = at-loop .before .before .before .before .before .before
 
   abbrev entry : tie.Start Inv-loop μ-loop
   entry = start at-high
-
-  abbrev inv : Invariant (M entry) (B entry) (entry .args .up) (entry .args .i) (at-loop .loop .over) (toZ w64 (at-loop .loop .outermost)) (at-loop .loop .band)
-  inv = at-loop .loop .inv
 
   abbrev k : ℕ
   k = at-loop .loop .inv .band
@@ -176,6 +188,18 @@ module _ (at-loop : tie.At-loop Inv-loop μ-loop) where
           slot = record { band = k; place = at-loop .loop .inv .place; among = at-loop .loop .inv .among };
           between = rw (at-loop .loop .inv .so-far) (outermost-between (entry .args .up) (M entry) (B entry) (entry .args .i) k (cap-low wf (entry .args .i) (asked entry .var)));
         }
+
+    -- what is known of the commands
+    known : KnownAsked (entry .args .shared) (v entry) (at-loop .loop .band) (at-loop .loop .k) (set (at-loop .loop .over) (entry .args .plant .var + N) x) (at-loop .loop .ends)
+    known =
+        subst (λ (j : ℕ). KnownAsked (entry .args .shared) (v entry) (at-loop .loop .band) j (set (at-loop .loop .over) (entry .args .plant .var + N) x) (at-loop .loop .ends)) (sym (at-loop .loop .inv .count))
+        (known-asked (at-loop .loop .inv .noted) (at-loop .loop .inv .place) (at-loop .loop .inv .among) part-is)
+
+    noted : {p : List ℤ} → Noted (entry .args .shared) (v entry) (at-loop .loop .k) (set (at-loop .loop .over) (entry .args .plant .var + N) x) (at-loop .loop .ends) p
+        → NotedAll (entry .args .shared) (M entry) (B entry) (entry .args .ends .now) p
+    noted {p} d =
+        noted-on (M entry) (B entry) (asked entry .plant .sheet .bands-high) k part-is
+        (subst (λ (j : ℕ). Noted (entry .args .shared) (v entry) j (set (at-loop .loop .over) (entry .args .plant .var + N) x) (at-loop .loop .ends) p) (at-loop .loop .inv .count) d) (at-loop .loop .inv .noted)
 
     rated : {r : Outermost} → RowRated (entry .args .up) (M entry) (set (at-loop .loop .over) (entry .args .plant .var + N) x) (entry .args .i) (at-loop .loop .band) z r
         → r .change ≡ outermost (entry .args .up) (neutral (entry .args .up) (cap (v entry) (entry .args .i))) (k + 1) (bandRate (entry .args .up) (M entry) (B entry) (entry .args .i))
@@ -238,12 +262,15 @@ module _ (at-edge : tie.After-last Inv-loop μ-loop) where
   next-is = rw one-more (toZ-ofZ edge-fits)
 
 row-rate-requires : tie.Need-row-rate-requires Inv-loop μ-loop
-row-rate-requires at-arg κs = row-asked (here (at-arg .before)) (end-is (at-arg .before))
+row-rate-requires at-arg κs =
+    let at-edge = at-arg .before .before in
+    let l = here at-edge in
+    ((row-asked l (end-is at-edge), chosen (entry l)), known l (end-is at-edge))
 
 -- the row of the band is taken in, and no further one may be needed
 module _ (at-row : tie.After-row-rate Inv-loop μ-loop) where
   abbrev edged : tie.After-last Inv-loop μ-loop
-  edged = at-row .before .before
+  edged = at-row .before .before .before
 
   abbrev there : tie.At-loop Inv-loop μ-loop
   there = here edged
@@ -258,12 +285,18 @@ returns capped-here =
     let a = at-start .args in
     let low = cap-low (asked at-start .plant .sheet) (a .i) (asked at-start .var) in
     let row-fits : SFits w64 (at-row .row-rate .result .change) = search needs in
-    let is-limit : at-row .row-rate .result .change ≡ neutral (not (a .up)) (cap (v at-start) (a .i)) = at-row .row-rate .ensures .limit (capped-here .if2 .taken) in
-    let so-far = rated l (end-is (edged at-row)) (at-row .row-rate .ensures) in
+    let is-limit : at-row .row-rate .result .change ≡ neutral (not (a .up)) (cap (v at-start) (a .i)) = at-row .row-rate .ensures .0 .limit (capped-here .if2 .taken) in
+    let so-far = rated l (end-is (edged at-row)) (at-row .row-rate .ensures .0) in
     let all : k l + 1 + (bands (v at-start) - (k l + 1)) ≡ bands (v at-start) = omega (arith, l .loop .inv .among) in (
       toZ-ofZ row-fits ∙ (is-limit ∙ sym (rw all at (limit-stays (M at-start) (B at-start) (a .up) (a .i) low (k l + 1) (bands (v at-start) - (k l + 1)) (sym so-far ∙ is-limit)))),
-      cutting-undone (M at-start) (k l) (B at-start) (var-is at-start) (room at-start) (part-is l (end-is (edged at-row))) (low-is (at-high l)) (high-is (at-high l)),
+      (
+        cutting-undone (M at-start) (k l) (B at-start) (var-is at-start) (room at-start) (part-is l (end-is (edged at-row))) (low-is (at-high l)) (high-is (at-high l)),
+        noted l (end-is (edged at-row)) (at-row .row-rate .ensures .1),
+      ),
     )
+
+add-number : tie.Need-add-k Inv-loop μ-loop
+add-number below = let l = here (edged (below .before .before)) in omega (arith, l .loop .inv .count, l .loop .inv .among, asked (entry l) .plant .sheet .bands-high)
 
 loop-less : tie.Need-loop-less Inv-loop μ-loop
 loop-less below =
@@ -286,7 +319,9 @@ loop-again below =
       among = next .0;
       met = next-met wf (l .loop .inv .met) (next .0) (next .1);
       cutting = cutting-on (M at-start) (k l) (B at-start) (var-is at-start) (room at-start) (part-is l (end-is at-edge)) (next-is at-edge) (rw (next-is at-edge) (omega (ints, l .loop .inv .met .below (next .0))));
-      so-far = toZ-ofZ row-fits ∙ rated l (end-is at-edge) (at-row .row-rate .ensures);
+      so-far = toZ-ofZ row-fits ∙ rated l (end-is at-edge) (at-row .row-rate .ensures .0);
+      count = ap (λ (j : ℕ). j + 1) (l .loop .inv .count);
+      noted = noted l (end-is at-edge) (at-row .row-rate .ensures .1);
     }
 
 -- no further band is met
@@ -305,23 +340,29 @@ module _ (at-last : tie.Else1 Inv-loop μ-loop) where
   last-is = high-is (at-high last) ∙ sym (high-stays (M (entry last)) (k last) none-next)
 
 row-rate-requires-2 : tie.Need-row-rate-requires-2 Inv-loop μ-loop
-row-rate-requires-2 at-arg κs = row-asked (last (at-arg .before)) (last-is (at-arg .before))
+row-rate-requires-2 at-arg κs =
+    let at-last = at-arg .before .before in
+    let l = last at-last in
+    ((row-asked l (last-is at-last), chosen (entry l)), known l (last-is at-last))
 
 returns-2 : tie.Need-returns-2 Inv-loop μ-loop
 unfolding rate
 returns-2 at-return =
     let at-row = at-return .before in
-    let at-last = at-row .before .before in
+    let at-last = at-row .before .before .before in
     let l = last at-last in
     let at-start = entry l in
     let wf = asked at-start .plant .sheet in
     let row-fits : SFits w64 (at-row .row-rate2 .result .change) = search needs in
     let all : k l + 1 + (bands (v at-start) - (k l + 1)) ≡ bands (v at-start) = omega (arith, l .loop .inv .among) in (
       toZ-ofZ row-fits
-          ∙ (rated l (last-is at-last) (at-row .row-rate2 .ensures)
+          ∙ (rated l (last-is at-last) (at-row .row-rate2 .ensures .0)
           ∙ sym (rw all at (unmet-stays (M at-start) (B at-start) (at-start .args .up) (at-start .args .i) (cap-low wf (at-start .args .i) (asked at-start .var)) (k l + 1) (bands (v at-start) - (k l + 1))
           (λ j h. unmet-behind wf (k l + 1) j (none-next at-last) (omega arith))))),
-      cutting-ends (M at-start) (k l) (B at-start) (var-is at-start) (room at-start) (part-is l (last-is at-last)) (high-stays (M at-start) (k l) (none-next at-last)) (low-is (at-high l)),
+      (
+        cutting-ends (M at-start) (k l) (B at-start) (var-is at-start) (room at-start) (part-is l (last-is at-last)) (high-stays (M at-start) (k l) (none-next at-last)) (low-is (at-high l)),
+        noted l (last-is at-last) (at-row .row-rate2 .ensures .1),
+      ),
     )
 
 pub rate-spec : {M : Type 1} → statement M
@@ -344,6 +385,7 @@ rate-spec =
     (λ c. search (needs, up32))
     neutral-requires
     first-band-requires
+    band-number-requires
     loop-holds
     (λ at-loop κs. omega (arith, ends (entry at-loop), asked (entry at-loop) .plant .sheet .bands-high))
     (λ in-turn. omega (arith, near (turn in-turn)))
@@ -362,11 +404,12 @@ rate-spec =
     (λ below. let at-edge = edged (below .before .before) in rw (one-more at-edge) (edge-fits at-edge))
     (λ below. omega (arith, room (entry (there (below .before .before)))))
     (λ below. omega (arith, room (entry (there (below .before .before)))))
+    add-number
     loop-less
     loop-again
     (λ at-last. omega (arith, room (entry (last at-last))))
     (λ at-last. omega (arith, room (entry (last at-last))))
     row-rate-requires-2
-    (λ at-row. omega (arith, room (entry (last (at-row .before .before)))))
-    (λ at-row. omega (arith, room (entry (last (at-row .before .before)))))
+    (λ at-row. omega (arith, room (entry (last (at-row .before .before .before)))))
+    (λ at-row. omega (arith, room (entry (last (at-row .before .before .before)))))
     returns-2)

@@ -1,112 +1,18 @@
--- `rates` writes the rates of all faces, as a box. Invariant: after i turns, those of the first i variables; the working box is as
--- it was. Measure: the variables left. Assumes nothing.
-use mathlib.Core.Path.{_≡_, refl, ap, _∙_}
-use mathlib.Core.List.{List}
-use Prim.Native.Nat.{ℕ, _≤_, _-_}
-use native.Mathlib.Omega.{arith}
-use mathlib.Core.Bool.{Bool, true, false}
-use lib.IntN.{ℤ}
-use mir.Facts.{toZ-ofZ}
-use mir.Syntax.{w64}
-use mir.Val.{SFits}
+-- `rates` writes the rates of all faces, as a box, by the case that the plant's law asks for. Assumes nothing.
+use mathlib.Core.Path.{sym, _∙_}
 use borrow.Author.Needs.{needs}
-use Rattle.sheet_spec.specs.Slots.{N, vars}
-use Rattle.machine_spec.specs.Box.{boxOf}
-use Rattle.machine_spec.specs.Machine.{Machine, machine, varsOf}
-use Rattle.machine_spec.specs.Rate.{faceRate, rates}
-use Rattle.boxes_rates.specs.Limits.{RatesAsked}
-use Rattle.machine_spec.proofs.Box.{sides-more}
 use Rattle.boxes_rates.proofs.rate.rates.Statement.{statement}
 use Rattle.boxes_rates.proofs.rate.rates.Tie as tie
 
--- F is the working box, E at first, and R has the rates of the first i variables
-record Invariant (m : Machine) (S : List ℤ) (k : ℕ) (E F R : List ℤ) (i : ℕ) : Type 0 where
-  turns : i ≤ varsOf m
-  room : varsOf m ≤ N
-  work : F ≡ E
-  rated : R ≡ boxOf i (faceRate false m S k E) (faceRate true m S k E)
+following-rates-requires : tie.Need-following-rates-requires
+following-rates-requires c κs =
+    let at-then = c .before .before in
+    (at-then .before .before .pre, sym (at-then .before .follows-state .ensures) ∙ at-then .if1 .taken)
 
-abbrev Inv-loop : tie.InvT-loop
-Inv-loop plant sheet start ticks work₀ rates₀ i₀ work rates i = Invariant (machine sheet (plant .law)) start ticks work₀ work rates i
-
-abbrev μ-loop : tie.MeasureT-loop
-μ-loop plant sheet start ticks work₀ rates₀ i₀ work rates i = plant .n - i
-
-loop-holds : tie.Need-loop-holds Inv-loop μ-loop
-unfolding boxOf
-loop-holds at-zeros = record { turns = omega arith; room = omega (arith, at-zeros .before .pre .plant .sheet .vars-high); work = refl; rated = refl }
-
-module _ (at-loop : tie.At-loop Inv-loop μ-loop) where
-  abbrev at-start : tie.Start Inv-loop μ-loop
-  at-start = at-loop .before .before
-
-  abbrev M : Machine
-  M = machine (at-start .args .sheet .now) (at-start .args .plant .law)
-
-  abbrev E : List ℤ
-  E = at-start .args .work .now
-
-  -- the rate of a face of variable i with the working box F
-  abbrev face : Bool → List ℤ → ℤ
-  face up F = faceRate up M (at-start .args .start .now) (at-start .args .ticks) F (at-loop .loop .i)
-
-  -- it is asked for with the working box as it was
-  asked : {F : List ℤ} → F ≡ E → RatesAsked (at-start .args .plant) (at-start .args .sheet .now) (at-start .args .start .now) (at-start .args .ticks) F
-  asked same = let before = at-start .pre in record { plant = before .plant; ticks = before .ticks; start = before .start; holds = rw same (before .holds); work = rw same (before .work) }
-
--- after the lower face
-module _ (at-lower : tie.After-face-rate Inv-loop μ-loop) where
-  abbrev loop : tie.At-loop Inv-loop μ-loop
-  loop = at-lower .before .before .before .before
-
-  same-work : at-lower .face-rate .last .1 .1 .1 .1 .1 .0 ≡ E loop
-  same-work = at-lower .face-rate .ensures .1 ∙ loop .loop .inv .work
-
-face-rate-requires : tie.Need-face-rate-requires Inv-loop μ-loop
-face-rate-requires in-turn κs = let at-loop = in-turn .before .before .before in (asked at-loop (at-loop .loop .inv .work), omega (arith, at-start at-loop .pre .plant .n))
-
-face-rate-requires-2 : tie.Need-face-rate-requires-2 Inv-loop μ-loop
-face-rate-requires-2 after-lower κs = let at-lower = after-lower .before in (asked (loop at-lower) (same-work at-lower), omega (arith, at-start (loop at-lower) .pre .plant .n))
-
-loop-again : tie.Need-loop-again Inv-loop μ-loop
-loop-again at-upper =
-    let at-lower = at-upper .before .before in
-    let inv = loop at-lower .loop .inv in
-    let upper-fits : SFits w64 (at-upper .face-rate2 .result) = search needs in
-    let lower-fits : SFits w64 (at-lower .face-rate .result) = search needs in
-    record {
-      turns = omega (arith, at-start (loop at-lower) .pre .plant .n);
-      room = inv .room;
-      work = at-upper .face-rate2 .ensures .1 ∙ same-work at-lower;
-      rated =
-          sides-more (loop at-lower .loop .i) _ _ (inv .rated)
-          (toZ-ofZ lower-fits ∙ (at-lower .face-rate .ensures .0 ∙ ap (face (loop at-lower) false) (inv .work)))
-          (toZ-ofZ upper-fits ∙ (at-upper .face-rate2 .ensures .0 ∙ ap (face (loop at-lower) true) (same-work at-lower)));
-    }
-
-returns : tie.Need-returns Inv-loop μ-loop
-unfolding rates
-returns at-return =
-    let at-loop = at-return .before .before in
-    let inv = at-loop .loop .inv in
-    let all : at-loop .loop .i ≡ vars (at-start at-loop .args .sheet .now) = omega (arith, inv .turns, at-start at-loop .pre .plant .n) in
-    (rw all at (inv .rated), inv .work)
+fixed-rates-requires : tie.Need-fixed-rates-requires
+fixed-rates-requires c κs =
+    let at-else = c .before .before in
+    (at-else .before .before .pre, sym (at-else .before .follows-state .ensures) ∙ at-else .if1 .left)
 
 pub rates-spec : {M : Type 1} → statement M
-rates-spec =
-    tie.close
-    (tie.spec
-    Inv-loop
-    μ-loop
-    loop-holds
-    (λ c. omega arith)
-    face-rate-requires
-    (λ c. omega arith)
-    (λ c. omega arith)
-    face-rate-requires-2
-    (λ c. omega arith)
-    (λ c. omega arith)
-    (λ c. omega arith)
-    (λ c. omega arith)
-    loop-again
-    returns)
+rates-spec = tie.close (tie.spec (λ c κs. search needs) following-rates-requires fixed-rates-requires (λ c. search needs) (λ c. search needs))

@@ -17,6 +17,7 @@ use Rattle.machine_spec.specs.Machine.{Machine, machine, rowOf, change}
 use Rattle.machine_spec.specs.Rate.{bound, offeredOver, outer}
 use Rattle.boxes_arithmetic.specs.Limits.{limit}
 use Rattle.boxes_rates.specs.Limits.{BandAsked}
+use Rattle.boxes_rates.specs.Plant.{Chosen}
 use Rattle.boxes_arithmetic.proofs.Bounds.{wide}
 use Rattle.machine_spec.proofs.Facts.{cap-near}
 use Rattle.boxes_rates.proofs.rate.row_rate.Statement.{statement}
@@ -30,7 +31,10 @@ module _ (at-start : tie.Start) where
   M = machine v (at-start .args .plant .law)
 
   asked : BandAsked (at-start .args .plant) v (at-start .args .over .now) (at-start .args .i) (at-start .args .band) (at-start .args .outermost)
-  asked = at-start .pre
+  asked = at-start .pre .0 .0
+
+  chosen : Chosen (at-start .args .follows) (at-start .args .n) (at-start .args .plant) v
+  chosen = at-start .pre .0 .1
 
   -- the slot of the row
   place : at-start .args .band + firstRow + at-start .args .i * rowSize + rowSize ≤ slots
@@ -41,21 +45,23 @@ module _ (at-start : tie.Start) where
   row-is k p = ap (λ (j : ℕ). rowAt v (j + firstRow + at-start .args .i * rowSize)) p
 
 command-term-requires : tie.Need-command-term-requires
-command-term-requires at-start κs =
+command-term-requires at-call κs =
+    let at-start = at-call .before in
     let band = asked at-start in
-    record { plant = band .plant; room = place at-start; sides = band .sides; slot = band .slot }
+    ((record { plant = band .plant; room = place at-start; sides = band .sides; slot = band .slot }, chosen at-start), at-start .pre .1)
 
 bound-requires : tie.Need-bound-requires
 bound-requires at-term κs =
-    let at-start = at-term .before in
+    let at-start = at-term .before .before in
     let band = asked at-start in
-    let near = at-term .command-term .ensures .near in
-    (record { vars = omega (arith, band .plant .n, band .plant .sheet .vars-high); place = place at-start; sides = subst (λ (n : ℕ). Sized n limit (at-start .args .over .now)) (sym (band .plant .n)) (band .sides) }, rw (toZ-ofZ (fits64 near tt)) near)
+    let n-is = chosen at-start .n-is in
+    let near = at-term .command-term .ensures .0 .near in
+    (record { vars = omega (arith, n-is, band .plant .sheet .vars-high); place = place at-start; sides = subst (λ (n : ℕ). Sized n limit (at-start .args .over .now)) (sym n-is) (band .sides) }, rw (toZ-ofZ (fits64 near tt)) near)
 
 further-requires : tie.Need-further-requires
 further-requires at-cap κs =
     let at-bound = at-cap .before in
-    let at-start = at-bound .before .before in
+    let at-start = at-bound .before .before .before in
     let band = asked at-start in
     let near = at-bound .bound .ensures .near in
     record {
@@ -70,23 +76,25 @@ returns at-return =
     let at-cap = at-return .before in
     let at-bound = at-cap .before in
     let at-term = at-bound .before in
-    let at-start = at-term .before in
+    let at-start = at-term .before .before in
     let a = at-start .args in
-    let term = at-term .command-term .ensures in
+    let term = at-term .command-term .ensures .0 in
     let bounded = at-bound .bound .ensures in
-    let B = a .over .now in
-    record {
-      same = λ k p.
-          let least = offeredOver false (M at-start) k B in
-          let greatest = offeredOver true (M at-start) k B in
-          let number-is =
-          bounded .same least greatest (toZ-ofZ (fits64 (term .near) tt) ∙ term .same k p)
-          ∙ ap (λ (n : ℕ). bound (a .up) n (rowAt (v at-start) (a .band + firstRow + a .i * rowSize)) B least greatest) (asked at-start .plant .n) in
-          (at-return .further .ensures .0
-          ∙ rw (toZ-ofZ (fits64 (bounded .near) tt), number-is) (simp (wide, at-cap .further-arg .given, toZ-ofZ, at-start .fits .outermost)
-          (ap (λ (r : Row). outer (a .up) (a .outermost) (change (a .up) (cap (v at-start) (a .i)) r (bound (a .up) (vars (v at-start)) r B least greatest))) (row-is at-start k p))));
-      limit = λ e. at-return .further .ensures .1 e ∙ simp (wide, at-cap .further-arg .given);
-    }
+    let B = a .over .now in (
+      record {
+        same = λ k p.
+            let least = offeredOver false (M at-start) k B in
+            let greatest = offeredOver true (M at-start) k B in
+            let number-is =
+            bounded .same least greatest (toZ-ofZ (fits64 (term .near) tt) ∙ term .same k p)
+            ∙ ap (λ (n : ℕ). bound (a .up) n (rowAt (v at-start) (a .band + firstRow + a .i * rowSize)) B least greatest) (chosen at-start .n-is) in
+            (at-return .further .ensures .0
+            ∙ rw (toZ-ofZ (fits64 (bounded .near) tt), number-is) (simp (wide, at-cap .further-arg .given, toZ-ofZ, at-start .fits .outermost)
+            (ap (λ (r : Row). outer (a .up) (a .outermost) (change (a .up) (cap (v at-start) (a .i)) r (bound (a .up) (vars (v at-start)) r B least greatest))) (row-is at-start k p))));
+        limit = λ e. at-return .further .ensures .1 e ∙ simp (wide, at-cap .further-arg .given);
+      },
+      at-term .command-term .ensures .1,
+    )
 
 pub row-rate-spec : {M : Type 1} → statement M
 row-rate-spec =
