@@ -5,8 +5,8 @@
 //! Times are told and not judged, since they vary with the machine. What is judged is that the two
 //! answer alike and how many instructions the guard takes: for a round at n up to 4 with several bands no
 //! more than before a change was compared with its cap first; for a round at n = 6 with eight bands, `BD`
-//! and `BF`, at most 1.1 times the second guard's, in the worst cases at most what it takes today; for
-//! reading a sheet at most 1.25 times the second guard's. The last line is `N passed, M failed`.
+//! and `BF`, also in the worst cases, at most 1.1 times the second guard's; for reading a sheet at most
+//! 1.25 times the second guard's. The last line is `N passed, M failed`.
 
 use matching::archive::{self, sheet_archive::SheetArchive};
 use matching::expected;
@@ -412,14 +412,12 @@ fn random_sheets(variables: &[usize], kind: Kind) -> Asked {
 }
 
 /// The worst cases: the case, how many rounds of it are counted by instructions, and the most of one.
-/// 1.1 times is asked for at n 6; what is judged is what the guard takes today, a little more with
-/// `BD`, and with `BF` more than half as much again (docs/PERFORMANCE.md).
 type Worst = (fn() -> Case, u32, Most);
 
 const WORST_CASES: [Worst; 3] = [
     (worst_case, 2_000, Most::Any),
-    (|| worst_case_of(Kind::Fixed), 2_000, Most::Times(1.12)),
-    (|| worst_case_of(Kind::Following), 2_000, Most::Times(1.6)),
+    (|| worst_case_of(Kind::Fixed), 2_000, Most::Times(1.1)),
+    (|| worst_case_of(Kind::Following), 2_000, Most::Times(1.1)),
 ];
 
 /// A worst case's name, and its sheet and question with an allowance.
