@@ -1,6 +1,8 @@
 // The reach (document 01, "One lifted step"): the boxes that hold every state that the machine can reach in a number of ticks from
 // a start box, under a law. `reach` is the public operation on any bytes. The definitions are in boxes_spec/specs/Reach.
 // What may be asked is tested in `boxes_refusals`.
+#![tactic(auto)]
+
 ghost use Rattle.std.specs.Prelude.{◌≡◌};
 ghost use Rattle.sheet_spec.specs.Valid.{ValidNumbers};
 ghost use Rattle.boxes_spec.specs.Reach as spec;
@@ -18,7 +20,7 @@ use sheet_encoding::count;
 use sheet_spec::slots::{BOX_SIZE, SLOTS, VARS};
 
 // A refusal number, or 0 with the two boxes and the rounds.
-#[derive(Drop)]
+#[derive(Clone, Copy)]
 pub struct ReachAnswer {
     pub refusal: u8,
     pub end: [i64; BOX_SIZE],

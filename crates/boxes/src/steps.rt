@@ -34,7 +34,7 @@ pub fn plant(sheet: &[i32; SLOTS], law: Law) -> Plant
 }
 
 // How a reach goes: a budget of rounds, the machine, the number of no-go boxes that are tested, the width.
-#[derive(Drop)]
+#[derive(Clone, Copy)]
 pub struct ReachPlan {
     pub budget: Budget,
     pub plant: Plant,
@@ -43,7 +43,7 @@ pub struct ReachPlan {
 }
 
 // What a tested step or a reach came to, with the count of rounds after it. The boxes are lent beside it.
-#[derive(Drop)]
+#[derive(Clone, Copy)]
 pub enum ReachResult {
     // the ticks that it covers
     Ended {

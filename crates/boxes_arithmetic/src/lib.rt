@@ -2,6 +2,8 @@
 // positive ones, rounded outward and clamped (document 01, "The machine on a sheet"; document 02, paper 6: compared first, and divided
 // only where nothing is clamped): a change to its cap, a command of the plain law to the safety range. The definitions are in integers/specs/Division, machine_spec/specs/Machine and
 // machine_spec/specs/Rate, the law that makes comparisons of the clamp in machine_spec/specs/Clamped.
+#![tactic(auto)]
+
 ghost use Rattle.std.specs.Prelude.{◌≡◌, true, not, ◌&&◌, nat_abs, neg_ℤ, ◌*ℤ◌, ◌<ℤ◌};
 ghost use Rattle.std.specs.Int.Signed.{le_z};
 ghost use Rattle.integers.specs.Order.{min_z, max_z};
@@ -57,7 +59,7 @@ pub fn ceil_div(cap: i64, dividend: i64, divisor: i64) -> i64
 }
 
 // The outermost change so far, and whether it is known to be the cap, beyond which no change goes.
-#[derive(Drop)]
+#[derive(Clone, Copy)]
 pub struct Outermost {
     pub change: i64,
     pub capped: bool,

@@ -1,6 +1,8 @@
 // Why a reach is refused (document 01, "Refused calls"): 16 its ticks or its width, 14 its commands, 15 its start box. A question
 // is refused for the last two as well, with the same numbers. The definitions are in boxes_spec/specs/Reach; the sheet's own
 // refusals are in `sheet_spec`.
+#![tactic(auto)]
+
 ghost use Rattle.std.specs.Prelude.{◌≡◌, ◌≤◌};
 ghost use Rattle.sheet_spec.specs.Slots as slots;
 ghost use Rattle.boxes_spec.specs.Reach.{in_range, law_refusal, reach_refusal, sides_refusal, ticks_refusal};

@@ -1,6 +1,8 @@
 // One lifted step (document 01, "One lifted step"): rounds of a length until the working box settles, and half the length
 // if it does not within eight. Boxes are lent, and changed in place. The definitions are in boxes_spec/specs/Step;
 // specs/StepResult says what an answer of the code means in their terms.
+#![tactic(auto)]
+
 ghost use Rattle.std.specs.Prelude.{◌*◌, ◌≡◌};
 ghost use Rattle.sheet_spec.specs.Slots as slots;
 ghost use Rattle.machine_spec.specs.Machine.{machine};
@@ -14,14 +16,14 @@ use boxes_shape::motion::grow;
 use sheet_spec::slots::{BOX_SIZE, SLOTS};
 
 // A round is due only while the count is not the allowance, if there is one.
-#[derive(Drop)]
+#[derive(Clone, Copy)]
 pub struct Budget {
     pub limited: bool,
     pub allowance: u32,
 }
 
 // What rounds or a step came to, with the count of rounds after them. The rates of the last round are lent beside it.
-#[derive(Drop)]
+#[derive(Clone, Copy)]
 pub enum StepResult {
     // the ticks that it covers
     Settled { ticks: usize, count: u32 },

@@ -1,5 +1,7 @@
 // Runs the checks of documents 01 and 02 on the reader and the writer of sheets that are run and not proved.
 // Each writes a line: what is checked, and the answer.
+#![tactic(auto)]
+
 ghost use Rattle.std.specs.Prelude.{◌<◌};
 
 mod feedback;

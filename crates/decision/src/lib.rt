@@ -1,6 +1,8 @@
 // The decision and the recovery check (document 01, "The decision") on any bytes. What they answer is equal to the definitions
 // in decision_spec/specs/Decision.antt; safety/specs/Run.antt says what these are for, that every run of the machine is safe. The
 // attempts at ever smaller widths are in `decision_attempt`, a question's bytes in `decision_question`.
+#![tactic(auto)]
+
 ghost use Rattle.std.specs.Prelude.{◌≡◌, ◌≤◌, max};
 ghost use Rattle.sheet_spec.specs.Slots.{recovery_box, vars};
 ghost use Rattle.sheet_spec.specs.Valid.{ValidNumbers};

@@ -1,6 +1,8 @@
 // The answers of the decision and of the recovery check (document 01, "The decision"): their cases, and the one 64-bit number
 // that the C interface gives for each. The definitions are in decision_spec/specs/Decision; specs/Decision and
 // specs/Recovery say what a case means in their terms.
+#![tactic(auto)]
+
 ghost use Rattle.std.specs.Prelude.{◌≡◌, ℕ, ◌+◌, ◌*◌, ◌^◌, ◌≤◌};
 ghost use Rattle.sheet_spec.specs.Limits.{max_width};
 ghost use Rattle.decision_spec.specs.Decision.{answered, packed, refused, spent, width_of, is_keep};
@@ -8,7 +10,7 @@ ghost use Rattle.decision_answers.specs.Recovery.{check_reply_of};
 ghost use Rattle.decision_answers.specs.Decision.{reply_of};
 
 // A decision: a verdict with the width and the rounds over all widths, or the number of a refusal.
-#[derive(Drop)]
+#[derive(Clone, Copy)]
 pub enum Decision {
     Keep { width: u32, rounds: u32 },
     Finest { width: u32, rounds: u32 },
@@ -17,7 +19,7 @@ pub enum Decision {
 }
 
 // A recovery check's answer, likewise.
-#[derive(Drop)]
+#[derive(Clone, Copy)]
 pub enum Recovery {
     Pass { width: u32, rounds: u32 },
     Fail { width: u32, rounds: u32 },

@@ -1,6 +1,8 @@
 // Attempts (document 01, "The decision"): reaches under one law after another, at a width, and at ever smaller widths until one
 // attempt ends in the recovery box. The recovery check is made of them too. The definitions are in
 // decision_spec/specs/Decision; specs/AttemptPlan and specs/AttemptResult say what is asked and answered in their terms.
+#![tactic(auto)]
+
 ghost use Rattle.std.specs.Prelude.{◌≡◌, List, ℤ};
 ghost use Rattle.sheet_spec.specs.Slots.{boxes, vars};
 ghost use Rattle.sheet_spec.specs.Valid.{ValidNumbers};
@@ -23,7 +25,7 @@ use sheet_spec::slots::{BOX_SIZE, BOXES, RECOVERY, SLOTS, VARS};
 pub const MAX_PHASES: usize = 2;
 
 // What is attempted: the first `count` of the phases, one after another, within a budget of rounds.
-#[derive(Drop)]
+#[derive(Clone, Copy)]
 pub struct AttemptPlan {
     pub budget: Budget,
     pub phases: [Phase; MAX_PHASES],
@@ -31,7 +33,7 @@ pub struct AttemptPlan {
 }
 
 // Why an attempt failed.
-#[derive(Drop)]
+#[derive(Clone, Copy)]
 pub enum Failure {
     // no length settled; it does not happen
     Unsettled,
@@ -43,7 +45,7 @@ pub enum Failure {
 }
 
 // What an attempt came to, with the count of rounds after it.
-#[derive(Drop)]
+#[derive(Clone, Copy)]
 pub enum AttemptResult {
     Succeeded { count: u32 },
     Failed { why: Failure, count: u32 },

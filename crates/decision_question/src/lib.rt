@@ -3,6 +3,8 @@
 // reads the start box of a reach from its bytes. The definitions are in
 // decision_spec/specs/Question; specs/HeadRead and specs/QuestionRead say what reading gives. Laws and boxes are tested in
 // `boxes_refusals`.
+#![tactic(auto)]
+
 ghost use Rattle.std.specs.Prelude.{◌≡◌, ◌+◌, ◌≤◌, length};
 ghost use Rattle.sheet_spec.specs.Sizes.{box_bytes};
 ghost use Rattle.sheet_spec.specs.Slots as slots;
@@ -37,14 +39,14 @@ const GREATEST_AT: usize = COMMAND_AT + I32;
 pub const LONGEST: usize = GREATEST_AT + I32 + PAIR_BYTES * N;
 
 // What reading gives: a refusal, or 0 and the head.
-#[derive(Drop)]
+#[derive(Clone, Copy)]
 pub struct HeadRead {
     pub refusal: u8,
     pub head: QuestionHead,
 }
 
 // The same with the whole question.
-#[derive(Drop)]
+#[derive(Clone, Copy)]
 pub struct QuestionRead {
     pub question: Question,
     pub refusal: u8,

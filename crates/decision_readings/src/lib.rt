@@ -1,6 +1,8 @@
 // The decision by readings (document 02, paper 1) on any bytes: a sheet, the bytes before a question's pairs, and for the pairs a reading for
 // each variable. What it answers is equal to the definition in decision_spec/specs/Readings.antt: that of the decision on the question with
 // the box that the readings give. No bytes of such a question are made.
+#![tactic(auto)]
+
 ghost use Rattle.std.specs.Prelude.{◌≡◌, ◌≤◌};
 ghost use Rattle.sheet_spec.specs.Refusals.{unless_refused};
 ghost use Rattle.sheet_spec.specs.Valid.{ValidNumbers};

@@ -1,6 +1,8 @@
 // The floor listing (document 01): reads `sheet.bin` and `asks.bin` in the current folder and writes a line for the sheet
 // and, where it passed, one for each question. The lines, which bytes a question has and where the listing ends are proved in
 // `listing`; here bytes are only read and written.
+#![tactic(auto)]
+
 ghost use Rattle.std.specs.Prelude.{◌≡◌, true, ◌+◌, ◌^◌, ◌≤◌, ◌<◌, length};
 ghost use Rattle.io.specs.Counts.{IsPrefixLen};
 ghost use Rattle.listing_text.specs.Limits.{line_room};

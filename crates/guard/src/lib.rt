@@ -1,6 +1,8 @@
 // The C interface (include/guard.h) and nothing else: wrappers around the crates below, each answer one 64-bit number.
 // decision_spec/specs/Calls (of a reach: decision_spec/specs/ReachCall) says what a call answers and what it leaves in a lent
 // buffer or array; no call has a `requires`. The first three are the drive's.
+#![tactic(auto)]
+
 ghost use Rattle.std.specs.Prelude.{◌≡◌};
 ghost use Rattle.sheet_spec.specs.Slots.{slots};
 ghost use Rattle.decision_spec.specs.ReachCall.{reach_call, reach_out};

@@ -1,6 +1,8 @@
 // The reach as a call on bytes: a sheet, a start box as pairs of sides, and a lent buffer for the end box and the swept box. The
 // answer is one 64-bit number. decision_spec/specs/ReachCall says what is answered and what is left in the buffer, for all inputs;
 // `guard` exports it to C.
+#![tactic(auto)]
+
 ghost use Rattle.std.specs.Prelude.{◌≡◌, ◌≤◌};
 ghost use Rattle.sheet_spec.specs.Slots as slots;
 ghost use Rattle.machine_spec.specs.Box.{Near};

@@ -1,6 +1,8 @@
 // The decision by readings as a call: a sheet's bytes, those before a question's pairs, and the readings as two slices, a byte and two
 // floats for each variable. The answer is one 64-bit number. decision_spec/specs/ReadingsCall says what is answered, for all inputs;
 // `guard` exports it to C.
+#![tactic(auto)]
+
 ghost use Rattle.std.specs.Prelude.{◌≡◌, ◌<◌, get_or};
 ghost use Rattle.sheet_spec.specs.Slots as slots;
 ghost use Rattle.decision_spec.specs.ReadingsCall.{reading_in, reading_of, readings_in};

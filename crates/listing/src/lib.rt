@@ -1,6 +1,8 @@
 // The floor listing (document 01) on bytes, step by step: the sheet's line, then a line for each question. A step says how many of the
 // questions' bytes it took, the next question's number, and whether one may follow; a program only reads the files and writes the
 // lines. The steps are equal to those of specs/ListingSteps.antt, whose lines are the listing; `listing_lines` has their text.
+#![tactic(auto)]
+
 ghost use Rattle.std.specs.Prelude.{◌≡◌, ◌+◌, ◌-◌, ◌^◌, ◌≤◌, ◌<◌, length, take, drop};
 ghost use Rattle.sheet_spec.specs.Slots as slots;
 ghost use Rattle.sheet_spec.specs.Sheet.{values};
@@ -23,14 +25,14 @@ use sheet_spec::slots::{SLOTS, VARS};
 pub const QUESTION: usize = LONGEST;
 
 // How far a listing is: the number of the next question, and whether one may follow.
-#[derive(Drop)]
+#[derive(Clone, Copy)]
 pub struct Progress {
     pub ordinal: u64,
     pub more: bool,
 }
 
 // A step's answer: the end of its line, how many of the bytes still to come it took, and how far the listing is then.
-#[derive(Drop)]
+#[derive(Clone, Copy)]
 pub struct Listed {
     pub end: usize,
     pub taken: usize,

@@ -1,6 +1,8 @@
 // The lines of the floor listing (document 01, "The floor listing") over the answers that they tell, as bytes equal to those of
 // decision_spec/specs/Listing.antt. A line is put into a lent array, from its first byte on; the bytes after the line stay as they
 // were.
+#![tactic(auto)]
+
 ghost use Rattle.std.specs.Prelude.{[], ◌∷◌, ◌++◌, ◌+◌, ◌≤◌, length};
 ghost use Rattle.decision_answers.specs.Recovery.{check_reply_of};
 ghost use Rattle.decision_answers.specs.Decision.{reply_of};

@@ -1,6 +1,8 @@
 // Text in a line's buffer: words and numbers, put from a place on. The bytes of a number are its digits, equal to those of
 // decision_spec/specs/Listing.antt. Each answers the place after what it put; the other bytes stay as they were. specs/Limits says how
 // much room each takes.
+#![tactic(auto)]
+
 ghost use Rattle.std.specs.Prelude.{◌∷◌, ◌+◌, ◌≤◌, length};
 ghost use Rattle.decision_spec.specs.Listing.{digits, space};
 ghost use Rattle.listing_text.specs.Limits.{Put, number_room, line_room};

@@ -1,5 +1,7 @@
 // Readings of the new drive (document 02, paper 1): floor and ceiling of a 32-bit float, worked out from its bits, the sides that a
 // reading gives its variable, and the measured box of a list of readings. What they give is equal to the definitions in readings_spec.
+#![tactic(auto)]
+
 ghost use Rattle.std.specs.Prelude.{◌≡◌, cond, true, ◌+◌, ◌-◌, ◌^◌, ◌<◌, ◌≤◌, min, T, pos};
 ghost use Rattle.sheet_spec.specs.Slots as slots;
 ghost use Rattle.readings_spec.specs.Exact.{between, finite, rounded, scaled};
@@ -34,7 +36,7 @@ const DIGITS: u32 = 24;
 const REFUSED: i64 = 844506534510592;
 
 // The parts of a float: its sign, the whole part of its size, and whether nothing else is left.
-#[derive(Drop)]
+#[derive(Clone, Copy)]
 pub struct Parts {
     pub negative: bool,
     pub whole: u32,
@@ -42,7 +44,7 @@ pub struct Parts {
 }
 
 // A refusal, or 0 and the two sides.
-#[derive(Drop)]
+#[derive(Clone, Copy)]
 pub struct Sides {
     pub refusal: u8,
     pub lower: i64,
@@ -50,7 +52,7 @@ pub struct Sides {
 }
 
 // A refusal, or 0 and the measured box.
-#[derive(Drop)]
+#[derive(Clone, Copy)]
 pub struct BoxRead {
     pub measured: [i64; BOX_SIZE],
     pub refusal: u8,

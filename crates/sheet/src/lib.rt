@@ -1,6 +1,8 @@
 // Reading and writing a sheet (document 01, "Sheet layout"). A sheet's value is an array of numbers at named slots (slots).
 // `read` and `write` take any input: what they answer, and what they leave in a buffer, is equal to the definitions in
 // sheet_spec/specs/Sheet.antt.
+#![tactic(auto)]
+
 ghost use Rattle.std.specs.Prelude.{◌≡◌, true, ◌&&◌, leb, length};
 ghost use Rattle.sheet_spec.specs.Slots.{head_size, slots, vars};
 ghost use Rattle.sheet_spec.specs.Fields.{bad};
@@ -18,7 +20,7 @@ use sheet_spec::{BandKind, Record, sizes};
 pub use sheet_spec::{Written, refusals, slots};
 
 // A refusal, or 0 and a sheet's numbers.
-#[derive(Drop)]
+#[derive(Clone, Copy)]
 pub struct Parsed {
     pub refusal: u8,
     pub value: [i32; SLOTS],

@@ -1,6 +1,8 @@
 // How numbers, marks and records are written in a file (document 01, "Sheet layout"): `bytes` reads and writes a number of each width
 // and sign, big-endian, `marks` knows each record's two letters, and `records` which record is where and how long it is. The
 // definitions are in sheet_spec/specs/Fields and sheet_spec/specs/File.
+#![tactic(auto)]
+
 ghost use Rattle.std.specs.Prelude.{◌≡◌, ◌<◌, pos, nat_abs, ◌≤ℤ◌};
 ghost use Rattle.sheet_spec.specs.Slots.{◌!◌, slots};
 

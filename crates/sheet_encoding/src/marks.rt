@@ -8,7 +8,7 @@ ghost use Rattle.sheet_spec.specs.File.{marked};
 use sheet_spec::{BandKind, Record};
 
 // The letters that a record starts with.
-#[derive(Drop)]
+#[derive(Clone, Copy)]
 pub struct Mark {
     pub first: u8,
     pub second: u8,

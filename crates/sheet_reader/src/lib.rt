@@ -1,6 +1,8 @@
 // The records of a file, read to the slots of a sheet's value (document 01, "Sheet layout"): head, bands, boxes, each by its
 // fields in the file's order. `sheet::read_zeroed` puts them together; what is read is equal to `filled_all` in
 // sheet_spec/specs/File.
+#![tactic(auto)]
+
 ghost use Rattle.std.specs.Prelude.{◌≡◌, ℕ, ◌+◌, ◌≤◌, ◌<◌, length};
 ghost use Rattle.sheet_spec.specs.Limits.{max_bands};
 ghost use Rattle.sheet_spec.specs.Slots.{N, head_size, law_size, row_size, box_size, slots, vars};

@@ -1,6 +1,8 @@
 // A sheet's format (document 01, "Sheet layout"): what a file says, its refusal number, the bytes of a value, as definitions; and
 // what follows of them, as the length formula and that reading and writing undo each other. Beside them the names of slots,
 // sizes and refusals and the types of a file's counts and records and of a comparison, which all code uses. `sheet` has the operations.
+#![tactic(auto)]
+
 
 pub mod limits;
 pub mod refusals;
@@ -9,14 +11,14 @@ pub mod slots;
 
 // What a sheet's bands have for a plain law (document 02, paper 9): the whole safety range everywhere (`BD`), or a law that follows the
 // state, clamped to the safety range (`BF`).
-#[derive(Drop)]
+#[derive(Clone, Copy)]
 pub enum BandKind {
     Fixed,
     Feedback,
 }
 
 // The counts that a file's records depend on, and the kind of its bands.
-#[derive(Drop)]
+#[derive(Clone, Copy)]
 pub struct Shape {
     pub vars: usize,
     pub bands: usize,
@@ -25,7 +27,7 @@ pub struct Shape {
 }
 
 // A record of a file: the head, band k of a kind, no-go box j, the recovery box.
-#[derive(Drop)]
+#[derive(Clone, Copy)]
 pub enum Record {
     Head,
     Band(BandKind, usize),
@@ -34,7 +36,7 @@ pub enum Record {
 }
 
 // How two numbers or two boxes compare.
-#[derive(Drop)]
+#[derive(Clone, Copy)]
 pub enum Comparison {
     Less,
     Equal,
@@ -42,7 +44,7 @@ pub enum Comparison {
 }
 
 // A refusal, or 0 and how many bytes were written.
-#[derive(Drop)]
+#[derive(Clone, Copy)]
 pub struct Written {
     pub refusal: u8,
     pub length: usize,

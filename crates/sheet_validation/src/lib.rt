@@ -1,6 +1,8 @@
 // The tests of a sheet's numbers (document 01, "Sheet layout"), in the file's order, over the value: reader and writer share
 // them. Each gives 0, or the refusal of the first number out of range. The definitions are in sheet_spec/specs/Layout: each field
 // has its range and its cause; and in sheet_spec/specs/File: the test of a record as a whole.
+#![tactic(auto)]
+
 ghost use Rattle.std.specs.Prelude.{◌≡◌, true, ◌+◌, ◌≤◌, ◌<◌};
 ghost use Rattle.integers.specs.Bound.{Bound};
 ghost use Rattle.sheet_spec.specs.Limits.{max_bands};

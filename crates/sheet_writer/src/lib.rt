@@ -1,6 +1,8 @@
 // A sheet's value written to a buffer (document 01, "Sheet layout"): the tests of the value, the room, and then every record,
 // each in the part of the buffer that starts at its place. `sheet::write` puts them together. The definitions are in
 // sheet_spec/specs/Sheet.
+#![tactic(auto)]
+
 ghost use Rattle.std.specs.Prelude.{◌≡◌, ◌≤◌, length};
 ghost use Rattle.std.proofs.lemmas.List.Edits.{sets};
 ghost use Rattle.sheet_spec.specs.File.{Small, records, record_start, coded_all};

@@ -10,7 +10,7 @@ use Rattle.sheet_spec.specs.Slots.{◌!◌}
 use Rattle.sheet_encoding.proofs.count.Statement.{statement}
 use Rattle.sheet_encoding.proofs.count.Tie as tie
 
-cast_result : tie.Need-overflow-cast-result
+cast_result : tie.Need-overflow_cast-result
 cast_result c = let z = c.before.args.v.now ! c.before.args.slot in
     let f : SFits w32 z = search rules in
     let h = high w32 z c.before.requires.1 f in

@@ -23,10 +23,10 @@ lo c = let f = x_fits c.before in low w32 (x c.before) (omega ints) f
 hi : (c : tie.Else1) → High w32 (x c.before)
 hi c = let f = x_fits c.before in high w32 (x c.before) (omega ints) f
 
-sub_result : tie.Need-overflow-sub-result
+sub_result : tie.Need-overflow_sub-result
 sub_result c = simp (to_z-of_z, x_fits c.before) (lo c).ranges
 
-cast_result : tie.Need-overflow-cast-result
+cast_result : tie.Need-overflow_cast-result
 cast_result c = simp (to_z-of_z, x_fits c.before, (lo c).ranges) ((lo c).sign, (lo c).size)
 
 sub_result_2 : tie.Need-overflow-sub-result-2

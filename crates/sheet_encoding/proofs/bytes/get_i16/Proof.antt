@@ -10,7 +10,7 @@ use Rattle.sheet_spec.specs.Fields.{decoded}
 use Rattle.sheet_encoding.proofs.bytes.get_i16.Statement.{statement}
 use Rattle.sheet_encoding.proofs.bytes.get_i16.Tie as tie
 
-sub_result : tie.Need-overflow-sub-result
+sub_result : tie.Need-overflow_sub-result
 sub_result c = extended_fits c.two.result c.two.ensures.1
 
 returns : tie.Need-returns

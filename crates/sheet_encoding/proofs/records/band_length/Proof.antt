@@ -5,13 +5,13 @@ use Rattle.sheet_encoding.proofs.RecordTurn.{law_most, rows_most}
 use Rattle.sheet_encoding.proofs.records.band_length.Statement.{statement}
 use Rattle.sheet_encoding.proofs.records.band_length.Tie as tie
 
-add_result : tie.Need-overflow-add-result
+add_result : tie.Need-overflow_add-result
 add_result c = omega (arith, c.law_bytes_lem.ensures, law_most c.before.args.kind _ c.before.requires)
 
-mul_result_2 : tie.Need-overflow-mul-result-2
+mul_result_2 : tie.Need-overflow_mul-result-2
 mul_result_2 c = omega (arith, rows_most _ c.before.requires)
 
-add_result_3 : tie.Need-overflow-add-result-3
+add_result_3 : tie.Need-overflow_add-result-3
 add_result_3 c = omega (arith, c.law_bytes_lem.ensures, law_most c.before.args.kind _ c.before.requires, rows_most _ c.before.requires)
 
 pub band_length_spec : {M : Type 1} → statement M

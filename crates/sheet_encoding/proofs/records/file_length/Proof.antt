@@ -32,20 +32,20 @@ module _ (s : Shape) (l : Small s) where
     whole : caps_at + cap_bytes s.vars + s.bands * b + (letters + box_bytes s.vars) * (s.boxes + 1) ≡ record_start s (records s)
     whole = ap (λ (b : ℕ). caps_at + cap_bytes s.vars + s.bands * b + (letters + box_bytes s.vars) * (s.boxes + 1)) is ∙ sym (file_length s)
 
-mul_result_2 : tie.Need-overflow-mul-result-2
-mul_result_2 c = let d = c.before in omega (arith, all_bands _ d.before.requires d.band-length.ensures)
+mul_result_2 : tie.Need-overflow_mul-result-2
+mul_result_2 c = let d = c.before in omega (arith, all_bands _ d.before.requires d.band_length.ensures)
 
-add_result_2 : tie.Need-overflow-add-result-2
-add_result_2 c = let d = c.before in omega (arith, all_bands _ d.before.requires d.band-length.ensures)
+add_result_2 : tie.Need-overflow_add-result-2
+add_result_2 c = let d = c.before in omega (arith, all_bands _ d.before.requires d.band_length.ensures)
 
-mul_result_4 : tie.Need-overflow-mul-result-4
+mul_result_4 : tie.Need-overflow_mul-result-4
 mul_result_4 c = let d = c.before.before in omega (arith, all_boxes _ d.before.requires)
 
-add_result_5 : tie.Need-overflow-add-result-5
-add_result_5 c = let d = c.before.before in omega (arith, all_bands _ d.before.requires d.band-length.ensures, all_boxes _ d.before.requires)
+add_result_5 : tie.Need-overflow_add-result-5
+add_result_5 c = let d = c.before.before in omega (arith, all_bands _ d.before.requires d.band_length.ensures, all_boxes _ d.before.requires)
 
 returns : tie.Need-returns
-returns c = let d = c.before.before in whole _ d.before.requires d.band-length.ensures
+returns c = let d = c.before.before in whole _ d.before.requires d.band_length.ensures
 
 pub file_length_spec : {M : Type 1} → statement M
 file_length_spec =

@@ -11,7 +11,7 @@ returns : tie.Need-returns
 returns c =
     let v = c.before.before.args.v.now in
     let with : BandKind → Shape = λ b. record { vars = vars v; bands = bands v; boxes = boxes v; kind = b } in
-    (c.shape-with.ensures.0 ∙ ap with c.before.band-kind.ensures, c.shape-with.ensures.1)
+    (c.shape_with.ensures.0 ∙ ap with c.before.band_kind.ensures, c.shape_with.ensures.1)
 
 pub shape_of_spec : {M : Type 1} → statement M
 shape_of_spec = tie.close (tie.spec (λ c κs. search rules) (λ c κs. search rules) returns)

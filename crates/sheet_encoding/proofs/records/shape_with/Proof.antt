@@ -18,11 +18,11 @@ returns c =
     let b = c.before in
     let a = b.before in
     let m = (counts _ a.before.requires).small in (
-      λ i. record { vars = a.count.ensures i; bands = b.count2.ensures i; boxes = c.count3.ensures i; kind = a.before.args.kind },
+      λ i. record { vars = a.count.ensures i; bands = b.count-2.ensures i; boxes = c.count-3.ensures i; kind = a.before.args.kind },
       record {
         vars = omega (arith, a.count.ensures, m.vars);
-        bands = omega (arith, b.count2.ensures, m.bands);
-        boxes = omega (arith, c.count3.ensures, m.boxes);
+        bands = omega (arith, b.count-2.ensures, m.bands);
+        boxes = omega (arith, c.count-3.ensures, m.boxes);
       },
     )
 
