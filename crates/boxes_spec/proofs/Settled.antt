@@ -115,7 +115,7 @@ pub data StepsTo (m : Machine) (clear : List ℤ → Bool) (w : ℕ) (q : Place)
   here : StepsTo m clear w q q
   next : {p : Place} {t : Step} → Settled m p.box (min w p.left) t → clear (swept m p.box t) ≡ true → StepsTo m clear w q (after_step m p t) → StepsTo m clear w q p
 
-pub steps_less : {m : Machine} {clear : List ℤ → Bool} {w : ℕ} {p q : Place} → StepsTo m clear w q p → q.left ≤ p.left
+pub steps_less : {m : Machine} {clear : List ℤ → Bool} {w : ℕ} {q p : Place} → StepsTo m clear w q p → q.left ≤ p.left
 steps_less {q} here = le_refl q.left
 steps_less (next s k r) = omega (arith, steps_less r)
 

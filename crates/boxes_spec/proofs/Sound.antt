@@ -178,7 +178,7 @@ module _ {m : Machine} (room : vars_of m ≤ N) {clear : List ℤ → Bool} (p q
     ends = λ x b f. r.ends (later x t.ticks) (onward x b d f) (later_ticks x t.ticks d f);
   }
 
-pub steps_contain : {m : Machine} {clear : List ℤ → Bool} {w : ℕ} {p q : Place} → ValidNumbers m.sheet → StepsTo m clear w q p → Contains m clear p q (p.left - q.left)
+pub steps_contain : {m : Machine} {clear : List ℤ → Bool} {w : ℕ} {q p : Place} → ValidNumbers m.sheet → StepsTo m clear w q p → Contains m clear p q (p.left - q.left)
 steps_contain {m} {clear} {q} wf here = let e : 0 ≡ q.left - q.left = omega arith in subst (Contains m clear q q) e (contains_none q)
 steps_contain {m} {clear} {p} {q} wf (next {t = t} s k r) =
     let e : t.ticks + (p.left - t.ticks - q.left) ≡ p.left - q.left = omega (arith, steps_less r, s.some, s.most) in
