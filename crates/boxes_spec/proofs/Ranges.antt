@@ -57,11 +57,11 @@ module _ {m : Machine} (wf : ValidNumbers m.sheet) where
   pub settled_near : {S : List ℤ} {k b : ℕ} {t : Step} → Near (vars_of m) b S → Settled m S k t → Near (vars_of m) (b + t.ticks * max_cap) t.end
   settled_near {t} s e = rw e.end (end_near m wf t.ticks s e.E)
 
-  pub steps_near : {clear : List ℤ → Bool} {w b : ℕ} {q p : Place} → StepsTo m clear w q p → Near (vars_of m) b p.box → Near (vars_of m) (b + (p.left - q.left) * max_cap) q.box
+  pub steps_near : {clear : List ℤ → Bool} {w : ℕ} {q p : Place} {b : ℕ} → StepsTo m clear w q p → Near (vars_of m) b p.box → Near (vars_of m) (b + (p.left - q.left) * max_cap) q.box
   steps_near here s = near_less (omega arith) s
   steps_near (next e k w) s = near_less (omega (arith, steps_less w, e.most)) (steps_near w (settled_near s e))
 
-  pub swept_near : {clear : List ℤ → Bool} {w b : ℕ} {q p : Place} → StepsTo m clear w q p → Near (vars_of m) b p.box → Near (vars_of m) b p.swept
+  pub swept_near : {clear : List ℤ → Bool} {w : ℕ} {q p : Place} {b : ℕ} → StepsTo m clear w q p → Near (vars_of m) b p.box → Near (vars_of m) b p.swept
       → Near (vars_of m) (b + (p.left - q.left) * max_cap) q.swept
   unfolding swept
   swept_near here s u = near_less (omega arith) u
@@ -80,11 +80,11 @@ module _ {m : Machine} (wf : Accepted m) where
   }
 
   -- NEVER REVERSED, wherever a reach has come
-  pub steps_sized : {clear : List ℤ → Bool} {w b : ℕ} {q p : Place} → StepsTo m clear w q p → Sized (vars_of m) b p.box → b + p.left * max_cap ≤ max_edge
+  pub steps_sized : {clear : List ℤ → Bool} {w : ℕ} {q p : Place} {b : ℕ} → StepsTo m clear w q p → Sized (vars_of m) b p.box → b + p.left * max_cap ≤ max_edge
       → Sized (vars_of m) (b + (p.left - q.left) * max_cap) q.box
   steps_sized r s h = record { near = steps_near wf.sheet r s.near; ordered = ordered r s h }
     where
-      ordered : {clear : List ℤ → Bool} {w b : ℕ} {q p : Place} → StepsTo m clear w q p → Sized (vars_of m) b p.box → b + p.left * max_cap ≤ max_edge → Ordered (vars_of m) q.box
+      ordered : {clear : List ℤ → Bool} {w : ℕ} {q p : Place} {b : ℕ} → StepsTo m clear w q p → Sized (vars_of m) b p.box → b + p.left * max_cap ≤ max_edge → Ordered (vars_of m) q.box
       ordered here s h = s.ordered
       ordered (next e k r) s h = ordered r (settled_sized s (omega (arith, e.most)) e) (omega (arith, e.most))
 

@@ -179,8 +179,8 @@ module _ {m : Machine} (room : vars_of m ≤ N) {clear : List ℤ → Bool} (p q
   }
 
 pub steps_contain : {m : Machine} {clear : List ℤ → Bool} {w : ℕ} {q p : Place} → ValidNumbers m.sheet → StepsTo m clear w q p → Contains m clear p q (p.left - q.left)
-steps_contain {m} {clear} {q} wf here = let e : 0 ≡ q.left - q.left = omega arith in subst (Contains m clear q q) e (contains_none q)
-steps_contain {m} {clear} {p} {q} wf (next {t = t} s k r) =
+steps_contain {m} {clear} {q = q} wf here = let e : 0 ≡ q.left - q.left = omega arith in subst (Contains m clear q q) e (contains_none q)
+steps_contain {m} {clear} {w = w} {q = q} wf (next {p = p} {t = t} s k r) =
     let e : t.ticks + (p.left - t.ticks - q.left) ≡ p.left - q.left = omega (arith, steps_less r, s.some, s.most) in
     subst (Contains m clear p q) e (contains_next (room wf) p q (settled_sound wf s) k (steps_contain wf r))
 
