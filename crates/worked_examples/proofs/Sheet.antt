@@ -28,11 +28,11 @@ eight_boxes = 83 ∷ 72 ∷ 1 ∷ 1 ∷ 8 ∷ 0 ∷ 0 ∷ 4 ∷ 0 ∷ 4 ∷ 0 �
 unfoldable six_variables : List ℕ
 six_variables = 83 ∷ 72 ∷ 6 ∷ 1 ∷ 1 ∷ 0 ∷ 0 ∷ 4 ∷ 0 ∷ 4 ∷ 0 ∷ 4 ∷ 255 ∷ 255 ∷ 255 ∷ 231 ∷ 0 ∷ 0 ∷ 0 ∷ 25 ∷ 0 ∷ 5 ∷ 0 ∷ 5 ∷ 0 ∷ 5 ∷ 0 ∷ 5 ∷ 0 ∷ 5 ∷ 0 ∷ 5 ∷ 66 ∷ 68 ∷ 255 ∷ 225 ∷ 123 ∷ 128 ∷ 0 ∷ 0 ∷ 0 ∷ 0 ∷ 0 ∷ 0 ∷ 0 ∷ 0 ∷ 255 ∷ 255 ∷ 0 ∷ 0 ∷ 0 ∷ 0 ∷ 0 ∷ 0 ∷ 0 ∷ 0 ∷ 0 ∷ 0 ∷ 0 ∷ 4 ∷ 0 ∷ 0 ∷ 0 ∷ 0 ∷ 0 ∷ 0 ∷ 0 ∷ 0 ∷ 0 ∷ 20 ∷ 0 ∷ 0 ∷ 255 ∷ 255 ∷ 0 ∷ 0 ∷ 0 ∷ 0 ∷ 0 ∷ 0 ∷ 0 ∷ 0 ∷ 0 ∷ 4 ∷ 0 ∷ 0 ∷ 0 ∷ 0 ∷ 0 ∷ 0 ∷ 0 ∷ 0 ∷ 0 ∷ 20 ∷ 0 ∷ 0 ∷ 0 ∷ 0 ∷ 255 ∷ 255 ∷ 0 ∷ 0 ∷ 0 ∷ 0 ∷ 0 ∷ 0 ∷ 0 ∷ 4 ∷ 0 ∷ 0 ∷ 0 ∷ 0 ∷ 0 ∷ 0 ∷ 0 ∷ 0 ∷ 0 ∷ 20 ∷ 0 ∷ 0 ∷ 0 ∷ 0 ∷ 0 ∷ 0 ∷ 255 ∷ 255 ∷ 0 ∷ 0 ∷ 0 ∷ 0 ∷ 0 ∷ 4 ∷ 0 ∷ 0 ∷ 0 ∷ 0 ∷ 0 ∷ 0 ∷ 0 ∷ 0 ∷ 0 ∷ 20 ∷ 0 ∷ 0 ∷ 0 ∷ 0 ∷ 0 ∷ 0 ∷ 0 ∷ 0 ∷ 255 ∷ 255 ∷ 0 ∷ 0 ∷ 0 ∷ 4 ∷ 0 ∷ 0 ∷ 0 ∷ 0 ∷ 0 ∷ 0 ∷ 0 ∷ 0 ∷ 0 ∷ 20 ∷ 0 ∷ 0 ∷ 0 ∷ 0 ∷ 0 ∷ 0 ∷ 0 ∷ 0 ∷ 0 ∷ 0 ∷ 255 ∷ 255 ∷ 0 ∷ 4 ∷ 0 ∷ 0 ∷ 0 ∷ 0 ∷ 0 ∷ 0 ∷ 0 ∷ 0 ∷ 0 ∷ 20 ∷ 78 ∷ 71 ∷ 0 ∷ 0 ∷ 0 ∷ 130 ∷ 0 ∷ 30 ∷ 132 ∷ 128 ∷ 0 ∷ 0 ∷ 0 ∷ 130 ∷ 0 ∷ 30 ∷ 132 ∷ 128 ∷ 0 ∷ 0 ∷ 0 ∷ 130 ∷ 0 ∷ 30 ∷ 132 ∷ 128 ∷ 0 ∷ 0 ∷ 0 ∷ 130 ∷ 0 ∷ 30 ∷ 132 ∷ 128 ∷ 0 ∷ 0 ∷ 0 ∷ 130 ∷ 0 ∷ 30 ∷ 132 ∷ 128 ∷ 0 ∷ 0 ∷ 0 ∷ 130 ∷ 0 ∷ 30 ∷ 132 ∷ 128 ∷ 82 ∷ 67 ∷ 255 ∷ 255 ∷ 255 ∷ 156 ∷ 0 ∷ 0 ∷ 0 ∷ 100 ∷ 255 ∷ 255 ∷ 255 ∷ 156 ∷ 0 ∷ 0 ∷ 0 ∷ 100 ∷ 255 ∷ 255 ∷ 255 ∷ 156 ∷ 0 ∷ 0 ∷ 0 ∷ 100 ∷ 255 ∷ 255 ∷ 255 ∷ 156 ∷ 0 ∷ 0 ∷ 0 ∷ 100 ∷ 255 ∷ 255 ∷ 255 ∷ 156 ∷ 0 ∷ 0 ∷ 0 ∷ 100 ∷ 255 ∷ 255 ∷ 255 ∷ 156 ∷ 0 ∷ 0 ∷ 0 ∷ 100 ∷ []
 
-unfoldable two_bands_lem : List ℕ
-two_bands_lem = 83 ∷ 72 ∷ 1 ∷ 2 ∷ 1 ∷ 0 ∷ 0 ∷ 4 ∷ 0 ∷ 4 ∷ 0 ∷ 4 ∷ 255 ∷ 255 ∷ 255 ∷ 231 ∷ 0 ∷ 0 ∷ 0 ∷ 25 ∷ 0 ∷ 5 ∷ 66 ∷ 68 ∷ 255 ∷ 225 ∷ 123 ∷ 128 ∷ 0 ∷ 0 ∷ 0 ∷ 0 ∷ 0 ∷ 0 ∷ 0 ∷ 0 ∷ 255 ∷ 255 ∷ 0 ∷ 4 ∷ 0 ∷ 0 ∷ 0 ∷ 0 ∷ 0 ∷ 0 ∷ 0 ∷ 0 ∷ 0 ∷ 20 ∷ 66 ∷ 68 ∷ 0 ∷ 0 ∷ 0 ∷ 0 ∷ 0 ∷ 0 ∷ 0 ∷ 0 ∷ 0 ∷ 0 ∷ 0 ∷ 0 ∷ 255 ∷ 255 ∷ 0 ∷ 4 ∷ 0 ∷ 0 ∷ 0 ∷ 0 ∷ 0 ∷ 0 ∷ 0 ∷ 0 ∷ 0 ∷ 20 ∷ 78 ∷ 71 ∷ 0 ∷ 0 ∷ 0 ∷ 130 ∷ 0 ∷ 30 ∷ 132 ∷ 128 ∷ 82 ∷ 67 ∷ 255 ∷ 255 ∷ 255 ∷ 156 ∷ 0 ∷ 0 ∷ 0 ∷ 100 ∷ []
+unfoldable two_bands : List ℕ
+two_bands = 83 ∷ 72 ∷ 1 ∷ 2 ∷ 1 ∷ 0 ∷ 0 ∷ 4 ∷ 0 ∷ 4 ∷ 0 ∷ 4 ∷ 255 ∷ 255 ∷ 255 ∷ 231 ∷ 0 ∷ 0 ∷ 0 ∷ 25 ∷ 0 ∷ 5 ∷ 66 ∷ 68 ∷ 255 ∷ 225 ∷ 123 ∷ 128 ∷ 0 ∷ 0 ∷ 0 ∷ 0 ∷ 0 ∷ 0 ∷ 0 ∷ 0 ∷ 255 ∷ 255 ∷ 0 ∷ 4 ∷ 0 ∷ 0 ∷ 0 ∷ 0 ∷ 0 ∷ 0 ∷ 0 ∷ 0 ∷ 0 ∷ 20 ∷ 66 ∷ 68 ∷ 0 ∷ 0 ∷ 0 ∷ 0 ∷ 0 ∷ 0 ∷ 0 ∷ 0 ∷ 0 ∷ 0 ∷ 0 ∷ 0 ∷ 255 ∷ 255 ∷ 0 ∷ 4 ∷ 0 ∷ 0 ∷ 0 ∷ 0 ∷ 0 ∷ 0 ∷ 0 ∷ 0 ∷ 0 ∷ 20 ∷ 78 ∷ 71 ∷ 0 ∷ 0 ∷ 0 ∷ 130 ∷ 0 ∷ 30 ∷ 132 ∷ 128 ∷ 82 ∷ 67 ∷ 255 ∷ 255 ∷ 255 ∷ 156 ∷ 0 ∷ 0 ∷ 0 ∷ 100 ∷ []
 
-unfoldable two_boxes_lem : List ℕ
-two_boxes_lem = 83 ∷ 72 ∷ 2 ∷ 1 ∷ 2 ∷ 0 ∷ 0 ∷ 4 ∷ 0 ∷ 4 ∷ 0 ∷ 4 ∷ 255 ∷ 255 ∷ 255 ∷ 231 ∷ 0 ∷ 0 ∷ 0 ∷ 25 ∷ 0 ∷ 5 ∷ 0 ∷ 5 ∷ 66 ∷ 68 ∷ 255 ∷ 225 ∷ 123 ∷ 128 ∷ 0 ∷ 0 ∷ 0 ∷ 0 ∷ 0 ∷ 0 ∷ 0 ∷ 0 ∷ 255 ∷ 255 ∷ 0 ∷ 0 ∷ 0 ∷ 4 ∷ 0 ∷ 0 ∷ 0 ∷ 0 ∷ 0 ∷ 0 ∷ 0 ∷ 0 ∷ 0 ∷ 20 ∷ 0 ∷ 0 ∷ 255 ∷ 255 ∷ 0 ∷ 4 ∷ 0 ∷ 0 ∷ 0 ∷ 0 ∷ 0 ∷ 0 ∷ 0 ∷ 0 ∷ 0 ∷ 20 ∷ 78 ∷ 71 ∷ 0 ∷ 0 ∷ 0 ∷ 130 ∷ 0 ∷ 30 ∷ 132 ∷ 128 ∷ 0 ∷ 0 ∷ 0 ∷ 130 ∷ 0 ∷ 30 ∷ 132 ∷ 128 ∷ 78 ∷ 71 ∷ 0 ∷ 0 ∷ 0 ∷ 131 ∷ 0 ∷ 30 ∷ 132 ∷ 128 ∷ 0 ∷ 0 ∷ 0 ∷ 131 ∷ 0 ∷ 30 ∷ 132 ∷ 128 ∷ 82 ∷ 67 ∷ 255 ∷ 255 ∷ 255 ∷ 156 ∷ 0 ∷ 0 ∷ 0 ∷ 100 ∷ 255 ∷ 255 ∷ 255 ∷ 156 ∷ 0 ∷ 0 ∷ 0 ∷ 100 ∷ []
+unfoldable two_boxes : List ℕ
+two_boxes = 83 ∷ 72 ∷ 2 ∷ 1 ∷ 2 ∷ 0 ∷ 0 ∷ 4 ∷ 0 ∷ 4 ∷ 0 ∷ 4 ∷ 255 ∷ 255 ∷ 255 ∷ 231 ∷ 0 ∷ 0 ∷ 0 ∷ 25 ∷ 0 ∷ 5 ∷ 0 ∷ 5 ∷ 66 ∷ 68 ∷ 255 ∷ 225 ∷ 123 ∷ 128 ∷ 0 ∷ 0 ∷ 0 ∷ 0 ∷ 0 ∷ 0 ∷ 0 ∷ 0 ∷ 255 ∷ 255 ∷ 0 ∷ 0 ∷ 0 ∷ 4 ∷ 0 ∷ 0 ∷ 0 ∷ 0 ∷ 0 ∷ 0 ∷ 0 ∷ 0 ∷ 0 ∷ 20 ∷ 0 ∷ 0 ∷ 255 ∷ 255 ∷ 0 ∷ 4 ∷ 0 ∷ 0 ∷ 0 ∷ 0 ∷ 0 ∷ 0 ∷ 0 ∷ 0 ∷ 0 ∷ 20 ∷ 78 ∷ 71 ∷ 0 ∷ 0 ∷ 0 ∷ 130 ∷ 0 ∷ 30 ∷ 132 ∷ 128 ∷ 0 ∷ 0 ∷ 0 ∷ 130 ∷ 0 ∷ 30 ∷ 132 ∷ 128 ∷ 78 ∷ 71 ∷ 0 ∷ 0 ∷ 0 ∷ 131 ∷ 0 ∷ 30 ∷ 132 ∷ 128 ∷ 0 ∷ 0 ∷ 0 ∷ 131 ∷ 0 ∷ 30 ∷ 132 ∷ 128 ∷ 82 ∷ 67 ∷ 255 ∷ 255 ∷ 255 ∷ 156 ∷ 0 ∷ 0 ∷ 0 ∷ 100 ∷ 255 ∷ 255 ∷ 255 ∷ 156 ∷ 0 ∷ 0 ∷ 0 ∷ 100 ∷ []
 
 unfoldable three_boxes : List ℕ
 three_boxes = 83 ∷ 72 ∷ 1 ∷ 1 ∷ 3 ∷ 0 ∷ 0 ∷ 4 ∷ 0 ∷ 4 ∷ 0 ∷ 4 ∷ 255 ∷ 255 ∷ 255 ∷ 231 ∷ 0 ∷ 0 ∷ 0 ∷ 25 ∷ 0 ∷ 5 ∷ 66 ∷ 68 ∷ 255 ∷ 225 ∷ 123 ∷ 128 ∷ 0 ∷ 0 ∷ 0 ∷ 0 ∷ 0 ∷ 0 ∷ 0 ∷ 0 ∷ 255 ∷ 255 ∷ 0 ∷ 4 ∷ 0 ∷ 0 ∷ 0 ∷ 0 ∷ 0 ∷ 0 ∷ 0 ∷ 0 ∷ 0 ∷ 20 ∷ 78 ∷ 71 ∷ 0 ∷ 0 ∷ 0 ∷ 130 ∷ 0 ∷ 30 ∷ 132 ∷ 128 ∷ 78 ∷ 71 ∷ 0 ∷ 0 ∷ 0 ∷ 131 ∷ 0 ∷ 30 ∷ 132 ∷ 128 ∷ 78 ∷ 71 ∷ 0 ∷ 0 ∷ 0 ∷ 132 ∷ 0 ∷ 30 ∷ 132 ∷ 128 ∷ 82 ∷ 67 ∷ 255 ∷ 255 ∷ 255 ∷ 156 ∷ 0 ∷ 0 ∷ 0 ∷ 100 ∷ []
@@ -351,25 +351,25 @@ first_edge_above : refusal (sets file_a 24 (255 ∷ 225 ∷ 123 ∷ 129 ∷ []))
 unfolding everything
 first_edge_above = refl
 
-second_edge_equal : refusal (sets two_bands_lem 52 (255 ∷ 225 ∷ 123 ∷ 128 ∷ [])) ≡ 8
-unfolding two_bands_lem everything
+second_edge_equal : refusal (sets two_bands 52 (255 ∷ 225 ∷ 123 ∷ 128 ∷ [])) ≡ 8
+unfolding two_bands everything
 second_edge_equal = refl
 
-second_edge_greater_by_1 : refusal (sets two_bands_lem 52 (255 ∷ 225 ∷ 123 ∷ 129 ∷ [])) ≡ 0
-unfolding two_bands_lem everything
+second_edge_greater_by_1 : refusal (sets two_bands 52 (255 ∷ 225 ∷ 123 ∷ 129 ∷ [])) ≡ 0
+unfolding two_bands everything
 second_edge_greater_by_1 = refl
 
-second_edge_2000000 : refusal (sets two_bands_lem 52 (0 ∷ 30 ∷ 132 ∷ 128 ∷ [])) ≡ 0
-unfolding two_bands_lem everything
+second_edge_2000000 : refusal (sets two_bands 52 (0 ∷ 30 ∷ 132 ∷ 128 ∷ [])) ≡ 0
+unfolding two_bands everything
 second_edge_2000000 = refl
 
-second_edge_2000001 : refusal (sets two_bands_lem 52 (0 ∷ 30 ∷ 132 ∷ 129 ∷ [])) ≡ 8
-unfolding two_bands_lem everything
+second_edge_2000001 : refusal (sets two_bands 52 (0 ∷ 30 ∷ 132 ∷ 129 ∷ [])) ≡ 8
+unfolding two_bands everything
 second_edge_2000001 = refl
 
-one_command_lem : refusal (sets file_a 12 (0 ∷ 0 ∷ 0 ∷ 0 ∷ 0 ∷ 0 ∷ 0 ∷ 0 ∷ [])) ≡ 0
+one_command : refusal (sets file_a 12 (0 ∷ 0 ∷ 0 ∷ 0 ∷ 0 ∷ 0 ∷ 0 ∷ 0 ∷ [])) ≡ 0
 unfolding everything
-one_command_lem = refl
+one_command = refl
 
 commands_reversed : refusal (sets file_a 12 (0 ∷ 0 ∷ 0 ∷ 1 ∷ 0 ∷ 0 ∷ 0 ∷ 0 ∷ [])) ≡ 4
 unfolding everything
@@ -399,32 +399,32 @@ recovery_box_reversed : refusal (sets file_a 62 (0 ∷ 0 ∷ 0 ∷ 5 ∷ 0 ∷ 0
 unfolding everything
 recovery_box_reversed = refl
 
-boxes_ascending_by_first_side : refusal (sets (sets two_boxes_lem 72 (0 ∷ 0 ∷ 0 ∷ 110 ∷ 0 ∷ 0 ∷ 0 ∷ 120 ∷ 0 ∷ 0 ∷ 0 ∷ 110 ∷ 0 ∷ 0 ∷ 0 ∷ 120 ∷ [])) 90 (0 ∷ 0 ∷ 0 ∷ 111 ∷ 0 ∷ 0 ∷ 0 ∷ 120 ∷ 0 ∷ 0 ∷ 0 ∷ 110 ∷ 0 ∷ 0 ∷ 0 ∷ 120 ∷ [])) ≡ 0
-unfolding two_boxes_lem everything
+boxes_ascending_by_first_side : refusal (sets (sets two_boxes 72 (0 ∷ 0 ∷ 0 ∷ 110 ∷ 0 ∷ 0 ∷ 0 ∷ 120 ∷ 0 ∷ 0 ∷ 0 ∷ 110 ∷ 0 ∷ 0 ∷ 0 ∷ 120 ∷ [])) 90 (0 ∷ 0 ∷ 0 ∷ 111 ∷ 0 ∷ 0 ∷ 0 ∷ 120 ∷ 0 ∷ 0 ∷ 0 ∷ 110 ∷ 0 ∷ 0 ∷ 0 ∷ 120 ∷ [])) ≡ 0
+unfolding two_boxes everything
 boxes_ascending_by_first_side = refl
 
-boxes_descending_by_first_side : refusal (sets (sets two_boxes_lem 72 (0 ∷ 0 ∷ 0 ∷ 111 ∷ 0 ∷ 0 ∷ 0 ∷ 120 ∷ 0 ∷ 0 ∷ 0 ∷ 110 ∷ 0 ∷ 0 ∷ 0 ∷ 120 ∷ [])) 90 (0 ∷ 0 ∷ 0 ∷ 110 ∷ 0 ∷ 0 ∷ 0 ∷ 120 ∷ 0 ∷ 0 ∷ 0 ∷ 110 ∷ 0 ∷ 0 ∷ 0 ∷ 120 ∷ [])) ≡ 20
-unfolding two_boxes_lem everything
+boxes_descending_by_first_side : refusal (sets (sets two_boxes 72 (0 ∷ 0 ∷ 0 ∷ 111 ∷ 0 ∷ 0 ∷ 0 ∷ 120 ∷ 0 ∷ 0 ∷ 0 ∷ 110 ∷ 0 ∷ 0 ∷ 0 ∷ 120 ∷ [])) 90 (0 ∷ 0 ∷ 0 ∷ 110 ∷ 0 ∷ 0 ∷ 0 ∷ 120 ∷ 0 ∷ 0 ∷ 0 ∷ 110 ∷ 0 ∷ 0 ∷ 0 ∷ 120 ∷ [])) ≡ 20
+unfolding two_boxes everything
 boxes_descending_by_first_side = refl
 
-boxes_ascending_by_middle_side : refusal (sets (sets two_boxes_lem 72 (0 ∷ 0 ∷ 0 ∷ 110 ∷ 0 ∷ 0 ∷ 0 ∷ 120 ∷ 0 ∷ 0 ∷ 0 ∷ 110 ∷ 0 ∷ 0 ∷ 0 ∷ 120 ∷ [])) 90 (0 ∷ 0 ∷ 0 ∷ 110 ∷ 0 ∷ 0 ∷ 0 ∷ 120 ∷ 0 ∷ 0 ∷ 0 ∷ 111 ∷ 0 ∷ 0 ∷ 0 ∷ 120 ∷ [])) ≡ 0
-unfolding two_boxes_lem everything
+boxes_ascending_by_middle_side : refusal (sets (sets two_boxes 72 (0 ∷ 0 ∷ 0 ∷ 110 ∷ 0 ∷ 0 ∷ 0 ∷ 120 ∷ 0 ∷ 0 ∷ 0 ∷ 110 ∷ 0 ∷ 0 ∷ 0 ∷ 120 ∷ [])) 90 (0 ∷ 0 ∷ 0 ∷ 110 ∷ 0 ∷ 0 ∷ 0 ∷ 120 ∷ 0 ∷ 0 ∷ 0 ∷ 111 ∷ 0 ∷ 0 ∷ 0 ∷ 120 ∷ [])) ≡ 0
+unfolding two_boxes everything
 boxes_ascending_by_middle_side = refl
 
-boxes_descending_by_middle_side : refusal (sets (sets two_boxes_lem 72 (0 ∷ 0 ∷ 0 ∷ 110 ∷ 0 ∷ 0 ∷ 0 ∷ 120 ∷ 0 ∷ 0 ∷ 0 ∷ 111 ∷ 0 ∷ 0 ∷ 0 ∷ 120 ∷ [])) 90 (0 ∷ 0 ∷ 0 ∷ 110 ∷ 0 ∷ 0 ∷ 0 ∷ 120 ∷ 0 ∷ 0 ∷ 0 ∷ 110 ∷ 0 ∷ 0 ∷ 0 ∷ 120 ∷ [])) ≡ 20
-unfolding two_boxes_lem everything
+boxes_descending_by_middle_side : refusal (sets (sets two_boxes 72 (0 ∷ 0 ∷ 0 ∷ 110 ∷ 0 ∷ 0 ∷ 0 ∷ 120 ∷ 0 ∷ 0 ∷ 0 ∷ 111 ∷ 0 ∷ 0 ∷ 0 ∷ 120 ∷ [])) 90 (0 ∷ 0 ∷ 0 ∷ 110 ∷ 0 ∷ 0 ∷ 0 ∷ 120 ∷ 0 ∷ 0 ∷ 0 ∷ 110 ∷ 0 ∷ 0 ∷ 0 ∷ 120 ∷ [])) ≡ 20
+unfolding two_boxes everything
 boxes_descending_by_middle_side = refl
 
-boxes_ascending_by_last_side : refusal (sets (sets two_boxes_lem 72 (0 ∷ 0 ∷ 0 ∷ 110 ∷ 0 ∷ 0 ∷ 0 ∷ 120 ∷ 0 ∷ 0 ∷ 0 ∷ 110 ∷ 0 ∷ 0 ∷ 0 ∷ 120 ∷ [])) 90 (0 ∷ 0 ∷ 0 ∷ 110 ∷ 0 ∷ 0 ∷ 0 ∷ 120 ∷ 0 ∷ 0 ∷ 0 ∷ 110 ∷ 0 ∷ 0 ∷ 0 ∷ 121 ∷ [])) ≡ 0
-unfolding two_boxes_lem everything
+boxes_ascending_by_last_side : refusal (sets (sets two_boxes 72 (0 ∷ 0 ∷ 0 ∷ 110 ∷ 0 ∷ 0 ∷ 0 ∷ 120 ∷ 0 ∷ 0 ∷ 0 ∷ 110 ∷ 0 ∷ 0 ∷ 0 ∷ 120 ∷ [])) 90 (0 ∷ 0 ∷ 0 ∷ 110 ∷ 0 ∷ 0 ∷ 0 ∷ 120 ∷ 0 ∷ 0 ∷ 0 ∷ 110 ∷ 0 ∷ 0 ∷ 0 ∷ 121 ∷ [])) ≡ 0
+unfolding two_boxes everything
 boxes_ascending_by_last_side = refl
 
-boxes_descending_by_last_side : refusal (sets (sets two_boxes_lem 72 (0 ∷ 0 ∷ 0 ∷ 110 ∷ 0 ∷ 0 ∷ 0 ∷ 120 ∷ 0 ∷ 0 ∷ 0 ∷ 110 ∷ 0 ∷ 0 ∷ 0 ∷ 121 ∷ [])) 90 (0 ∷ 0 ∷ 0 ∷ 110 ∷ 0 ∷ 0 ∷ 0 ∷ 120 ∷ 0 ∷ 0 ∷ 0 ∷ 110 ∷ 0 ∷ 0 ∷ 0 ∷ 120 ∷ [])) ≡ 20
-unfolding two_boxes_lem everything
+boxes_descending_by_last_side : refusal (sets (sets two_boxes 72 (0 ∷ 0 ∷ 0 ∷ 110 ∷ 0 ∷ 0 ∷ 0 ∷ 120 ∷ 0 ∷ 0 ∷ 0 ∷ 110 ∷ 0 ∷ 0 ∷ 0 ∷ 121 ∷ [])) 90 (0 ∷ 0 ∷ 0 ∷ 110 ∷ 0 ∷ 0 ∷ 0 ∷ 120 ∷ 0 ∷ 0 ∷ 0 ∷ 110 ∷ 0 ∷ 0 ∷ 0 ∷ 120 ∷ [])) ≡ 20
+unfolding two_boxes everything
 boxes_descending_by_last_side = refl
 
-boxes_equal : refusal (sets (sets two_boxes_lem 72 (0 ∷ 0 ∷ 0 ∷ 110 ∷ 0 ∷ 0 ∷ 0 ∷ 120 ∷ 0 ∷ 0 ∷ 0 ∷ 110 ∷ 0 ∷ 0 ∷ 0 ∷ 120 ∷ [])) 90 (0 ∷ 0 ∷ 0 ∷ 110 ∷ 0 ∷ 0 ∷ 0 ∷ 120 ∷ 0 ∷ 0 ∷ 0 ∷ 110 ∷ 0 ∷ 0 ∷ 0 ∷ 120 ∷ [])) ≡ 20
-unfolding two_boxes_lem everything
+boxes_equal : refusal (sets (sets two_boxes 72 (0 ∷ 0 ∷ 0 ∷ 110 ∷ 0 ∷ 0 ∷ 0 ∷ 120 ∷ 0 ∷ 0 ∷ 0 ∷ 110 ∷ 0 ∷ 0 ∷ 0 ∷ 120 ∷ [])) 90 (0 ∷ 0 ∷ 0 ∷ 110 ∷ 0 ∷ 0 ∷ 0 ∷ 120 ∷ 0 ∷ 0 ∷ 0 ∷ 110 ∷ 0 ∷ 0 ∷ 0 ∷ 120 ∷ [])) ≡ 20
+unfolding two_boxes everything
 boxes_equal = refl
 
 third_box_between_the_others : refusal (sets three_boxes 72 (0 ∷ 0 ∷ 0 ∷ 131 ∷ 0 ∷ 30 ∷ 132 ∷ 127 ∷ [])) ≡ 20
@@ -459,20 +459,20 @@ box_is_recovery : refusal (sets file_a 52 (255 ∷ 255 ∷ 255 ∷ 156 ∷ 0 ∷
 unfolding everything
 box_is_recovery = refl
 
-box_on_recovery_in_one_variable : refusal (sets two_boxes_lem 72 (255 ∷ 255 ∷ 255 ∷ 206 ∷ 0 ∷ 0 ∷ 0 ∷ 50 ∷ 0 ∷ 0 ∷ 0 ∷ 101 ∷ 0 ∷ 0 ∷ 0 ∷ 200 ∷ [])) ≡ 0
-unfolding two_boxes_lem everything
+box_on_recovery_in_one_variable : refusal (sets two_boxes 72 (255 ∷ 255 ∷ 255 ∷ 206 ∷ 0 ∷ 0 ∷ 0 ∷ 50 ∷ 0 ∷ 0 ∷ 0 ∷ 101 ∷ 0 ∷ 0 ∷ 0 ∷ 200 ∷ [])) ≡ 0
+unfolding two_boxes everything
 box_on_recovery_in_one_variable = refl
 
-box_on_recovery_in_the_other : refusal (sets two_boxes_lem 72 (255 ∷ 255 ∷ 254 ∷ 12 ∷ 255 ∷ 255 ∷ 255 ∷ 155 ∷ 255 ∷ 255 ∷ 255 ∷ 206 ∷ 0 ∷ 0 ∷ 0 ∷ 50 ∷ [])) ≡ 0
-unfolding two_boxes_lem everything
+box_on_recovery_in_the_other : refusal (sets two_boxes 72 (255 ∷ 255 ∷ 254 ∷ 12 ∷ 255 ∷ 255 ∷ 255 ∷ 155 ∷ 255 ∷ 255 ∷ 255 ∷ 206 ∷ 0 ∷ 0 ∷ 0 ∷ 50 ∷ [])) ≡ 0
+unfolding two_boxes everything
 box_on_recovery_in_the_other = refl
 
-box_touching_in_one_variable : refusal (sets two_boxes_lem 72 (255 ∷ 255 ∷ 255 ∷ 206 ∷ 0 ∷ 0 ∷ 0 ∷ 50 ∷ 0 ∷ 0 ∷ 0 ∷ 100 ∷ 0 ∷ 0 ∷ 0 ∷ 200 ∷ [])) ≡ 22
-unfolding two_boxes_lem everything
+box_touching_in_one_variable : refusal (sets two_boxes 72 (255 ∷ 255 ∷ 255 ∷ 206 ∷ 0 ∷ 0 ∷ 0 ∷ 50 ∷ 0 ∷ 0 ∷ 0 ∷ 100 ∷ 0 ∷ 0 ∷ 0 ∷ 200 ∷ [])) ≡ 22
+unfolding two_boxes everything
 box_touching_in_one_variable = refl
 
-box_touching_at_a_corner : refusal (sets two_boxes_lem 72 (255 ∷ 255 ∷ 255 ∷ 56 ∷ 255 ∷ 255 ∷ 255 ∷ 156 ∷ 0 ∷ 0 ∷ 0 ∷ 100 ∷ 0 ∷ 0 ∷ 0 ∷ 200 ∷ [])) ≡ 22
-unfolding two_boxes_lem everything
+box_touching_at_a_corner : refusal (sets two_boxes 72 (255 ∷ 255 ∷ 255 ∷ 56 ∷ 255 ∷ 255 ∷ 255 ∷ 156 ∷ 0 ∷ 0 ∷ 0 ∷ 100 ∷ 0 ∷ 0 ∷ 0 ∷ 200 ∷ [])) ≡ 22
+unfolding two_boxes everything
 box_touching_at_a_corner = refl
 
 boxes_around_recovery : refusal (sets (sets (sets three_boxes 52 (255 ∷ 255 ∷ 254 ∷ 12 ∷ 255 ∷ 255 ∷ 254 ∷ 112 ∷ [])) 62 (255 ∷ 255 ∷ 254 ∷ 212 ∷ 255 ∷ 255 ∷ 255 ∷ 56 ∷ [])) 72 (0 ∷ 0 ∷ 0 ∷ 150 ∷ 0 ∷ 0 ∷ 0 ∷ 160 ∷ [])) ≡ 0
@@ -519,9 +519,9 @@ sheet_with_two_laws : refusal two_following ≡ 0
 unfolding two_following everything
 sheet_with_two_laws = refl
 
-longest_sheet_lem : refusal longest ≡ 0
+longest_sheet : refusal longest ≡ 0
 unfolding longest everything
-longest_sheet_lem = refl
+longest_sheet = refl
 
 sheet_with_a_law_a_byte_short : refusal (take 77 following) ≡ 5
 unfolding following everything
@@ -547,8 +547,8 @@ file_with_half_the_first_mark : refusal (take 23 following) ≡ 5
 unfolding following everything
 file_with_half_the_first_mark = refl
 
-later_mark_of_a_law : refusal (sets two_bands_lem 50 (66 ∷ 70 ∷ [])) ≡ 7
-unfolding two_bands_lem everything
+later_mark_of_a_law : refusal (sets two_bands 50 (66 ∷ 70 ∷ [])) ≡ 7
+unfolding two_bands everything
 later_mark_of_a_law = refl
 
 later_mark_of_none : refusal (sets two_following 58 (66 ∷ 68 ∷ [])) ≡ 7
@@ -595,8 +595,8 @@ safety_before_row : refusal (sets (sets file_a 28 (0 ∷ 0 ∷ 0 ∷ 1 ∷ 0 ∷
 unfolding everything
 safety_before_row = refl
 
-row_before_next_mark : refusal (sets (sets two_bands_lem 48 (0 ∷ 0 ∷ [])) 50 (88 ∷ 88 ∷ [])) ≡ 10
-unfolding two_bands_lem everything
+row_before_next_mark : refusal (sets (sets two_bands 48 (0 ∷ 0 ∷ [])) 50 (88 ∷ 88 ∷ [])) ≡ 10
+unfolding two_bands everything
 row_before_next_mark = refl
 
 row_before_unsafe_mark : refusal (sets (sets file_a 50 (88 ∷ 88 ∷ [])) 48 (0 ∷ 0 ∷ [])) ≡ 10

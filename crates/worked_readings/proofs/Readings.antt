@@ -43,8 +43,8 @@ six_variables = 83 ∷ 72 ∷ 6 ∷ 1 ∷ 1 ∷ 0 ∷ 0 ∷ 4 ∷ 0 ∷ 4 ∷ 0 
 unfoldable three_boxes : List ℕ
 three_boxes = 83 ∷ 72 ∷ 1 ∷ 1 ∷ 3 ∷ 0 ∷ 0 ∷ 4 ∷ 0 ∷ 4 ∷ 0 ∷ 4 ∷ 255 ∷ 255 ∷ 255 ∷ 231 ∷ 0 ∷ 0 ∷ 0 ∷ 25 ∷ 0 ∷ 5 ∷ 66 ∷ 68 ∷ 255 ∷ 225 ∷ 123 ∷ 128 ∷ 0 ∷ 0 ∷ 0 ∷ 0 ∷ 0 ∷ 0 ∷ 0 ∷ 0 ∷ 255 ∷ 255 ∷ 0 ∷ 4 ∷ 0 ∷ 0 ∷ 0 ∷ 0 ∷ 0 ∷ 0 ∷ 0 ∷ 0 ∷ 0 ∷ 20 ∷ 78 ∷ 71 ∷ 0 ∷ 0 ∷ 0 ∷ 130 ∷ 0 ∷ 30 ∷ 132 ∷ 128 ∷ 78 ∷ 71 ∷ 0 ∷ 0 ∷ 0 ∷ 131 ∷ 0 ∷ 30 ∷ 132 ∷ 128 ∷ 78 ∷ 71 ∷ 0 ∷ 0 ∷ 0 ∷ 132 ∷ 0 ∷ 30 ∷ 132 ∷ 128 ∷ 82 ∷ 67 ∷ 255 ∷ 255 ∷ 255 ∷ 156 ∷ 0 ∷ 0 ∷ 0 ∷ 100 ∷ []
 
-unfoldable two_boxes_lem : List ℕ
-two_boxes_lem = 83 ∷ 72 ∷ 2 ∷ 1 ∷ 2 ∷ 0 ∷ 0 ∷ 4 ∷ 0 ∷ 4 ∷ 0 ∷ 4 ∷ 255 ∷ 255 ∷ 255 ∷ 231 ∷ 0 ∷ 0 ∷ 0 ∷ 25 ∷ 0 ∷ 5 ∷ 0 ∷ 5 ∷ 66 ∷ 68 ∷ 255 ∷ 225 ∷ 123 ∷ 128 ∷ 0 ∷ 0 ∷ 0 ∷ 0 ∷ 0 ∷ 0 ∷ 0 ∷ 0 ∷ 255 ∷ 255 ∷ 0 ∷ 0 ∷ 0 ∷ 4 ∷ 0 ∷ 0 ∷ 0 ∷ 0 ∷ 0 ∷ 0 ∷ 0 ∷ 0 ∷ 0 ∷ 20 ∷ 0 ∷ 0 ∷ 255 ∷ 255 ∷ 0 ∷ 4 ∷ 0 ∷ 0 ∷ 0 ∷ 0 ∷ 0 ∷ 0 ∷ 0 ∷ 0 ∷ 0 ∷ 20 ∷ 78 ∷ 71 ∷ 0 ∷ 0 ∷ 0 ∷ 130 ∷ 0 ∷ 30 ∷ 132 ∷ 128 ∷ 0 ∷ 0 ∷ 0 ∷ 130 ∷ 0 ∷ 30 ∷ 132 ∷ 128 ∷ 78 ∷ 71 ∷ 0 ∷ 0 ∷ 0 ∷ 131 ∷ 0 ∷ 30 ∷ 132 ∷ 128 ∷ 0 ∷ 0 ∷ 0 ∷ 131 ∷ 0 ∷ 30 ∷ 132 ∷ 128 ∷ 82 ∷ 67 ∷ 255 ∷ 255 ∷ 255 ∷ 156 ∷ 0 ∷ 0 ∷ 0 ∷ 100 ∷ 255 ∷ 255 ∷ 255 ∷ 156 ∷ 0 ∷ 0 ∷ 0 ∷ 100 ∷ []
+unfoldable two_boxes : List ℕ
+two_boxes = 83 ∷ 72 ∷ 2 ∷ 1 ∷ 2 ∷ 0 ∷ 0 ∷ 4 ∷ 0 ∷ 4 ∷ 0 ∷ 4 ∷ 255 ∷ 255 ∷ 255 ∷ 231 ∷ 0 ∷ 0 ∷ 0 ∷ 25 ∷ 0 ∷ 5 ∷ 0 ∷ 5 ∷ 66 ∷ 68 ∷ 255 ∷ 225 ∷ 123 ∷ 128 ∷ 0 ∷ 0 ∷ 0 ∷ 0 ∷ 0 ∷ 0 ∷ 0 ∷ 0 ∷ 255 ∷ 255 ∷ 0 ∷ 0 ∷ 0 ∷ 4 ∷ 0 ∷ 0 ∷ 0 ∷ 0 ∷ 0 ∷ 0 ∷ 0 ∷ 0 ∷ 0 ∷ 20 ∷ 0 ∷ 0 ∷ 255 ∷ 255 ∷ 0 ∷ 4 ∷ 0 ∷ 0 ∷ 0 ∷ 0 ∷ 0 ∷ 0 ∷ 0 ∷ 0 ∷ 0 ∷ 20 ∷ 78 ∷ 71 ∷ 0 ∷ 0 ∷ 0 ∷ 130 ∷ 0 ∷ 30 ∷ 132 ∷ 128 ∷ 0 ∷ 0 ∷ 0 ∷ 130 ∷ 0 ∷ 30 ∷ 132 ∷ 128 ∷ 78 ∷ 71 ∷ 0 ∷ 0 ∷ 0 ∷ 131 ∷ 0 ∷ 30 ∷ 132 ∷ 128 ∷ 0 ∷ 0 ∷ 0 ∷ 131 ∷ 0 ∷ 30 ∷ 132 ∷ 128 ∷ 82 ∷ 67 ∷ 255 ∷ 255 ∷ 255 ∷ 156 ∷ 0 ∷ 0 ∷ 0 ∷ 100 ∷ 255 ∷ 255 ∷ 255 ∷ 156 ∷ 0 ∷ 0 ∷ 0 ∷ 100 ∷ []
 
 unfoldable sheet0 : List ℕ
 sheet0 = 83 ∷ 72 ∷ 1 ∷ 1 ∷ 1 ∷ 0 ∷ 0 ∷ 1 ∷ 0 ∷ 1 ∷ 0 ∷ 1 ∷ 255 ∷ 255 ∷ 255 ∷ 247 ∷ 0 ∷ 0 ∷ 0 ∷ 9 ∷ 0 ∷ 9 ∷ 66 ∷ 70 ∷ 255 ∷ 225 ∷ 123 ∷ 128 ∷ 255 ∷ 255 ∷ 255 ∷ 247 ∷ 0 ∷ 0 ∷ 0 ∷ 9 ∷ 255 ∷ 255 ∷ 0 ∷ 0 ∷ 0 ∷ 0 ∷ 0 ∷ 2 ∷ 0 ∷ 0 ∷ 0 ∷ 1 ∷ 0 ∷ 0 ∷ 0 ∷ 0 ∷ 0 ∷ 0 ∷ 0 ∷ 0 ∷ 0 ∷ 1 ∷ 78 ∷ 71 ∷ 0 ∷ 0 ∷ 0 ∷ 100 ∷ 0 ∷ 0 ∷ 0 ∷ 200 ∷ 82 ∷ 67 ∷ 255 ∷ 255 ∷ 255 ∷ 255 ∷ 0 ∷ 0 ∷ 0 ∷ 7 ∷ []
@@ -766,40 +766,40 @@ reading_far_after_command : decide_readings file_a (take 10 (sets question_a 6 (
 unfolding question_a everything
 reading_far_after_command = refl
 
-reading_missing_then_nan : decide_readings two_boxes_lem (take 10 question_a) (readings_in (0 ∷ 1 ∷ []) (float 0 ∷ float 0 ∷ float 2143289344 ∷ float 0 ∷ []) N) ≡ refused 18
-unfolding two_boxes_lem question_a everything
+reading_missing_then_nan : decide_readings two_boxes (take 10 question_a) (readings_in (0 ∷ 1 ∷ []) (float 0 ∷ float 0 ∷ float 2143289344 ∷ float 0 ∷ []) N) ≡ refused 18
+unfolding two_boxes question_a everything
 reading_missing_then_nan = refl
 
-reading_nan_then_missing : decide_readings two_boxes_lem (take 10 question_a) (readings_in (1 ∷ 0 ∷ []) (float 2143289344 ∷ float 0 ∷ float 0 ∷ float 0 ∷ []) N) ≡ refused 19
-unfolding two_boxes_lem question_a everything
+reading_nan_then_missing : decide_readings two_boxes (take 10 question_a) (readings_in (1 ∷ 0 ∷ []) (float 2143289344 ∷ float 0 ∷ float 0 ∷ float 0 ∷ []) N) ≡ refused 19
+unfolding two_boxes question_a everything
 reading_nan_then_missing = refl
 
-reading_far_then_missing : decide_readings two_boxes_lem (take 10 question_a) (readings_in (1 ∷ 0 ∷ []) (float 1232348160 ∷ float 1065353216 ∷ float 0 ∷ float 0 ∷ []) N) ≡ refused 18
-unfolding two_boxes_lem question_a everything
+reading_far_then_missing : decide_readings two_boxes (take 10 question_a) (readings_in (1 ∷ 0 ∷ []) (float 1232348160 ∷ float 1065353216 ∷ float 0 ∷ float 0 ∷ []) N) ≡ refused 18
+unfolding two_boxes question_a everything
 reading_far_then_missing = refl
 
-reading_far_then_nan : decide_readings two_boxes_lem (take 10 question_a) (readings_in (1 ∷ 1 ∷ []) (float 1232348160 ∷ float 1065353216 ∷ float 2143289344 ∷ float 0 ∷ []) N) ≡ refused 19
-unfolding two_boxes_lem question_a everything
+reading_far_then_nan : decide_readings two_boxes (take 10 question_a) (readings_in (1 ∷ 1 ∷ []) (float 1232348160 ∷ float 1065353216 ∷ float 2143289344 ∷ float 0 ∷ []) N) ≡ refused 19
+unfolding two_boxes question_a everything
 reading_far_then_nan = refl
 
-reading_missing_then_far : decide_readings two_boxes_lem (take 10 question_a) (readings_in (0 ∷ 1 ∷ []) (float 0 ∷ float 0 ∷ float 1232348160 ∷ float 1065353216 ∷ []) N) ≡ refused 18
-unfolding two_boxes_lem question_a everything
+reading_missing_then_far : decide_readings two_boxes (take 10 question_a) (readings_in (0 ∷ 1 ∷ []) (float 0 ∷ float 0 ∷ float 1232348160 ∷ float 1065353216 ∷ []) N) ≡ refused 18
+unfolding two_boxes question_a everything
 reading_missing_then_far = refl
 
-reading_nan_then_far : decide_readings two_boxes_lem (take 10 question_a) (readings_in (1 ∷ 1 ∷ []) (float 2143289344 ∷ float 0 ∷ float 1232348160 ∷ float 1065353216 ∷ []) N) ≡ refused 19
-unfolding two_boxes_lem question_a everything
+reading_nan_then_far : decide_readings two_boxes (take 10 question_a) (readings_in (1 ∷ 1 ∷ []) (float 2143289344 ∷ float 0 ∷ float 1232348160 ∷ float 1065353216 ∷ []) N) ≡ refused 19
+unfolding two_boxes question_a everything
 reading_nan_then_far = refl
 
-reading_far_then_0 : decide_readings two_boxes_lem (take 10 question_a) (readings_in (1 ∷ 1 ∷ []) (float 1232348160 ∷ float 1065353216 ∷ float 0 ∷ float 0 ∷ []) N) ≡ refused 15
-unfolding two_boxes_lem question_a everything
+reading_far_then_0 : decide_readings two_boxes (take 10 question_a) (readings_in (1 ∷ 1 ∷ []) (float 1232348160 ∷ float 1065353216 ∷ float 0 ∷ float 0 ∷ []) N) ≡ refused 15
+unfolding two_boxes question_a everything
 reading_far_then_0 = refl
 
 reading_far_then_0_box : readings_box 2 (readings_in (1 ∷ 1 ∷ []) (float 1232348160 ∷ float 1065353216 ∷ float 0 ∷ float 0 ∷ []) N) ≡ pos 999999 ∷ pos 0 ∷ pos 0 ∷ pos 0 ∷ pos 0 ∷ pos 0 ∷ pos 1000001 ∷ pos 0 ∷ pos 0 ∷ pos 0 ∷ pos 0 ∷ pos 0 ∷ []
 unfolding everything
 reading_far_then_0_box = refl
 
-reading_0_then_far : decide_readings two_boxes_lem (take 10 question_a) (readings_in (2 ∷ 1 ∷ []) (float 0 ∷ float 0 ∷ float 1232348160 ∷ float 1065353216 ∷ []) N) ≡ refused 15
-unfolding two_boxes_lem question_a everything
+reading_0_then_far : decide_readings two_boxes (take 10 question_a) (readings_in (2 ∷ 1 ∷ []) (float 0 ∷ float 0 ∷ float 1232348160 ∷ float 1065353216 ∷ []) N) ≡ refused 15
+unfolding two_boxes question_a everything
 reading_0_then_far = refl
 
 reading_0_then_far_box : readings_box 2 (readings_in (2 ∷ 1 ∷ []) (float 0 ∷ float 0 ∷ float 1232348160 ∷ float 1065353216 ∷ []) N) ≡ pos 0 ∷ pos 999999 ∷ pos 0 ∷ pos 0 ∷ pos 0 ∷ pos 0 ∷ pos 0 ∷ pos 1000001 ∷ pos 0 ∷ pos 0 ∷ pos 0 ∷ pos 0 ∷ []

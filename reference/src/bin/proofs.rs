@@ -141,9 +141,9 @@ impl<'a> Bases<'a> {
     /// What antt calls it; other bytes are written out.
     fn term(&self, base: &str) -> String {
         match base {
-            "A" => "fileA".into(),
-            "Q" => "questionA".into(),
-            _ if self.hex(base).is_some() => base.replace('_', "-"),
+            "A" => "file_a".into(),
+            "Q" => "question_a".into(),
+            _ if self.hex(base).is_some() => base.into(),
             _ => match self.sheets.iter().position(|sheet| *sheet == base) {
                 Some(number) => format!("sheet{number}"),
                 None => format!("({})", byte_list(base)),
@@ -171,8 +171,8 @@ impl<'a> Bases<'a> {
             return slot.into();
         };
         match (side / (2 * VARIABLES), side % (2 * VARIABLES)) {
-            (j, 0) => format!("(unsafeSlot {j})"),
-            (j, i) if i < VARIABLES => format!("(unsafeSlot {j} + {i})"),
+            (j, 0) => format!("(unsafe_slot {j})"),
+            (j, i) if i < VARIABLES => format!("(unsafe_slot {j} + {i})"),
             _ => panic!("an upper side has no name yet"),
         }
     }
@@ -191,14 +191,14 @@ impl<'a> Bases<'a> {
     fn opened(&self, example: &Example) -> String {
         let bases = FILES.iter().filter_map(|key| example.fields.get(key)).map(|text| parts(text).0);
         let terms = bases.map(|base| self.term(base));
-        terms.filter(|term| term != "fileA" && !term.starts_with('(')).fold(String::new(), |all, term| all + &term + " ")
+        terms.filter(|term| term != "file_a" && !term.starts_with('(')).fold(String::new(), |all, term| all + &term + " ")
     }
 }
 
 fn law(example: &Example) -> String {
     match example.field("law") {
         "0" => "Baseline".into(),
-        _ => format!("(oneCommand ({}))", integer(example.field("command").parse().expect("a number"))),
+        _ => format!("(one_command ({}))", integer(example.field("command").parse().expect("a number"))),
     }
 }
 
@@ -210,17 +210,17 @@ fn row(example: &Example, bases: &Bases) -> (String, String) {
         "write" => {
             let numbers = bases.numbers(example.field("numbers"));
             let (room, place) = (example.field("room"), example.field("place"));
-            (format!("writeRefusal {numbers} (replicate {room} 0) {place}"), number("refusal"))
+            (format!("write_refusal {numbers} (replicate {room} 0) {place}"), number("refusal"))
         }
         "reach" => (reach_given(example, bases), reach_said(example)),
-        "check" => (format!("checkRecovery {}", bases.file(example.field("sheet"))), reply_said(example)),
+        "check" => (format!("check_recovery {}", bases.file(example.field("sheet"))), reply_said(example)),
         "decide" => {
             let (sheet, question) = (example.field("sheet"), example.field("question"));
             (format!("decide {} {}", bases.file(sheet), bases.file(question)), reply_said(example))
         }
         "readings" => {
             let (sheet, head) = (bases.file(example.field("sheet")), bases.file(example.field("head")));
-            (format!("decideReadings {sheet} {head} {}", readings(example)), reply_said(example))
+            (format!("decide_readings {sheet} {head} {}", readings(example)), reply_said(example))
         }
         "listing" => {
             let (sheet, asks) = (example.field("sheet"), example.field("asks"));
@@ -235,18 +235,18 @@ fn row(example: &Example, bases: &Bases) -> (String, String) {
 fn readings(example: &Example) -> String {
     let float = |bits: &[u8]| format!("float {}", u32::from_be_bytes([bits[0], bits[1], bits[2], bits[3]]));
     let floats = list(bytes(example.field("values")).chunks(4).map(float));
-    format!("(readingsIn ({}) ({floats}) N)", byte_list(example.field("kinds")))
+    format!("(readings_in ({}) ({floats}) N)", byte_list(example.field("kinds")))
 }
 
 /// The box that an example's readings come to, where it says so: what the definitions are asked, and what the second guard said.
 fn box_row(example: &Example) -> Option<(String, String)> {
     let sides = printed_sides(example.fields.get("box")?);
-    Some((format!("readingsBox {} {}", sides.len(), readings(example)), box_list(&sides)))
+    Some((format!("readings_box {} {}", sides.len(), readings(example)), box_list(&sides)))
 }
 
 fn reach_given(example: &Example, bases: &Bases) -> String {
     format!(
-        "reachFile {} {} {} {} ({})",
+        "reach_file {} {} {} {} ({})",
         bases.file(example.field("sheet")),
         example.field("ticks"),
         example.field("width"),
@@ -285,73 +285,73 @@ fn listing_text(example: &Example) -> String {
 }
 
 const SHEET: &str = "\
-use mathlib.Core.Path.{_≡_, refl}
-use mathlib.Core.List.{List, [], _∷_, _++_}
-use Prim.Native.Nat.{ℕ, _+_}
+use mathlib.Core.Path.{◌≡◌, refl}
+use mathlib.Core.List.{List, [], ◌∷◌, ◌++◌}
+use Prim.Native.Nat.{ℕ, ◌+◌}
 use lib.IntN.{pos, negsuc}
 use lib.ListN.{take, replicate}
 use lib.Seq.{sets}
-use Rattle·sheet_spec.specs.Slots.{unsafeSlot}
-use Rattle·sheet_spec.specs.Sheet.{refusal, values, writeRefusal}
-use Rattle·sheet_spec.specs.SheetA.{fileA}
-use Rattle·sheet_spec.proofs.Everything.{everything}
+use Rattle.sheet_spec.specs.Slots.{unsafe_slot}
+use Rattle.sheet_spec.specs.Sheet.{refusal, values, write_refusal}
+use Rattle.sheet_spec.specs.SheetA.{file_a}
+use Rattle.sheet_spec.proofs.Everything.{everything}
 ";
 
 const REACH: &str = "\
-use mathlib.Core.Path.{_≡_, refl}
-use mathlib.Core.List.{List, [], _∷_}
+use mathlib.Core.Path.{◌≡◌, refl}
+use mathlib.Core.List.{List, [], ◌∷◌}
 use Prim.Native.Nat.{ℕ}
 use lib.IntN.{ℤ, pos, negsuc}
 use lib.ListN.{take}
 use lib.Seq.{sets}
-use Rattle·sheet_spec.specs.SheetA.{fileA}
-use Rattle·machine_spec.specs.declared.Law.the-variants.{Baseline}
-use Rattle·machine_spec.specs.Machine.{oneCommand}
-use Rattle·boxes_spec.specs.Reach.{Answer, refused, reachFile}
-use Rattle·boxes_spec.proofs.Everything.{everything}
+use Rattle.sheet_spec.specs.SheetA.{file_a}
+use Rattle.machine_spec.specs.declared.Law.TheVariants.{Baseline}
+use Rattle.machine_spec.specs.Machine.{one_command}
+use Rattle.boxes_spec.specs.Reach.{Answer, refused, reach_file}
+use Rattle.boxes_spec.proofs.Everything.{everything}
 
 abbrev answered : List ℤ → List ℤ → ℕ → Answer
 answered E W c = record { refusal = 0; end = E; swept = W; rounds = c }
 ";
 
 const DECISION: &str = "\
-use mathlib.Core.Path.{_≡_, refl}
-use mathlib.Core.List.{List, [], _∷_, _++_}
+use mathlib.Core.Path.{◌≡◌, refl}
+use mathlib.Core.List.{List, [], ◌∷◌, ◌++◌}
 use Prim.Native.Nat.{ℕ}
 use lib.ListN.{take}
 use lib.Seq.{sets}
-use Rattle·sheet_spec.specs.SheetA.{fileA}
-use Rattle·decision_spec.specs.Decision.{keep, finest, spent, refused, answered, decide, checkRecovery}
-use Rattle·decision_spec.specs.Listing.{listing}
-use Rattle·decision_spec.proofs.Everything.{everything}
+use Rattle.sheet_spec.specs.SheetA.{file_a}
+use Rattle.decision_spec.specs.Decision.{keep, finest, spent, refused, answered, decide, check_recovery}
+use Rattle.decision_spec.specs.Listing.{listing}
+use Rattle.decision_spec.proofs.Everything.{everything}
 ";
 
 const READINGS: &str = "\
-use mathlib.Core.Path.{_≡_, refl}
-use mathlib.Core.List.{List, [], _∷_}
+use mathlib.Core.Path.{◌≡◌, refl}
+use mathlib.Core.List.{List, [], ◌∷◌}
 use Prim.Native.Nat.{ℕ}
 use lib.IntN.{pos, negsuc}
 use lib.ListN.{take}
 use lib.Seq.{sets}
-use lib.Ieee.{Float, binary32, ofBits}
-use Rattle·sheet_spec.specs.Slots.{N}
-use Rattle·sheet_spec.specs.SheetA.{fileA}
-use Rattle·readings_spec.specs.Exact.{finite, scaled, rounded, between}
-use Rattle·readings_spec.specs.Reading.{readingSide, valueIn, toleranceIn, readingRefusal, readingsRefusal, readingsBox}
-use Rattle·decision_spec.specs.Numbers.{numberBytes, sidesOf}
-use Rattle·decision_spec.specs.Decision.{keep, finest, spent, refused, answered}
-use Rattle·decision_spec.specs.Readings.{withBox, decideReadings}
-use Rattle·decision_spec.specs.ReadingsCall.{readingOf, readingIn, readingsIn}
-use Rattle·decision_spec.proofs.Everything as decision
+use lib.Ieee.{Float, binary32, of_bits}
+use Rattle.sheet_spec.specs.Slots.{N}
+use Rattle.sheet_spec.specs.SheetA.{file_a}
+use Rattle.readings_spec.specs.Exact.{finite, scaled, rounded, between}
+use Rattle.readings_spec.specs.Reading.{reading_side, value_in, tolerance_in, reading_refusal, readings_refusal, readings_box}
+use Rattle.decision_spec.specs.Numbers.{number_bytes, sides_of}
+use Rattle.decision_spec.specs.Decision.{keep, finest, spent, refused, answered}
+use Rattle.decision_spec.specs.Readings.{with_box, decide_readings}
+use Rattle.decision_spec.specs.ReadingsCall.{reading_of, reading_in, readings_in}
+use Rattle.decision_spec.proofs.Everything as decision
 
 -- opens the definitions of readings too
 unfoldable everything : ℕ
-unfolding decision.everything ofBits finite scaled rounded between readingSide valueIn toleranceIn readingRefusal readingsRefusal readingsBox numberBytes sidesOf withBox decideReadings readingOf readingIn readingsIn
+unfolding decision.everything of_bits finite scaled rounded between reading_side value_in tolerance_in reading_refusal readings_refusal readings_box number_bytes sides_of with_box decide_readings reading_of reading_in readings_in
 everything = 0
 
 -- the float with these bits
 abbrev float : ℕ → Float
-float b = ofBits binary32 b
+float b = of_bits binary32 b
 ";
 
 fn print(examples: &[Example], header: &str, bases: &Bases) {
@@ -361,7 +361,7 @@ fn print(examples: &[Example], header: &str, bases: &Bases) {
     for base in &bases.used {
         let (name, bytes) = (bases.term(base), byte_list(bases.hex(base).expect("a named file")));
         match *base {
-            "A" => println!("\n-- sheet A is the second guard's\nsame-A : {name} ≡ {bytes}\nunfolding {name}\nsame-A = refl"),
+            "A" => println!("\n-- sheet A is the second guard's\nsame_A : {name} ≡ {bytes}\nunfolding {name}\nsame_A = refl"),
             _ => println!("\nunfoldable {name} : List ℕ\n{name} = {bytes}"),
         }
     }
@@ -369,7 +369,7 @@ fn print(examples: &[Example], header: &str, bases: &Bases) {
         println!("\nunfoldable sheet{number} : List ℕ\nsheet{number} = {}", byte_list(sheet));
     }
     for example in examples {
-        let name = example.name.replace('_', "-");
+        let name = example.name;
         let (given, said) = row(example, bases);
         println!();
         if example.call == "listing" {
@@ -380,7 +380,7 @@ fn print(examples: &[Example], header: &str, bases: &Bases) {
         println!("{name} : {given} ≡ {said}");
         println!("unfolding {}everything\n{name} = refl", bases.opened(example));
         if let Some((given, said)) = box_row(example) {
-            println!("\n{name}-box : {given} ≡ {said}\nunfolding everything\n{name}-box = refl");
+            println!("\n{name}_box : {given} ≡ {said}\nunfolding everything\n{name}_box = refl");
         }
     }
 }
