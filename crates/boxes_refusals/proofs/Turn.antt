@@ -15,6 +15,10 @@ module _ (n : ℕ) (B : List ℤ) where
   unfolding sides_refusal
   sides_pass passed = unless_zero (all n (side_in B)) Cause.start passed
 
+  pub sides_none : sides_refusal 0 B ≡ 0
+  unfolding sides_refusal all
+  sides_none = refl
+
   pub sides_more : sides_refusal n B ≡ 0 → side_in B n ≡ true → sides_refusal (n + 1) B ≡ 0
   unfolding sides_refusal
   sides_more passed ranged = rw (all_more n (side_in B) (sides_pass passed) ranged) refl

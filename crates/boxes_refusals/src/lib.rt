@@ -12,6 +12,7 @@ use sheet_spec::limits::{MAX_SIDE, MAX_TICKS, MAX_WIDTH};
 use sheet_spec::refusals::{COMMAND, REACH, START};
 use sheet_spec::slots::{BOX_SIZE, GREATEST, LEAST, N, SLOTS};
 
+#[tactic(auto, unfolding(boxes_spec::specs::Reach::ticks_refusal))]
 fn ticks_refusal(ticks: u32, width: u32) -> u8
     ensures { result ≡ ticks_refusal ticks width }
 {
@@ -27,6 +28,7 @@ fn ticks_refusal(ticks: u32, width: u32) -> u8
     0
 }
 
+#[tactic(auto, unfolding(boxes_spec::specs::Reach::law_refusal), using(integers::proofs::Z::ints))]
 pub fn law_refusal(sheet: &[i32; SLOTS], law: Law) -> u8
     ensures { result ≡ law_refusal sheet.now law }
 {
@@ -57,6 +59,7 @@ fn in_range(lower: i64, upper: i64) -> bool
     upper <= MAX_SIDE
 }
 
+#[tactic(auto, using(crate::proofs::Turn::sides_none, crate::proofs::Turn::sides_more, crate::proofs::Turn::sides_stop))]
 pub fn sides_refusal(n: usize, start: &[i64; BOX_SIZE]) -> u8
     requires { n ≤ slots.N }
     ensures { result ≡ sides_refusal n start.now }
@@ -73,6 +76,7 @@ pub fn sides_refusal(n: usize, start: &[i64; BOX_SIZE]) -> u8
 }
 
 // The first of them, for a sheet of n variables.
+#[tactic(auto, unfolding(boxes_spec::specs::Reach::reach_refusal, sheet_spec::specs::Refusals::first_of, sheet_spec::specs::Refusals::unless_refused))]
 pub fn reach_refusal(
     n: usize,
     sheet: &[i32; SLOTS],
