@@ -53,6 +53,7 @@ pub struct QuestionRead {
 }
 
 // The question that the first two bytes announce.
+#[tactic(auto, unfolding(decision_spec::specs::Question::kind_of))]
 pub fn kind(bytes: &[u8]) -> QuestionKind
     ensures { result ≡ kind_of bytes.now }
 {
@@ -72,6 +73,7 @@ pub fn kind(bytes: &[u8]) -> QuestionKind
     QuestionKind::Unknown
 }
 
+#[tactic(auto, unfolding(decision_spec::specs::Question::known))]
 pub fn is_known(kind: QuestionKind) -> bool
     ensures { result ≡ known kind }
 {
@@ -101,6 +103,7 @@ fn sides_at(kind: QuestionKind) -> usize
 }
 
 // How many of the bytes still to come the next question takes, on a sheet of n variables.
+#[tactic(auto, unfolding(decision_spec::specs::Question::next_length))]
 pub fn next_length(n: usize, bytes: &[u8]) -> usize
     requires { n ≤ slots.N }
     ensures { (result ≡ next_length n bytes.now) × (result ≤ length bytes.now) }
@@ -118,6 +121,7 @@ pub fn next_length(n: usize, bytes: &[u8]) -> usize
 }
 
 // n pairs of lower and upper side, from a place on.
+#[tactic(auto, unfolding(decision_spec::specs::Question::pairs), using(machine_spec::proofs::Box::sides_more))]
 pub fn pairs(n: usize, bytes: &[u8], at: usize) -> [i64; BOX_SIZE]
     requires { (n ≤ slots.N) × (at + box_bytes n ≤ length bytes.now) }
     ensures { result ≡ pairs n bytes.now at }
@@ -134,6 +138,7 @@ pub fn pairs(n: usize, bytes: &[u8], at: usize) -> [i64; BOX_SIZE]
     sides
 }
 
+#[tactic(auto, unfolding(decision_spec::specs::Question::form_refusal))]
 fn form_refusal(kind: QuestionKind, rest: usize, question: &[u8]) -> u8
     requires { (kind ≡ kind_of question.now) × (rest ≤ box_bytes slots.N) }
     ensures { result ≡ form_refusal rest question.now }
@@ -147,6 +152,7 @@ fn form_refusal(kind: QuestionKind, rest: usize, question: &[u8]) -> u8
     0
 }
 
+#[tactic(auto, unfolding(decision_spec::specs::Question::allowance_of, decision_spec::specs::Question::least_of, decision_spec::specs::Question::greatest_of))]
 fn head(kind: QuestionKind, question: &[u8]) -> QuestionHead
     requires { (kind ≡ kind_of question.now) × (sides_at kind ≤ length question.now) }
     ensures { result ≡ question_head question.now }
@@ -162,6 +168,7 @@ fn head(kind: QuestionKind, question: &[u8]) -> QuestionHead
 }
 
 // The head of a question of a kind, which `rest` bytes are to follow, and its tests in their order.
+#[tactic(auto, unfolding(decision_spec::specs::Question::head_refusal, decision_spec::specs::Question::allowance_refusal, sheet_spec::specs::Refusals::first_of, sheet_spec::specs::Refusals::unless_refused), using(decision_spec::proofs::Passes::form_passes))]
 pub fn read_head(sheet: &[i32; SLOTS], kind: QuestionKind, rest: usize, question: &[u8]) -> HeadRead
     requires { (kind ≡ kind_of question.now) × (rest ≤ box_bytes slots.N) }
     ensures { HeadReads sheet.now rest question.now result }
@@ -192,6 +199,7 @@ pub fn read_head(sheet: &[i32; SLOTS], kind: QuestionKind, rest: usize, question
 }
 
 // The question on a sheet of n variables.
+#[tactic(auto, unfolding(decision_spec::specs::Question::question_refusal, decision_spec::specs::Question::measured, sheet_spec::specs::Refusals::first_of, sheet_spec::specs::Refusals::unless_refused), using(decision_spec::proofs::Passes::form_passes, decision_spec::proofs::Passes::head_passes))]
 pub fn read(n: usize, sheet: &[i32; SLOTS], question: &[u8]) -> QuestionRead
     requires { (n ≡ slots.vars sheet.now) × (n ≤ slots.N) }
     ensures { QuestionReads sheet.now question.now result }
