@@ -1,8 +1,7 @@
 -- The sides of a reading as the code comes to them: by the cause of a refusal, or by floor and ceiling. Assumes nothing.
 use mathlib.Core.Path.{◌≡◌, refl, sym, ap₂, ◌∙◌}
 use mathlib.Core.Bool.{Bool, true, false, ◌&&◌}
-use Prim.Native.Nat.{ℕ}
-use lib.Dec.{T, leb}
+use lib.Dec.{T}
 use lib.IntN.{ℤ, pos, neg_ℤ, ◌+ℤ◌, ◌-ℤ◌}
 use lib.Signed.{le_z, lt_z, ◌≤ℤ◌, le_z_yes}
 use lib.Ieee.{Float, binary32, fits, lt}
@@ -19,7 +18,7 @@ use Rattle.readings_spec.specs.declared.Reading.{Reading}
 use Rattle.readings_spec.specs.declared.Reading.TheVariants.{Point, Pair, Missing}
 use Rattle.readings_spec.specs.declared.Measurement.{Measurement}
 use Rattle.readings_spec.specs.Exact.{finite, scaled, whole, between}
-use Rattle.readings_spec.specs.Reading.{reading_side, value_in, tolerance_in, reading_refusal}
+use Rattle.readings_spec.specs.Reading.{value_in, tolerance_in, reading_refusal}
 use Rattle.readings_spec.proofs.Exact.{lt_scaled, lt_le_z, ge_le_z}
 use Rattle.readings_spec.proofs.Sides.{ends, value_finite}
 use Rattle.readings.specs.declared.Sides.{Sides}

@@ -1,23 +1,21 @@
 -- How a float's digits give the whole part of its size, and how the whole part gives floor and ceiling. Assumes nothing.
 use mathlib.Core.Path.{◌≡◌, refl, sym, ap, ap₂, ◌∙◌, subst}
 use mathlib.Core.Bool.{Bool, true, false, cond}
-use mathlib.Core.Logic.{◌⊎◌, inl, inr, ⊎_elim}
 use Prim.Native.Nat.{ℕ, zero, suc, ◌+◌, ◌-◌, ◌*◌, ◌/◌, ◌%◌, ◌^◌, ◌≤◌, ◌<◌, min}
-use native.Mathlib.Nat.{lt_of_lt_of_le, mul_assoc, mul_comm, zero-mul, mul-pos, mul-add, div-add-mod, div-add-mod', mod-lt, div-eq_of_lt, mod-eq_of_lt, mul-mod_left, add-zero, eq_of_mul-eq-mul_right}
+use native.Mathlib.Nat.{lt_of_lt_of_le, mul_assoc, zero-mul, mul-add, div-add-mod, div-add-mod', mod-lt, div-eq_of_lt, mod-eq_of_lt, mul-mod_left, add-zero, eq_of_mul-eq-mul_right}
 use native.Mathlib.Omega.{arith}
 use lib.Dec.{eqb, leb}
-use lib.IntN.{ℤ, pos, negsuc, neg_ℤ, ◌+ℤ◌, ◌-ℤ◌, ◌*ℤ◌}
+use lib.IntN.{ℤ, pos, neg_ℤ, ◌-ℤ◌}
 use lib.Ieee.{Float}
 use mir.Syntax.{w64}
 use mir.Val.{SFits}
-use lib.Signed.{◌≤ℤ◌, ◌<ℤ◌}
 use lib.Pow.{pow-add, pow_pos, pow_mono, shl_lt, shl-shr, shr-shr, split}
 use borrow.Author.Tests.{eq-eqb, ne_eqb, eqb-true, eqb-false, leb-true, leb-false}
 use Rattle.integers.specs.Division.{floor_div, ceil_div}
 use Rattle.integers.proofs.Z.{ints, flat}
-use Rattle.integers.proofs.Division.{floor_only, ceil_only}
+use Rattle.integers.proofs.Division.{floor_only}
 use Rattle.machine_spec.specs.Machine.{outward_div}
-use Rattle.readings_spec.specs.Exact.{unit, signed, scaled, rounded}
+use Rattle.readings_spec.specs.Exact.{unit, signed, rounded}
 use Rattle.readings_spec.proofs.Exact.{unit_pos}
 use Rattle.readings.specs.declared.Parts.{Parts}
 use Rattle.readings.specs.Rounding.{PartsOf}

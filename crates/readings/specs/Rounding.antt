@@ -1,5 +1,5 @@
 -- What the code works out of a float's bits: the whole part of its size and whether something is left, and how a face is rounded by these.
-use Rattle.std.specs.Prelude.{◌≡◌, Bool, true, false, ℕ, ◌/◌, ◌%◌, eqb, ℤ, Float}
+use Rattle.std.specs.Prelude.{◌≡◌, ℕ, ◌/◌, ◌%◌, eqb, Float}
 use Rattle.readings_spec.specs.Exact.{unit, signed, scaled}
 use Rattle.readings.specs.declared.Parts.{Parts}
 

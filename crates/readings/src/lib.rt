@@ -244,9 +244,8 @@ pub fn measured(n: usize, readings: [Reading; N]) -> BoxRead
     }
 }
 
-// A float's floor (face 0) or its ceiling (any other face) for C, in the archive of this crate alone (include/readings.h).
-#[unsafe(no_mangle)]
-pub extern "C" fn reading_side(value: f32, face: u32) -> i64
+// A float's floor (face 0) or its ceiling (any other face), or why it is refused, as include/readings.h has it. `readings_c` exports it to C.
+pub fn reading_side(value: f32, face: u32) -> i64
     ensures { result ≡ side_call value face }
 {
     if !value_in(value) {
