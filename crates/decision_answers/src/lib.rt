@@ -36,6 +36,7 @@ const SPENT: u64 = 2;
 const REFUSED: u64 = 3;
 
 // A verdict that is not spent, as a recovery check's answer.
+#[tactic(auto, unfolding(crate::specs::Decision::reply_of, crate::specs::Recovery::check_reply_of))]
 pub fn recovery_of(decision: Decision) -> Recovery
     requires { (w c : ℕ) → reply_of decision ≡ answered spent w c → ⊥ }
     ensures { check_reply_of result ≡ reply_of decision }
@@ -58,6 +59,7 @@ pub fn recovery_of(decision: Decision) -> Recovery
 }
 
 // A recovery check's answer with the codes of a decision.
+#[tactic(auto, unfolding(crate::specs::Decision::reply_of, crate::specs::Recovery::check_reply_of))]
 pub fn as_decision(recovery: Recovery) -> Decision
     ensures { reply_of result ≡ check_reply_of recovery }
 {
@@ -75,6 +77,7 @@ pub fn as_decision(recovery: Recovery) -> Decision
 }
 
 // Whether a recovery check passed.
+#[tactic(auto, unfolding(crate::specs::Recovery::check_reply_of, decision_spec::specs::Decision::is_keep))]
 pub fn has_passed(recovery: Recovery) -> bool
     ensures { result ≡ is_keep (check_reply_of recovery) }
 {
@@ -97,12 +100,14 @@ fn pack(code: u64, width: u32, rounds: u32) -> u64
     code * CODE_UNIT + (width as u64) * WIDTH_UNIT + (rounds as u64)
 }
 
+#[tactic(auto, unfolding(decision_spec::specs::Decision::packed, decision_spec::specs::Decision::code_of, decision_spec::specs::Decision::width_of, decision_spec::specs::Decision::rounds_of))]
 pub fn pack_refusal(number: u8) -> u64
     ensures { result ≡ packed (refused number) }
 {
     pack(REFUSED, number as u32, 0)
 }
 
+#[tactic(auto, unfolding(crate::specs::Decision::reply_of, decision_spec::specs::Decision::packed, decision_spec::specs::Decision::code_of, decision_spec::specs::Decision::width_of, decision_spec::specs::Decision::rounds_of))]
 pub fn pack_decision(decision: Decision) -> u64
     requires { width_of (reply_of decision) ≤ max_width }
     ensures { result ≡ packed (reply_of decision) }
