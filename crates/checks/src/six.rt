@@ -2,6 +2,7 @@
 
 use crate::{answer, sheet_a, sheet_f, verdict};
 use sheet::slots::*;
+use std::io::Print;
 
 // The lengths of sheets with one band and one no-go box.
 const FIXED: usize = 290;
@@ -22,33 +23,37 @@ fn six(v: [i32; SLOTS]) -> [i32; SLOTS] {
 }
 
 // Writes it to a buffer of just its length, and reads that.
-fn fixed() {
+fn fixed(to: &impl Print) {
     let f = sheet_a::file();
     let read = sheet::read(&f[0..sheet_a::LENGTH]);
     let value = read.value;
     let v = six(value);
     let mut buffer = [0u8; FIXED];
     let written = sheet::write(&v, &mut buffer, 0);
-    answer(b"write six variables", written.refusal);
-    verdict(b"length of six variables", written.length == FIXED);
+    answer(to, b"write six variables", written.refusal);
+    verdict(to, b"length of six variables", written.length == FIXED);
     let back = sheet::read(&buffer);
-    answer(b"six variables", back.refusal);
+    answer(to, b"six variables", back.refusal);
 }
 
-fn feedback() {
+fn feedback(to: &impl Print) {
     let f = sheet_f::file();
     let read = sheet::read(&f);
     let value = read.value;
     let v = six(value);
     let mut buffer = [0u8; FEEDBACK];
     let written = sheet::write(&v, &mut buffer, 0);
-    answer(b"write BF of six variables", written.refusal);
-    verdict(b"length of BF of six variables", written.length == FEEDBACK);
+    answer(to, b"write BF of six variables", written.refusal);
+    verdict(
+        to,
+        b"length of BF of six variables",
+        written.length == FEEDBACK,
+    );
     let back = sheet::read(&buffer);
-    answer(b"BF of six variables", back.refusal);
+    answer(to, b"BF of six variables", back.refusal);
 }
 
-pub fn checks() {
-    fixed();
-    feedback();
+pub fn checks(to: &impl Print) {
+    fixed(to);
+    feedback(to);
 }
