@@ -3,7 +3,7 @@
 # and compares what it writes with the second guard's listing. The last line is 'N passed, M failed'.
 set -u
 cd "$(dirname "$0")/.." || exit 1
-program=$PWD/target/bin/floor_listing
+program=$PWD/crates/floor_listing/out/floor_listing
 guard=${CARGO_TARGET_DIR:-$PWD/reference/target}/release
 cargo build --release --offline --quiet --manifest-path reference/Cargo.toml || exit 1
 scratch=$(mktemp -d) || exit 1

@@ -1,7 +1,7 @@
 #!/bin/sh
 # guard.sh [FOLDER]: builds tests/guard.c with include/guard.h and the guard's archive alone, tests/sheet.c with the archive of
-# the crate `sheet` beside it, and tests/readings.c with that of the crate `readings` alone, and runs all three. FOLDER has what
-# `rt staticlib` writes for guard, sheet and readings. Each program's last line is `N passed, M failed`.
+# sheets beside it, and tests/readings.c with that of readings alone, and runs all three. FOLDER has what tests/archives.sh
+# writes. Each program's last line is `N passed, M failed`.
 set -eu
 root=$(cd "$(dirname "$0")/.." && pwd)
 archives=${1:-$root/target/staticlib}
