@@ -93,17 +93,15 @@ pub fn read(f: &[u8]) -> Parsed
     }
 }
 
-// The number of numbers in the array of `sheet_read`, for C.
-#[unsafe(no_mangle)]
-pub extern "C" fn sheet_numbers() -> u64
+// The number of numbers in the array of `sheet_read`.
+pub fn sheet_numbers() -> u64
     ensures { result ≡ slots }
 {
     SLOTS as u64
 }
 
-// Reads a sheet for C, in the archive of this crate alone (include/sheet.h); a refusal leaves the array as it was.
-#[unsafe(no_mangle)]
-pub extern "C" fn sheet_read(f: &[u8], v: &mut [i32; SLOTS]) -> u8
+// Reads a sheet into an array of any numbers; a refusal leaves the array as it was. `sheet_c` exports these two to C.
+pub fn sheet_read(f: &[u8], v: &mut [i32; SLOTS]) -> u8
     ensures value { result ≡ refusal f.now }
     ensures v_after { (result ≡ 0 → v.new ≡ values f.now) × ((result ≡ 0 → ⊥) → v.new ≡ v.old) }
 {
