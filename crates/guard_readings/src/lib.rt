@@ -23,6 +23,7 @@ fn kind_at(kinds: &[u8], i: usize) -> u8
 }
 
 // A variable's reading, from its kind and its two floats.
+#[tactic(auto, unfolding(decision_spec::specs::ReadingsCall::reading_of))]
 fn reading_of(kind: u8, x: f32, y: f32) -> Reading
     ensures { result ≡ reading_of kind x y }
 {
@@ -39,6 +40,7 @@ fn reading_of(kind: u8, x: f32, y: f32) -> Reading
 }
 
 // Variable i's reading. Where a slice does not reach that far there is none.
+#[tactic(auto, unfolding(decision_spec::specs::ReadingsCall::reading_in))]
 fn reading_in(kinds: &[u8], values: &[f32], i: usize) -> Reading
     requires { i < slots.N }
     ensures { result ≡ reading_in kinds.now values.now i }
@@ -51,6 +53,7 @@ fn reading_in(kinds: &[u8], values: &[f32], i: usize) -> Reading
 }
 
 // The readings of all variables.
+#[tactic(auto, unfolding(decision_spec::specs::ReadingsCall::readings_in))]
 pub fn readings_in(kinds: &[u8], values: &[f32]) -> [Reading; N]
     ensures { result ≡ readings_in kinds.now values.now slots.N }
 {
