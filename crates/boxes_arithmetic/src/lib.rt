@@ -35,7 +35,7 @@ pub fn outer(up: bool, a: i64, b: i64) -> i64
 // The quotient, rounded down, of a dividend that is above divisor·base. What it is above that, 32 bits hold: so nothing negative is divided.
 fn quotient_above(base: i64, dividend: i64, divisor: i64) -> i64
     requires { AboveAsked base dividend divisor }
-    ensures { result ≡ floor_div dividend (nat_abs divisor) }
+    ensures { result ≡ (floor_div dividend (nat_abs divisor)) }
 {
     let moved = dividend - divisor * base;
     let quotient = (moved as u32) / (divisor as u32);
