@@ -1,2 +1,3 @@
 mod Sides
 mod Turn
+mod Arrival
