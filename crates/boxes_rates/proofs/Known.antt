@@ -48,20 +48,16 @@ Stands e v k P x = x <ℤ pos unknown → x ≡ end_over Feedback e v k P
 module _ {v : List ℤ} {k : ℕ} {P o : List ℤ} where
   -- an end of band k is known
   known_set : KnownAt v k P o → (e : Bool) {z : ℤ} → z ≡ end_over Feedback e v k P → KnownAt v k P (set o (end_place e k) z)
-  known_set r false {z} q =
-      record {
-        right = λ f. elim f [
-          | false ↦ set_one (Stands false v k P) o k (λ _. q) (r.right false)
-          | true ↦ subst (Stands true v k P) (sym (get_or-set_other o k (k + max_bands) z (pos 0) (λ u. omega (arith, u)))) (r.right true)
-        ];
-      }
-  known_set r true {z} q =
-      record {
-        right = λ f. elim f [
-          | true ↦ set_one (Stands true v k P) o (k + max_bands) (λ _. q) (r.right true)
-          | false ↦ subst (Stands false v k P) (sym (get_or-set_other o (k + max_bands) k z (pos 0) (λ u. omega (arith, u)))) (r.right false)
-        ];
-      }
+  known_set r false {z} q = record { right = by }
+    where
+      by : (f : Bool) → Stands f v k P (set o k z ! end_place f k)
+      by false = set_one (Stands false v k P) o k (λ _. q) (r.right false)
+      by true = subst (Stands true v k P) (sym (get_or-set_other o k (k + max_bands) z (pos 0) (λ u. omega (arith, u)))) (r.right true)
+  known_set r true {z} q = record { right = by }
+    where
+      by : (f : Bool) → Stands f v k P (set o (k + max_bands) z ! end_place f k)
+      by true = set_one (Stands true v k P) o (k + max_bands) (λ _. q) (r.right true)
+      by false = subst (Stands false v k P) (sym (get_or-set_other o (k + max_bands) k z (pos 0) (λ u. omega (arith, u)))) (r.right false)
 
   -- and noted, if the ends are shared
   pub noted_end : k < max_bands → (shared : Bool) {at : ℕ} → KnownAsked shared v at k P o → (e : Bool) {z : ℤ} → z ≡ end_over Feedback e v k P → Noted shared v k P o (cond shared (set o (end_place e k) z) o)

@@ -107,6 +107,7 @@ fn end_over(
 }
 
 // The end of the commands at which a coefficient's product is the outer one: the greatest, or the least.
+#[tactic(auto, unfolding(crate::specs::Limits::outer_end))]
 fn outer_is_greatest(up: bool, coefficient: i32) -> bool
     ensures { result ≡ outer_end up coefficient false true }
 {

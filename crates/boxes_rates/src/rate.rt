@@ -22,6 +22,7 @@ use sheet_spec::slots::{
 };
 
 // A band follows the one at the slot `at`, which is not the last band's slot `top`, and starts at or below x.
+#[tactic(auto, unfolding(crate::specs::Plant::next_starts_by))]
 fn next_starts_by(sheet: &[i32; SLOTS], top: usize, at: usize, x: i64) -> bool
     requires { top + slots.band_size ≤ slots.slots }
     ensures { result ≡ next_starts_by sheet.now top at x }
@@ -54,6 +55,7 @@ fn band_number(band: usize) -> usize
 }
 
 // The value that leaves the outermost as it is.
+#[tactic(auto, unfolding(machine_spec::specs::Rate::neutral))]
 fn neutral(up: bool, cap: i64) -> i64
     requires { Bound cap max_cap }
     ensures { result ≡ neutral up cap }
@@ -148,6 +150,7 @@ fn rate(
 }
 
 // The place of the side that a face's neighborhood cuts: the other face's.
+#[tactic(auto, unfolding(crate::specs::Plant::cut_at))]
 fn cut_at(up: bool, i: usize) -> usize
     requires { i < slots.N }
     ensures { result ≡ cut_at up i }
@@ -291,6 +294,7 @@ fn following_rates(
 }
 
 // The plain law acts, and it follows the state.
+#[tactic(auto, unfolding(crate::specs::Plant::follows_state))]
 fn follows_state(plant: Plant) -> bool
     ensures { result ≡ follows_state plant.law plant.kind }
 {

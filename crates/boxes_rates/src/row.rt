@@ -15,6 +15,7 @@ use boxes_arithmetic::{Outermost, outer_quotient};
 use sheet_spec::slots::{BOX_SIZE, N, ROW_C, ROW_D, ROW_Q, SLOTS};
 
 // The place of the side of variable j at which a coefficient's product is the outer one, in a box that is not empty.
+#[tactic(auto, unfolding(crate::specs::Limits::outer_end))]
 fn outer_place(up: bool, coefficient: i32, j: usize) -> usize
     requires { j < slots.N }
     ensures { result ≡ outer_place up coefficient j }
@@ -61,6 +62,7 @@ pub fn product(coefficient: i32, command: i64) -> i64
 }
 
 // The end of a span at which a coefficient's product is the outer one.
+#[tactic(auto, unfolding(crate::specs::Limits::outer_end))]
 fn outer_end(up: bool, coefficient: i32, least: i64, greatest: i64) -> i64
     ensures { result ≡ outer_end up coefficient least greatest }
 {
