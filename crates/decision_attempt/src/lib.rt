@@ -54,6 +54,7 @@ pub enum AttemptResult {
 }
 
 // A reach on the sheet v with the swept box W as an attempt's outcome.
+#[tactic(auto, unfolding(crate::specs::AttemptResult::summary, crate::specs::AttemptResult::failure_of, boxes::specs::ReachResult::result_of, boxes::specs::ReachResult::Names))]
 fn summary_of(reached: ReachResult) -> AttemptResult
     ensures { (v E W : List ℤ) → Names (lowest_met (vars v) v (boxes v) W) reached → result ≡ summary v (reached_of E W reached) }
 {
