@@ -26,6 +26,11 @@ module _ {base x q : ℤ} (asked : AboveAsked base x q) where
   back_fits : FitsSigned w64 (pos (nat_abs (x -ℤ q *ℤ base) / nat_abs q) +ℤ base)
   back_fits = fits64 (bound_sum quotient_near asked.near) tt
 
+pub overflow_sub-moved : goal.overflow_sub-moved
+overflow_sub-moved c =
+    let a = c.requires in
+    simp (to_z-of_z, c.ranges.dividend, c.ranges.divisor, c.ranges.base, base_fits a) (moved_fits a)
+
 pub overflow_cast-quotient : goal.overflow_cast-quotient
 overflow_cast-quotient c =
     let a = c.requires in
