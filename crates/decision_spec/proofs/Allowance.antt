@@ -28,6 +28,8 @@ use Rattle.sheet_spec.proofs.Box.{differ}
 use Rattle.machine_spec.proofs.Facts.{room}
 use Rattle.boxes_spec.specs.Step.{Result, ok, failed, exhausted}
 use Rattle.boxes_spec.proofs.Refusals.{law_most, sides_most}
+use Rattle.readings_spec.specs.Causes as readings
+use Rattle.readings_spec.proofs.Causes as of_reading
 use Rattle.boxes_spec.proofs.Stages.{Counted, Takes, value, failure, spent, counted_none, counted_less, counted_on, takes_map, takes_then, takes_if}
 use Rattle.boxes_spec.proofs.Settled.{reach_takes}
 use Rattle.readings_spec.specs.declared.Reading.{Reading}
@@ -160,9 +162,9 @@ question_most v g = first_of_most _ (head_most v (box_bytes (vars v)) g, (sides_
 
 reading_most : (r : Reading) → reading_refusal r ≤ greatest_number
 unfolding reading_refusal
-reading_most (Point m) = unless_most (value_in m.value && tolerance_in m.tolerance) Cause.reading
-reading_most (Pair l u) = unless_most (value_in l && value_in u && le_z (scaled l) (scaled u)) Cause.reading
-reading_most Missing = unless_most false Cause.missing
+reading_most (Point m) = of_reading.unless_most (value_in m.value && tolerance_in m.tolerance) readings.Cause.reading
+reading_most (Pair l u) = of_reading.unless_most (value_in l && value_in u && le_z (scaled l) (scaled u)) readings.Cause.reading
+reading_most Missing = of_reading.unless_most false readings.Cause.missing
 
 read_most : (v : List ℤ) (h : List ℕ) (rs : List Reading) → read_refusal v h rs ≤ greatest_number
 unfolding readings_refusal

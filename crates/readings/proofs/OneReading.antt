@@ -11,9 +11,9 @@ use mir.Facts.{to_z-of_z}
 use Rattle.integers.specs.Bound.{Bound}
 use Rattle.integers.proofs.Z.{ints, bound_sum, bound_sub, fits64, op64}
 use Rattle.sheet_spec.specs.Limits.{max_reading, max_tolerance}
-use Rattle.sheet_spec.specs.Refusals.{Cause, number}
+use Rattle.readings_spec.specs.Causes.{Cause, number}
 use Rattle.sheet_spec.proofs.Box.{and_both, le_is}
-use Rattle.sheet_spec.proofs.Laws.{number_is}
+use Rattle.readings_spec.proofs.Causes.{number_is}
 use Rattle.readings_spec.specs.declared.Reading.{Reading}
 use Rattle.readings_spec.specs.declared.Reading.TheVariants.{Point, Pair, Missing}
 use Rattle.readings_spec.specs.declared.Measurement.{Measurement}

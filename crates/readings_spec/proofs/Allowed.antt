@@ -11,8 +11,9 @@ use lib.Ieee.{Float}
 use Rattle.integers.proofs.Z.{ints, flat, le_by, mul_mono, mul_assoc}
 use Rattle.integers.proofs.Division.{floor_lo, ceil_hi}
 use Rattle.sheet_spec.specs.Slots.{◌!◌}
-use Rattle.sheet_spec.specs.Refusals.{Cause}
-use Rattle.sheet_spec.proofs.Laws.{number_is, first_none}
+use Rattle.sheet_spec.proofs.Laws.{first_none}
+use Rattle.readings_spec.specs.Causes.{Cause}
+use Rattle.readings_spec.proofs.Causes.{number_is}
 use Rattle.machine_spec.specs.Machine.{outward_div}
 use Rattle.machine_spec.specs.Box.{In, box_of}
 use Rattle.machine_spec.proofs.Box.{sides_lo, sides_hi}

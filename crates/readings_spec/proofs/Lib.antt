@@ -1,3 +1,4 @@
+pub mod Causes
 pub mod Exact
 pub mod FromBits
 pub mod Allowed

@@ -13,11 +13,12 @@ use Rattle.integers.specs.Bound.{Bound}
 use Rattle.integers.proofs.Z.{ints, flat, le_true, bound_in, bound_sum, bound_sub, bound_less}
 use Rattle.integers.proofs.Division.{floor_lo, floor_most, ceil_hi, ceil_least}
 use Rattle.sheet_spec.specs.Limits.{max_reading, max_tolerance}
-use Rattle.sheet_spec.specs.Refusals.{Cause}
+use Rattle.readings_spec.specs.Causes.{Cause}
+use Rattle.readings_spec.proofs.Causes.{number_is, unless_zero}
 use Rattle.sheet_spec.specs.Slots.{N}
 use Rattle.sheet_spec.specs.Box.{lo, hi}
 use Rattle.sheet_spec.proofs.Box.{and_both}
-use Rattle.sheet_spec.proofs.Laws.{number_is, unless_zero, first_none}
+use Rattle.sheet_spec.proofs.Laws.{first_none}
 use Rattle.machine_spec.specs.Machine.{outward_div}
 use Rattle.machine_spec.specs.Box.{side, Near, box_of, trim}
 use Rattle.machine_spec.proofs.Box.{sides_lo, sides_hi, sides_same}

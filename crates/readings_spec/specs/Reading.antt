@@ -2,10 +2,11 @@
 use Rattle.std.specs.Prelude.{Bool, true, false, ◌&&◌, List, ℕ, ℤ, pos, neg_ℤ, ◌+ℤ◌, ◌-ℤ◌, get_or, Float}
 use Rattle.std.specs.Int.Signed.{le_z}
 use Rattle.sheet_spec.specs.Limits.{max_reading, max_tolerance}
-use Rattle.sheet_spec.specs.Refusals.{Cause, refuse_unless, first_refusal}
+use Rattle.sheet_spec.specs.Refusals.{first_refusal}
 use Rattle.machine_spec.specs.Box.{box_of}
 use Rattle.readings_spec.specs.declared.Reading.{Reading}
 use Rattle.readings_spec.specs.declared.Reading.TheVariants.{Point, Pair, Missing}
+use Rattle.readings_spec.specs.Causes.{Cause, refuse_unless}
 use Rattle.readings_spec.specs.Exact.{scaled, rounded, whole, between}
 
 -- ---- one reading

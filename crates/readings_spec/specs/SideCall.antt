@@ -1,6 +1,6 @@
 -- reading_side (include/readings.h), which the archive of the crate `readings` has: the floor (face 0) or the ceiling (any other face) of a value, or the refusal 19.
 use Rattle.std.specs.Prelude.{cond, not, ℕ, ◌+◌, ◌*◌, ◌^◌, eqb, ℤ, pos, Float}
-use Rattle.sheet_spec.specs.Refusals.{Cause, number}
+use Rattle.readings_spec.specs.Causes.{Cause, number}
 use Rattle.readings_spec.specs.Exact.{rounded}
 use Rattle.readings_spec.specs.Reading.{value_in}
 

@@ -14,7 +14,7 @@ use Rattle.integers.proofs.Z.{le_true}
 use Rattle.sheet_spec.specs.Slots.{recovery_box, unsafe_box, δ}
 use Rattle.sheet_spec.specs.Sheet.{values}
 use Rattle.sheet_spec.specs.SheetA.{file_a}
-use Rattle.sheet_spec.specs.Refusals.{Cause, number}
+use Rattle.readings_spec.specs.Causes.{Cause, number}
 use Rattle.sheet_spec.proofs.Box.{all_at}
 use Rattle.machine_spec.specs.Box.{In}
 use Rattle.machine_spec.specs.declared.Law.{Law}

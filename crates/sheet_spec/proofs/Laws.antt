@@ -108,8 +108,6 @@ number_range Cause.command = (omega arith, omega arith)
 number_range Cause.start = (omega arith, omega arith)
 number_range Cause.reach = (omega arith, omega arith)
 number_range Cause.room = (omega arith, omega arith)
-number_range Cause.missing = (omega arith, omega arith)
-number_range Cause.reading = (omega arith, omega arith)
 number_range Cause.order = (omega arith, omega arith)
 number_range Cause.overlap = (omega arith, omega arith)
 

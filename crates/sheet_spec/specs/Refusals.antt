@@ -36,10 +36,6 @@ pub data Cause : Type 0 where
   reach : Cause
   -- too little room in the buffer
   room : Cause
-  -- a variable without a reading (document 02, paper 1)
-  missing : Cause
-  -- a number of a reading (document 02, paper 1)
-  reading : Cause
   -- a no-go box that is not greater than the one before (document 02, paper 2)
   order : Cause
   -- the recovery box shares a state with a no-go box (document 02, paper 8)
@@ -63,8 +59,6 @@ number command = 14
 number start = 15
 number reach = 16
 number room = 17
-number missing = 18
-number reading = 19
 number order = 20
 number overlap = 22
 
