@@ -1,5 +1,5 @@
 -- The ends of the plain law's commands over a box, as the code takes them from the band at a slot. Assumes nothing.
-use mathlib.Core.Path.{◌≡◌, refl, sym, ap, ◌∙◌, subst}
+use mathlib.Core.Path.{◌≡◌, refl, ap, ◌∙◌}
 use mathlib.Core.Bool.{Bool, true, false}
 use mathlib.Core.List.{List}
 use Prim.Native.Nat.{ℕ, ◌+◌, ◌<◌, ◌≤◌}
@@ -11,7 +11,7 @@ use Rattle.integers.specs.Bound.{Bound}
 use Rattle.integers.specs.Order.{min_z}
 use Rattle.integers.proofs.Z.{ints, flat, neg, min_is, max_is, bound_in, bound_less}
 use Rattle.sheet_spec.specs.Limits.{max_command}
-use Rattle.sheet_spec.specs.Slots.{◌!◌, N, band_size, band_slot, slots, least_in_band, greatest_in_band, law_in_band, divisor_in_law, vars, bands, band_kind, feedback, feedback_at}
+use Rattle.sheet_spec.specs.Slots.{◌!◌, N, band_size, band_slot, slots, least_in_band, greatest_in_band, law_in_band, divisor_in_law, vars, bands, band_kind, feedback_at}
 use Rattle.sheet_spec.specs.Valid.{ValidNumbers}
 use Rattle.sheet_spec.specs.declared.BandKind.TheVariants.{Feedback}
 use Rattle.machine_spec.specs.declared.Law.TheVariants.{Baseline}

@@ -1,6 +1,6 @@
 -- `command_term` gives the outer product of the row's b and the commands that the law offers over the box: those of the plain law, by the kind of
 -- the bands, or those of a span. Assumes nothing.
-use Rattle.std.proofs.Common.{rules, arith, ◌≡◌, ◌∙◌, ap₂, sym, subst, Bool, true, false, ℕ, ◌+◌, List, ℤ, ◌*ℤ◌, FitsSigned, w32, w64}
+use Rattle.std.proofs.Common.{rules, ◌≡◌, ◌∙◌, ap₂, sym, subst, Bool, true, false, ℕ, ◌+◌, List, ℤ, ◌*ℤ◌, FitsSigned, w32, w64}
 use mir.Facts.{to_z-of_z}
 use Rattle.integers.specs.Bound.{Bound}
 use Rattle.integers.proofs.Z.{ints, bound_in, fits64}

@@ -1,6 +1,6 @@
 -- `end_over` gives an end of the commands of a plain law that follows the state: the one that is known, if there is one, and otherwise the one that
 -- it works out and notes. Assumes nothing.
-use Rattle.std.proofs.Common.{rules, arith, ◌≡◌, ◌∙◌, ap, sym, subst, cond, ℕ, ◌<◌, List, set, ℤ, pos, ◌<ℤ◌, FitsSigned, w64, to_z, of_z}
+use Rattle.std.proofs.Common.{rules, arith, ◌≡◌, ◌∙◌, ap, sym, subst, cond, ℕ, ◌<◌, set, ℤ, pos, ◌<ℤ◌, FitsSigned, w64, to_z, of_z}
 use mir.Facts.{to_z-of_z}
 use Rattle.integers.specs.Bound.{Bound}
 use Rattle.integers.proofs.Z.{lt_true, fits64}

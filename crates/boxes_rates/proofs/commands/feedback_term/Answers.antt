@@ -1,6 +1,6 @@
 -- `feedback_term` gives the outer one of a coefficient's products with the commands of a plain law that follows the state: one product, with the end
 -- that its sign chooses, and nothing to work out where the coefficient is 0. What is known of the ends is noted with that end. Assumes nothing.
-use Rattle.std.proofs.Common.{rules, ◌≡◌, ◌∙◌, ap, Bool, true, false, ℤ, pos, ◌*ℤ◌, FitsSigned, w64}
+use Rattle.std.proofs.Common.{◌≡◌, ◌∙◌, ap, Bool, true, false, ℤ, pos, ◌*ℤ◌, FitsSigned, w64}
 use lib.Dec.{lit≤}
 use mir.Facts.{to_z-of_z}
 use Rattle.integers.proofs.Z.{bits_is, bound_lit, bound_less, fits64}

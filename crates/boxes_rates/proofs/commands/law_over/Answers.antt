@@ -1,5 +1,5 @@
 -- `law_over` gives the sum of a law that follows the state, bounded over a box: the weighted sum and the law's constant. Assumes nothing.
-use Rattle.std.proofs.Common.{rules, ◌≡◌, refl, ◌+◌, ◌*◌, ◌+ℤ◌, FitsSigned, w32, w64}
+use Rattle.std.proofs.Common.{rules, ◌≡◌, refl, ◌+◌, ◌*◌, ◌+ℤ◌, FitsSigned, w32}
 use lib.Dec.{lit≤}
 use mir.Facts.{to_z-of_z}
 use Rattle.integers.specs.Bound.{Bound}

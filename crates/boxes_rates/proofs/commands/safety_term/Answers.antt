@@ -1,5 +1,5 @@
 -- `safety_term` gives the outer one of a coefficient's products with the two ends of a band's safety range. Assumes nothing.
-use Rattle.std.proofs.Common.{rules, arith, ◌≡◌, ◌∙◌, ap, ap₂, sym, subst, ℕ, ◌+◌, ℤ, ◌*ℤ◌, FitsSigned, w32, w64, to_z, of_z}
+use Rattle.std.proofs.Common.{rules, ◌≡◌, ◌∙◌, ap, ap₂, sym, subst, ℕ, ◌+◌, ℤ, ◌*ℤ◌, FitsSigned, w32, w64}
 use mir.Facts.{to_z-of_z}
 use Rattle.integers.specs.Bound.{Bound}
 use Rattle.integers.proofs.Z.{from32, fits64}

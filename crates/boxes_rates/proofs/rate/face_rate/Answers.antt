@@ -1,6 +1,6 @@
 -- `face_rate` gives the rate over a face's neighborhood, and puts the side that was cut back. Where nothing was cut the neighborhood is the working
 -- box, and what is known of the plain law's commands over it is used and left. Assumes nothing.
-use Rattle.std.proofs.Common.{rules, arith, ◌≡◌, ◌∙◌, refl, sym, ap, subst, Bool, true, false, ◌&&◌, ℕ, ◌+◌, ◌<◌, List, set, ℤ, pos, ◌*ℤ◌, ◌≤ℤ◌, FitsSigned, w32, w64, to_z, of_z}
+use Rattle.std.proofs.Common.{rules, arith, ◌≡◌, ◌∙◌, refl, sym, ap, subst, Bool, true, ◌&&◌, ℕ, ◌+◌, ◌<◌, List, set, ℤ, pos, ◌*ℤ◌, ◌≤ℤ◌, FitsSigned, w32, w64, to_z, of_z}
 use Rattle.std.specs.Int.Signed.{le_z}
 use mir.Facts.{to_z-of_z, to_z_pos}
 use Rattle.integers.specs.Bound.{Bound}
@@ -125,8 +125,7 @@ narrow-requires c =
 pub rate-answer-requires-clause-rate_asked : goal.rate-answer-requires-clause-rate_asked
 rate-answer-requires-clause-rate_asked c =
     let asked = c.requires.rates_asked.0 in
-    let var = c.requires.rates_asked.1 in
-    (
+    let var = c.requires.rates_asked.1 in (
       record {
         plant = asked.plant;
         var = var;

@@ -1,10 +1,9 @@
 -- `first_band` finds the first band that has a number from `low` on. Assumes nothing.
-use Rattle.std.proofs.Common.{rules, arith, ◌≡◌, ◌∙◌, refl, sym, ℕ, ◌+◌, ◌<◌, ◌≤◌, ◌≤ℤ◌, List, ℤ, FitsSigned, w64, to_z, of_z}
+use Rattle.std.proofs.Common.{rules, arith, ◌∙◌, refl, sym, ◌+◌, ◌<◌, ◌≤◌, ◌≤ℤ◌}
 use mathlib.Core.Logic.{⊎_elim}
 use native.Mathlib.Nat.{eq-or-lt_of_le}
 use mir.Facts.{to_z-of_z}
-use Rattle.sheet_spec.specs.Slots.{band_size, band_slot, bands, edge, slots}
-use Rattle.boxes_rates.specs.Plant.{BandFrom}
+use Rattle.sheet_spec.specs.Slots.{band_size, bands, edge, slots}
 use Rattle.boxes_rates.proofs.Parts.{starts_yes, starts_no}
 use Rattle.boxes_rates.proofs.rate.first_band.Goals as goal
 

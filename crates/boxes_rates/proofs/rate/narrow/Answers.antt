@@ -1,5 +1,5 @@
 -- `narrow` cuts the working box off at its reach from the start's face. Assumes nothing.
-use Rattle.std.proofs.Common.{rules, true, false, ◌+◌, FitsSigned, w64, ◌+ℤ◌, ◌-ℤ◌}
+use Rattle.std.proofs.Common.{rules, true, false, FitsSigned, w64, ◌+ℤ◌, ◌-ℤ◌}
 use mir.Facts.{to_z-of_z}
 use Rattle.integers.proofs.Z.{bound_sum, bound_sub, fits64}
 use Rattle.sheet_spec.specs.Box.{lo, hi}

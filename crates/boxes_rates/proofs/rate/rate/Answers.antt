@@ -1,15 +1,15 @@
 -- `rate` gives the outermost over all bands, each over the part of the box that lies in it, and puts the two sides that are cut back. It is
 -- done where the outermost is the cap. Assumes nothing.
-use Rattle.std.proofs.Common.{rules, arith, ◌≡◌, ◌∙◌, sym, ap, subst, Bool, true, false, not, ℕ, ◌+◌, ◌*◌, ◌-◌, ◌≤◌, ◌<◌, List, set, ℤ, pos, ◌+ℤ◌, ◌-ℤ◌, ◌≤ℤ◌, ◌<ℤ◌, FitsSigned, w32, w64, to_z, of_z}
+use Rattle.std.proofs.Common.{rules, arith, ◌≡◌, ◌∙◌, sym, ap, subst, Bool, true, false, not, ℕ, ◌+◌, ◌*◌, ◌-◌, ◌<◌, List, set, ℤ, pos, ◌+ℤ◌, ◌-ℤ◌, ◌≤ℤ◌, ◌<ℤ◌, FitsSigned, w32, w64, to_z, of_z}
 use native.Mathlib.Nat.{zero-add}
 use mir.Facts.{to_z-of_z}
 use Rattle.integers.specs.Bound.{Bound}
 use Rattle.integers.proofs.Z.{ints, sum as plus, sub, from32, bound_of, bound_sub, bound_lit, fits64}
-use Rattle.sheet_spec.specs.Slots.{◌!◌, N, cap_slot, band_size, band_slot, slots, bands, band_var, cap, edge}
+use Rattle.sheet_spec.specs.Slots.{◌!◌, N, cap_slot, band_size, band_slot, bands, band_var, cap, edge}
 use Rattle.sheet_spec.specs.Box.{lo, hi}
-use Rattle.machine_spec.specs.Machine.{Machine, machine, row_of, change}
+use Rattle.machine_spec.specs.Machine.{machine, row_of, change}
 use Rattle.machine_spec.specs.Rate.{outer, outermost, cut_to_band, part, row_over, neutral, band_rate, rate}
-use Rattle.machine_spec.proofs.Bands.{Meets, meets_show}
+use Rattle.machine_spec.proofs.Bands.{meets_show}
 use Rattle.machine_spec.proofs.Facts.{cap_low}
 use Rattle.machine_spec.proofs.Part.{high_stays, high_cut, part_within, part_ordered}
 use Rattle.machine_spec.proofs.Ranges.{sized_less, sized_as, sized_part, above_first}

@@ -1,5 +1,5 @@
 -- `rates_of` writes the rates of all faces, as a box. Assumes nothing.
-use Rattle.std.proofs.Common.{rules, arith, ◌≡◌, ◌∙◌, refl, ap, subst, true, false, ℕ, List, ℤ, FitsSigned, w64}
+use Rattle.std.proofs.Common.{rules, arith, ◌≡◌, ◌∙◌, refl, ap, subst, true, false, List, ℤ, FitsSigned, w64}
 use mir.Facts.{to_z-of_z}
 use Rattle.sheet_spec.specs.Slots.{vars}
 use Rattle.machine_spec.specs.Box.{box_of}

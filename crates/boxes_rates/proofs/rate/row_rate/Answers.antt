@@ -1,11 +1,11 @@
 -- `row_rate` gives the outer one of the outermost so far and of the allowed change by a band's row over a box: the row bounded, then
 -- the change. Assumes nothing.
-use Rattle.std.proofs.Common.{rules, arith, ◌≡◌, ◌∙◌, ap, sym, subst, true, false, ℕ, ◌+◌, ◌*◌, ◌≤◌, List, ℤ, pos, FitsSigned, w32, w64}
+use Rattle.std.proofs.Common.{rules, arith, ◌≡◌, ◌∙◌, ap, sym, subst, true, false, ℕ, ◌+◌, ◌*◌, ◌≤◌, List, ℤ, pos, FitsSigned, w32}
 use mir.Facts.{to_z-of_z}
 use Rattle.integers.proofs.Z.{from32, fits64}
 use Rattle.sheet_spec.specs.Limits.{max_divisor}
 use Rattle.sheet_spec.specs.Valid.{Between}
-use Rattle.sheet_spec.specs.Slots.{◌!◌, first_row, row_size, band_slot, slots, vars, cap, cap_slot, Row, row_at}
+use Rattle.sheet_spec.specs.Slots.{◌!◌, first_row, row_size, slots, vars, cap, cap_slot, Row, row_at}
 use Rattle.machine_spec.specs.Machine.{machine, row_of, change}
 use Rattle.machine_spec.specs.Rate.{bound, offered_over, outer}
 use Rattle.machine_spec.proofs.Facts.{cap_near}

@@ -1,6 +1,6 @@
 -- `bound` gives a row's N bounded over a box and over commands whose outer term is known: the weighted sum, the term and the row's
 -- constant c. Assumes nothing.
-use Rattle.std.proofs.Common.{rules, ◌≡◌, ap, ◌+◌, ◌*◌, ℤ, ◌+ℤ◌, FitsSigned, w32, w64}
+use Rattle.std.proofs.Common.{rules, ◌≡◌, ap, ◌+◌, ◌*◌, ℤ, ◌+ℤ◌, FitsSigned, w32}
 use lib.Dec.{lit≤}
 use mir.Facts.{to_z-of_z}
 use Rattle.integers.specs.Bound.{Bound}

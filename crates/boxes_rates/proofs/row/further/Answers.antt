@@ -1,12 +1,10 @@
 -- `further` gives the outer one of the outermost so far and of the outermost allowed change by a row, whose spread is put on the
 -- outer side of its N. Assumes nothing.
-use Rattle.std.proofs.Common.{rules, ◌∙◌, ◌≡◌, ◌+◌, FitsSigned, w32, w64, to_z, of_z, ◌+ℤ◌, ◌-ℤ◌}
+use Rattle.std.proofs.Common.{rules, ◌∙◌, ◌+◌, FitsSigned, w32, w64, ◌+ℤ◌, ◌-ℤ◌}
 use mir.Facts.{to_z-of_z}
-use Rattle.integers.specs.Bound.{Bound}
 use Rattle.integers.proofs.Z.{bound_sum, bound_sub, fits64}
 use Rattle.sheet_spec.specs.Slots.{◌!◌, N, row_at}
 use Rattle.machine_spec.specs.Machine.{change, outward_div}
-use Rattle.boxes_arithmetic.specs.Limits.{word}
 use Rattle.boxes_rates.proofs.RowNumbers.{row_read, row_bound}
 use Rattle.boxes_rates.proofs.row.further.Goals as goal
 

@@ -1,9 +1,9 @@
 -- `weighted` gives the sum of a row's or a law's terms over a box. Assumes nothing.
-use Rattle.std.proofs.Common.{rules, arith, ◌≡◌, ◌∙◌, refl, ap, Bool, true, false, ℕ, ◌+◌, ◌*◌, ◌<◌, ◌≤◌, List, ℤ, pos, ◌+ℤ◌, ◌*ℤ◌, FitsSigned, w32, w64, to_z, of_z}
+use Rattle.std.proofs.Common.{rules, arith, ◌≡◌, ◌∙◌, refl, Bool, true, false, ℕ, ◌+◌, ◌*◌, ◌<◌, List, ℤ, pos, ◌+ℤ◌, ◌*ℤ◌, FitsSigned, w32, w64}
 use mir.Facts.{to_z-of_z}
 use Rattle.integers.specs.Bound.{Bound}
 use Rattle.integers.proofs.Z.{bound_of, bound_sum, bound_mul, bound_less, bound_lit, fits64, fits_by}
-use Rattle.sheet_spec.specs.Slots.{◌!◌, N}
+use Rattle.sheet_spec.specs.Slots.{◌!◌}
 use Rattle.sheet_spec.specs.Box.{lo, hi}
 use Rattle.machine_spec.specs.Box.{sum, Sized}
 use Rattle.machine_spec.specs.Rate.{outer, weighted}
