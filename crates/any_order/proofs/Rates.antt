@@ -20,7 +20,7 @@ use Rattle.sheet_spec.specs.declared.BandKind.TheVariants.{Fixed, Feedback}
 use Rattle.machine_spec.specs.declared.Law.{Law}
 use Rattle.machine_spec.specs.declared.Law.TheVariants.{Baseline, Span}
 use Rattle.machine_spec.specs.Box.{sum, box_of, side}
-use Rattle.machine_spec.specs.Machine.{machine, cap, band_meets, safety_end, outward_div, clamp_to, baseline_end, clamp, change}
+use Rattle.machine_spec.specs.Machine.{machine, band_meets, safety_end, outward_div, clamp_to, baseline_end, clamp, change}
 use Rattle.machine_spec.specs.Rate.{outer, outermost, weighted, law_over, bound, band_met, cut_to_band, part, offered_over, row_over, neutral, band_rate, rate, neighborhood, face_rate, rates}
 use Rattle.machine_spec.proofs.Box.{set_both, set_two, sides_same}
 

@@ -2,4 +2,3 @@
 // the boxes hold every state that the machine can reach, proofs/Count how many rounds that takes. There is no code here:
 // `boxes_step` and `boxes` have it.
 #![tactic(auto)]
-

@@ -6,12 +6,12 @@ use Prim.Native.Nat.{ℕ, zero, suc, ◌+◌, ◌*◌, ◌/◌, ◌≤◌, ◌<�
 use native.Mathlib.Nat.{eq-or-lt_of_le}
 use native.Mathlib.Omega.{arith}
 use lib.IntN.{ℤ, pos}
-use lib.ListN.{get_or, drop, length, length-append, get_or-append}
+use lib.ListN.{drop, length, length-append, get_or-append}
 use lib.Seq.{get_or-append-add}
 use Rattle.integers.specs.Bytes.{be_bytes}
 use Rattle.sheet_spec.specs.Slots.{◌!◌}
 use Rattle.sheet_spec.specs.Refusals.{Cause}
-use Rattle.sheet_spec.specs.Fields.{i32, Field, bytes_in, decoded, encoded, offset, coded}
+use Rattle.sheet_spec.specs.Fields.{i32, Field, decoded, encoded, offset, coded}
 use Rattle.sheet_spec.specs.Box.{lo, hi}
 use Rattle.sheet_spec.proofs.Ranges.{Fit}
 use Rattle.sheet_spec.proofs.Numbers.{read_coded}

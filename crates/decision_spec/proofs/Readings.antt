@@ -1,7 +1,7 @@
 -- The question that a head and a box come to: it is refused where the head is, and otherwise it says the head and the box. Assumes nothing.
 use mathlib.Core.Path.{◌≡◌, refl, sym, ap, ap₂, ◌∙◌, subst}
 use mathlib.Core.Bool.{Bool, true, false, cond, ◌&&◌}
-use mathlib.Core.List.{List, [], ◌∷◌, ◌++◌}
+use mathlib.Core.List.{List, [], ◌∷◌}
 use Prim.Native.Nat.{ℕ, zero, suc, ◌+◌, ◌*◌, ◌≤◌, ◌<◌, zero-le}
 use native.Mathlib.Omega.{arith}
 use lib.Dec.{leb, eqb}
@@ -21,22 +21,21 @@ use Rattle.sheet_spec.specs.Sheet.{refusal, values}
 use Rattle.sheet_spec.proofs.Laws.{goes_on, either_none, none_either}
 use Rattle.sheet_spec.proofs.FirstRefusal.{all_pass, found_stops}
 use Rattle.sheet_spec.proofs.Ranges.{Fit}
-use Rattle.machine_spec.specs.Box.{box_of, trim}
+use Rattle.machine_spec.specs.Box.{trim}
 use Rattle.machine_spec.proofs.Box.{sides_same}
 use Rattle.machine_spec.specs.declared.Law.TheVariants.{Span}
-use Rattle.boxes_spec.specs.Reach.{law_refusal, sides_refusal}
+use Rattle.boxes_spec.specs.Reach.{sides_refusal}
 use Rattle.readings_spec.specs.declared.Reading.{Reading}
 use Rattle.readings_spec.specs.Reading.{readings_refusal, readings_box}
 use Rattle.readings_spec.proofs.Sides.{max_side_read, box_near, box_trimmed}
 use Rattle.decision_spec.specs.declared.QuestionKind.{QuestionKind}
 use Rattle.decision_spec.specs.declared.QuestionKind.TheVariants.{Single, Ranged, Unknown}
-use Rattle.decision_spec.specs.declared.QuestionHead.{QuestionHead}
 use Rattle.decision_spec.specs.declared.Question.{Question}
 use Rattle.decision_spec.specs.Numbers.{number_bytes, sides_of}
 use Rattle.decision_spec.specs.Question.{kind_of, known, allowance_at, command_at, greatest_at, sides_at, allowance_of, least_of, greatest_of, pairs, measured, question_head, question_of, form_refusal, allowance_refusal, head_refusal, question_refusal}
 use Rattle.decision_spec.specs.Decision.{refused, rounds_of, decision_to, decision_on, decide}
 use Rattle.decision_spec.specs.Readings.{with_box, as_bytes, read_refusal, decision_read, decide_readings}
-use Rattle.decision_spec.proofs.Marks.{kind_part, greatest_from, greatest_to}
+use Rattle.decision_spec.proofs.Marks.{kind_part, greatest_from}
 use Rattle.decision_spec.proofs.Passes.{form_passes, head_passes}
 use Rattle.decision_spec.proofs.Allowance.{answer_allowed}
 use Rattle.decision_spec.proofs.Numbers.{bytes_length, number_at, sides_at_lem, sides_each}

@@ -1,6 +1,6 @@
 -- Division of an integer by a positive number, rounded down and rounded up. Assumes nothing.
 use mathlib.Core.Path.{◌≡◌, refl}
-use Prim.Native.Nat.{ℕ, zero, suc, ◌+◌, ◌*◌, ◌-◌, ◌/◌, ◌%◌, ◌≤◌, ◌<◌, zero-le}
+use Prim.Native.Nat.{ℕ, zero, suc, ◌/◌, ◌%◌, ◌≤◌, ◌<◌, zero-le}
 use native.Mathlib.Nat.{div-add-mod, mod-lt, div-le_self, le_trans}
 use native.Mathlib.Omega.{arith}
 use mir.Syntax.{Width}

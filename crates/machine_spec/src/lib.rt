@@ -3,7 +3,6 @@
 // allows. There is no function here: `boxes_shape` and `boxes_rates` have the code.
 #![tactic(auto)]
 
-
 // What acts on the motor: the plain law, or a span of commands (document 02, paper 4), of which any one is used at each tick.
 #[derive(Clone, Copy)]
 pub enum Law {

@@ -1,12 +1,11 @@
 -- A box of readings holds every number and every state that the readings allow. Assumes nothing.
-use mathlib.Core.Path.{◌≡◌, refl, sym, ap, ◌∙◌, subst}
-use mathlib.Core.Bool.{Bool, true, false}
-use mathlib.Core.List.{List}
-use Prim.Native.Nat.{ℕ, zero, suc, ◌+◌, ◌≤◌, ◌<◌}
+use mathlib.Core.Path.{◌≡◌, sym, ap, ◌∙◌}
+use mathlib.Core.Bool.{true, false}
+use Prim.Native.Nat.{ℕ, ◌<◌}
 use native.Mathlib.Nat.{mul_comm}
 use native.Mathlib.Omega.{arith}
 use lib.IntN.{ℤ, pos, ◌+ℤ◌, ◌-ℤ◌, ◌*ℤ◌}
-use lib.Signed.{◌≤ℤ◌, ◌<ℤ◌}
+use lib.Signed.{◌≤ℤ◌}
 use lib.Ieee.{Float}
 use Rattle.integers.proofs.Z.{ints, flat, le_by, mul_mono, mul_assoc}
 use Rattle.integers.proofs.Division.{floor_lo, ceil_hi}
@@ -15,13 +14,11 @@ use Rattle.sheet_spec.proofs.Laws.{first_none}
 use Rattle.readings_spec.specs.Causes.{Cause}
 use Rattle.readings_spec.proofs.Causes.{number_is}
 use Rattle.machine_spec.specs.Machine.{outward_div}
-use Rattle.machine_spec.specs.Box.{In, box_of}
 use Rattle.machine_spec.proofs.Box.{sides_lo, sides_hi}
-use Rattle.readings_spec.specs.declared.Reading.{Reading}
 use Rattle.readings_spec.specs.declared.Reading.TheVariants.{Point, Pair, Missing}
 use Rattle.readings_spec.specs.Exact.{unit, scaled, rounded, whole}
 use Rattle.readings_spec.specs.Reading.{reading_side, reading_refusal, reading_at, readings_refusal, readings_box}
-use Rattle.readings_spec.specs.Allowed.{Within, Allows, HoldsNumbers, HoldsStates}
+use Rattle.readings_spec.specs.Allowed.{Allows, HoldsNumbers, HoldsStates}
 use Rattle.readings_spec.proofs.Exact.{unit_pos}
 
 -- ---- from units to whole numbers, for any number u of units

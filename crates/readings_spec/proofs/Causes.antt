@@ -1,7 +1,7 @@
 -- The numbers of the causes for which readings are refused: none is 0, and none is greater than those of sheets and questions. Assumes nothing.
 use mathlib.Core.Path.{◌≡◌, refl}
 use mathlib.Core.Bool.{Bool, true, false}
-use Prim.Native.Nat.{ℕ, ◌≤◌}
+use Prim.Native.Nat.{◌≤◌}
 use native.Mathlib.Omega.{arith}
 use Rattle.sheet_spec.specs.Refusals.{greatest_number}
 use Rattle.readings_spec.specs.Causes.{Cause, number, refuse_unless}

@@ -2,11 +2,11 @@
 use mathlib.Core.Path.{◌≡◌, refl, sym, ap, ◌∙◌, subst}
 use mathlib.Core.Bool.{Bool, true, false, ◌&&◌, true≢false}
 use Prim.Native.Nat.{ℕ, zero, suc, ◌+◌, ◌-◌, ◌*◌, ◌/◌, ◌%◌, ◌^◌, ◌≤◌, ◌<◌}
-use native.Mathlib.Nat.{lt_of_not-le, lt_of_lt_of_le, lt_irrefl, le_of_suc-le-suc, zero-lt-suc, mul-one, mul_assoc, mul_comm, mul_left_comm, mul_right_comm, mul-pos, mul-div_cancel, mul-lt-mul_of_pos_right, lt_of_mul-lt-mul_right, add-mul, zero-mul, zero-add}
+use native.Mathlib.Nat.{lt_of_not-le, lt_of_lt_of_le, lt_irrefl, le_of_suc-le-suc, zero-lt-suc, mul-one, mul_assoc, mul_comm, mul_right_comm, mul-pos, mul-div_cancel, mul-lt-mul_of_pos_right, lt_of_mul-lt-mul_right, add-mul, zero-mul, zero-add}
 use native.Mathlib.Omega.{arith}
 use lib.Dec.{T, ltb, leb, eqb, ltb→lt, lt→ltb, leb→le, leb-suc-suc}
 use borrow.Author.Tests.{lt-ltb, le-ltb}
-use lib.IntN.{ℤ, pos, negsuc, neg_ℤ}
+use lib.IntN.{ℤ, pos, negsuc}
 use lib.Signed.{lt_z, le_z}
 use lib.Pow.{pow_pos, pow-add, pow-lt}
 use lib.Ieee.{Float, nan, inf, fin, binary32, up, down, below, lt, ne, fits}

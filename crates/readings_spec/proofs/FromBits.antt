@@ -1,22 +1,21 @@
 -- The value that the bits of a finite float give is the float's exact value; so the floor and the ceiling that they give are those of the exact value.
 -- Assumes nothing.
-use mathlib.Core.Path.{◌≡◌, refl, sym, ap, ◌∙◌, subst}
+use mathlib.Core.Path.{◌≡◌, refl, sym, ap, ◌∙◌}
 use mathlib.Core.Bool.{Bool, true, false, cond, true≢false}
 use Prim.Native.Nat.{ℕ, zero, suc, ◌+◌, ◌-◌, ◌*◌, ◌/◌, ◌%◌, ◌^◌, ◌≤◌, ◌<◌}
 use native.Mathlib.Nat.{mod-lt, mul-le-mul}
 use native.Mathlib.Omega.{arith}
 use lib.Dec.{T, eqb, leb}
-use lib.IntN.{ℤ, pos}
 use lib.Arith.{lt_of_le-ne}
 use lib.Pow.{pow_mono}
-use lib.Ieee.{Float, nan, inf, fin, binary32, odd, of_fields, of_bits, to_bits, fits}
+use lib.Ieee.{Float, nan, inf, binary32, odd, of_fields, of_bits, to_bits, fits}
 use lib.Ieee.Bits.{of_bits-to_bits}
-use lib.Ieee.Exact.{HasValue, odd_sign}
+use lib.Ieee.Exact.{odd_sign}
 use borrow.Author.Tests.{ne_eqb}
 use Rattle.integers.proofs.Division.{floor_lo, floor_most, ceil_hi, ceil_least}
 use Rattle.machine_spec.specs.Machine.{outward_div}
-use Rattle.readings_spec.specs.Exact.{unit, signed, finite, scaled, whole}
-use Rattle.readings_spec.specs.FromBits.{sign_weight, leading, negative, exponent, digits, not_finite, significand, from_bits, rounded_bits, Floor, Ceiling, RoundsFromBits}
+use Rattle.readings_spec.specs.Exact.{unit, signed, finite, scaled}
+use Rattle.readings_spec.specs.FromBits.{sign_weight, leading, negative, exponent, digits, not_finite, significand, from_bits, rounded_bits, RoundsFromBits}
 use Rattle.readings_spec.proofs.Exact.{unit_pos, scaled_of}
 
 -- a sign, an exponent's field and digits

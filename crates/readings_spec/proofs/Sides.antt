@@ -1,12 +1,12 @@
 -- How far the sides go that readings give where they are not refused. Assumes nothing.
-use mathlib.Core.Path.{◌≡◌, refl, sym}
+use mathlib.Core.Path.{◌≡◌, sym}
 use mathlib.Core.Bool.{Bool, true, false, not, ◌&&◌, true≢false}
 use mathlib.Core.List.{List}
 use Prim.Native.Nat.{ℕ, ◌+◌, ◌-◌, ◌*◌, ◌^◌, ◌≤◌, ◌<◌}
 use native.Mathlib.Nat.{le_trans, le_of_suc-le-suc, lt_irrefl, lt_of_le_of_lt, lt_of_not-le}
 use native.Mathlib.Omega.{arith}
 use lib.Dec.{T, lit<}
-use lib.IntN.{ℤ, pos, neg_ℤ, ◌+ℤ◌, ◌-ℤ◌, ◌*ℤ◌}
+use lib.IntN.{ℤ, pos, neg_ℤ, ◌*ℤ◌}
 use lib.Signed.{le_z, ◌≤ℤ◌}
 use lib.Ieee.{Float, nan, inf, fin, binary32, fits, is_nan, to_bits}
 use Rattle.integers.specs.Bound.{Bound}
@@ -16,11 +16,10 @@ use Rattle.sheet_spec.specs.Limits.{max_reading, max_tolerance}
 use Rattle.readings_spec.specs.Causes.{Cause}
 use Rattle.readings_spec.proofs.Causes.{number_is, unless_zero}
 use Rattle.sheet_spec.specs.Slots.{N}
-use Rattle.sheet_spec.specs.Box.{lo, hi}
 use Rattle.sheet_spec.proofs.Box.{and_both}
 use Rattle.sheet_spec.proofs.Laws.{first_none}
 use Rattle.machine_spec.specs.Machine.{outward_div}
-use Rattle.machine_spec.specs.Box.{side, Near, box_of, trim}
+use Rattle.machine_spec.specs.Box.{side, Near, trim}
 use Rattle.machine_spec.proofs.Box.{sides_lo, sides_hi, sides_same}
 use Rattle.readings_spec.specs.declared.Reading.{Reading}
 use Rattle.readings_spec.specs.declared.Reading.TheVariants.{Point, Pair, Missing}

@@ -1,6 +1,6 @@
 -- Floor and ceiling worked out from the 32 bits of a float, and what they are: the greatest whole number that is not above the float's exact
 -- value, and the least that is not below it. proofs/FromBits proves it for every finite float, subnormal ones and both zeros included.
-use Rattle.std.specs.Prelude.{◌≡◌, Bool, true, false, ℕ, zero, suc, ◌+◌, ◌-◌, ◌*◌, ◌/◌, ◌%◌, ◌^◌, ◌<◌, leb, ℤ, ◌≤ℤ◌}
+use Rattle.std.specs.Prelude.{Bool, true, false, ℕ, zero, suc, ◌+◌, ◌-◌, ◌*◌, ◌/◌, ◌%◌, ◌^◌, ◌<◌, leb, ℤ, ◌≤ℤ◌}
 use Rattle.std.specs.Float.{binary32}
 use Rattle.std.specs.Float.Ieee.{of_bits}
 use Rattle.machine_spec.specs.Machine.{outward_div}

@@ -3,7 +3,6 @@
 // has the code.
 #![tactic(auto)]
 
-
 // A value with a tolerance, in either direction.
 #[derive(Clone, Copy)]
 pub struct Measurement {

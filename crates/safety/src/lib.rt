@@ -2,4 +2,3 @@
 // of the machine is safe, and proofs/Run proves it. specs/Asked says the same of runs that ask by readings (document 02, paper 1). There is
 // no code here: `decision` has the code that a run asks.
 #![tactic(auto)]
-

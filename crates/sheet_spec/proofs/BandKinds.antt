@@ -1,5 +1,5 @@
 -- What tells the kind of a sheet's bands: a mark, a divisor; and which slots bands without a law leave free. Assumes nothing.
-use mathlib.Core.Path.{◌≡◌, refl, sym, ap, ap₂, ◌∙◌, subst}
+use mathlib.Core.Path.{◌≡◌, refl, sym, ap, ap₂, subst}
 use mathlib.Core.Bool.{Bool, true, false, ◌&&◌}
 use mathlib.Core.List.{List}
 use mathlib.Core.Logic.{◌⊎◌, inl, inr, ⊎_elim}
@@ -12,8 +12,7 @@ use lib.Dec.{eqb}
 use borrow.Author.Tests.{eqb-true}
 use Rattle.integers.proofs.Z.{ints}
 use Rattle.sheet_spec.specs.Limits.{max_bands}
-use Rattle.sheet_spec.specs.Slots.{◌!◌, N, band_slot, law_slot, row_slot, first_row, law_size, law_rest_size, divisor_in_law, kind_by, band_kind}
-use Rattle.sheet_spec.specs.Fields.{Field}
+use Rattle.sheet_spec.specs.Slots.{N, band_slot, law_slot, row_slot, first_row, law_size, law_rest_size, divisor_in_law, kind_by, band_kind}
 use Rattle.sheet_spec.specs.Sizes.{caps_at, cap_bytes}
 use Rattle.sheet_spec.specs.declared.BandKind.{BandKind}
 use Rattle.sheet_spec.specs.declared.BandKind.TheVariants.{Fixed, Feedback}

@@ -9,7 +9,7 @@ use lib.IntN.{ℤ, pos, negsuc, neg_ℤ, nat_abs}
 use lib.Signed.{◌≤ℤ◌, le_z, le_z_yes}
 use mir.Facts.{and_yes}
 use Rattle.integers.proofs.Z.{ints, flat}
-use Rattle.sheet_spec.specs.Slots.{◌!◌, head_size, band_slot, law_slot, row_slot, recovery_slot, unsafe_slot, vars, bands, boxes, band_kind, constant_in_law, divisor_in_law, law_rest_size, vars_slot, bands_slot, boxes_slot, band_var_slot, δ_slot, α_slot, ρ_slot, least_slot, greatest_slot, rest_size, pair_size, b_in_rest, c_in_rest, d_in_rest, q_in_rest, edge_in_band, least_in_band, greatest_in_band}
+use Rattle.sheet_spec.specs.Slots.{◌!◌, head_size, band_slot, law_slot, row_slot, recovery_slot, unsafe_slot, vars, bands, band_kind, constant_in_law, divisor_in_law, law_rest_size, vars_slot, bands_slot, boxes_slot, band_var_slot, δ_slot, α_slot, ρ_slot, least_slot, greatest_slot, rest_size, pair_size, b_in_rest, c_in_rest, d_in_rest, q_in_rest, edge_in_band, least_in_band, greatest_in_band}
 use Rattle.sheet_spec.specs.Valid.{Between}
 use Rattle.sheet_spec.specs.Fields.{Kind, u8, u16, i16, i32, Field}
 use Rattle.sheet_spec.specs.Limits.{max_edge, max_unsafe_side, max_recovery_side}

@@ -6,7 +6,7 @@ use Prim.Native.Nat.{ℕ, zero, suc, ◌+◌, ◌*◌, ◌≤◌, ◌<◌}
 use native.Mathlib.Omega.{arith}
 use lib.IntN.{ℤ}
 use lib.Signed.{◌≤ℤ◌}
-use Rattle.sheet_spec.specs.Slots.{◌!◌, N, head_size, band_slot, law_slot, row_slot, recovery_slot, unsafe_slot, box_at, unsafe_box, vars, bands, vars_slot, δ_slot, least_slot, greatest_slot, law_rest_size, rest_size, pair_size, edge_in_band, least_in_band}
+use Rattle.sheet_spec.specs.Slots.{◌!◌, N, head_size, band_slot, law_slot, row_slot, recovery_slot, unsafe_slot, box_at, unsafe_box, vars_slot, δ_slot, least_slot, greatest_slot, law_rest_size, rest_size, pair_size, edge_in_band, least_in_band}
 use Rattle.sheet_spec.specs.Fields.{Field}
 use Rattle.sheet_spec.specs.Limits.{max_unsafe_side, max_recovery_side}
 use Rattle.sheet_spec.specs.Layout.{◌▸◌, head_fields, edge_field, law_rest, law_fields, row_rest, row_fields, band_fields, side_fields, box_fields, law_count, row_count, band_count, box_count}

@@ -3,7 +3,6 @@
 // sizes and refusals and the types of a file's counts and records and of a comparison, which all code uses. `sheet` has the operations.
 #![tactic(auto)]
 
-
 pub mod limits;
 pub mod refusals;
 pub mod sizes;
