@@ -7,10 +7,11 @@ use Rattle.integers.specs.Bound.{Bound}
 use Rattle.integers.proofs.Z.{ints, sum as plus, sub, from32, bound_of, bound_sub, bound_lit, fits64}
 use Rattle.sheet_spec.specs.Slots.{◌!◌, N, cap_slot, band_size, band_slot, bands, band_var, cap, edge}
 use Rattle.sheet_spec.specs.Box.{lo, hi}
+use Rattle.sheet_spec.specs.Limits.{max_cap}
 use Rattle.machine_spec.specs.Machine.{machine, row_of, change}
 use Rattle.machine_spec.specs.Rate.{outer, outermost, cut_to_band, part, row_over, neutral, band_rate, rate}
 use Rattle.machine_spec.proofs.Bands.{meets_show}
-use Rattle.machine_spec.proofs.Facts.{cap_low}
+use Rattle.machine_spec.proofs.Facts.{cap_low, cap_near}
 use Rattle.machine_spec.proofs.Part.{high_stays, high_cut, part_within, part_ordered}
 use Rattle.machine_spec.proofs.Ranges.{sized_less, sized_as, sized_part, above_first}
 use Rattle.machine_spec.proofs.Sound.{outermost_between}
@@ -131,6 +132,11 @@ module _ {p : Plant} {v B : List ℤ} {i : ℕ} (asked : RateAsked p v B i) wher
       next_is : to_z w64 (of_z w64 (coded +ℤ pos 1)) ≡ edge v (inv.band + 1)
       next_is = rw one_more (to_z-of_z (fits64 edge_bound tt))
 
+pub neutral-outermost-requires : goal.neutral-outermost-requires
+neutral-outermost-requires c =
+    let asked = c.requires.rate_asked.0 in
+    subst (λ (z : ℤ). Bound z max_cap) (sym (from32 (asked.plant.sheet.fits (cap_slot c.args.i)))) (cap_near asked.plant.sheet c.args.i asked.var)
+
 pub loop-next-init : goal.loop-next-init
 unfolding outermost
 loop-next-init c =
@@ -158,6 +164,22 @@ loop-next-init c =
       count = c.band_number-k.ensures first.from.band first.from.place;
       noted = noted_start c.requires.known;
     }
+
+pub overflow_sub-last : goal.overflow_sub-last
+overflow_sub-last c =
+    let asked = c.requires.rate_asked.0 in
+    let inv = c.loop-next.invariant in
+    let high_fits : FitsSigned w64 (c.args.over.now ! (c.args.plant.var + N)) = search rules in
+    let next = starts asked inv (high_is asked high_fits) c.next_starts_by.ensures c.loop-next-test.true in
+    rw (edge_is asked inv next) (last_fits asked inv next)
+
+pub overflow_add-over : goal.overflow_add-over
+overflow_add-over c =
+    let asked = c.requires.rate_asked.0 in
+    let inv = c.loop-next.invariant in
+    let high_fits : FitsSigned w64 (c.args.over.now ! (c.args.plant.var + N)) = search rules in
+    let next = starts asked inv (high_is asked high_fits) c.next_starts_by.ensures c.loop-next-test.true in
+    rw (one_more asked inv next) (fits64 (edge_bound asked inv next) tt)
 
 pub row_rate-rated-requires-clause-band_asked : goal.row_rate-rated-requires-clause-band_asked
 row_rate-rated-requires-clause-band_asked c =
