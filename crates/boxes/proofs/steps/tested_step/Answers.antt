@@ -7,7 +7,7 @@ use Rattle.sheet_spec.proofs.Box.{differ}
 use Rattle.machine_spec.specs.Machine.{machine}
 use Rattle.machine_spec.proofs.InPlace.{trim_moved, trim_as, trimmed_by}
 use Rattle.machine_spec.proofs.Facts as facts
-use Rattle.machine_spec.proofs.Ranges.{near_less, near_by}
+use Rattle.machine_spec.proofs.Ranges.{near_less, near_by, zero_near, sized_less}
 use Rattle.boxes_shape.specs.Limits.{Movable, Trimmed, ArriveDone}
 use Rattle.boxes_spec.specs.Step.{step}
 use Rattle.boxes_step.specs.declared.StepResult.{StepResult}
@@ -86,6 +86,21 @@ module _ {p : ReachPlan} {v : List ℤ} {left c : ℕ} {A E P : List ℤ} (asked
         arrived = λ yes. record { work = arrived.work; swept = arrived.path };
         trimmed = trim_as (vars v) arrived.end (trim_moved (vars v) room A t R);
       }
+
+pub step-r-requires : goal.step-r-requires
+step-r-requires c =
+    let asked = c.requires in
+    let length = c.smaller.ensures in
+    record {
+      plant = asked.plan.plant;
+      some = omega (arith, length, asked.plan.some, asked.due);
+      most = omega (arith, length, asked.plan.most);
+      counts = omega (arith, length, asked.counts);
+      start = sized_less (omega (arith, length)) asked.start;
+      trimmed = asked.trimmed;
+      work = asked.work;
+      rates = zero_near _ _;
+    }
 
 pub arrive-requires : goal.arrive-requires
 arrive-requires c = (
