@@ -1,17 +1,16 @@
 -- One more number, for a turn of the code's loops over a sheet's numbers and over a box's sides. Assumes nothing.
-use mathlib.Core.Path.{◌≡◌, refl, ap, ◌∙◌}
+use mathlib.Core.Path.{◌≡◌, ap, ◌∙◌}
 use mathlib.Core.List.{List, [], ◌∷◌}
-use Prim.Native.Nat.{ℕ, zero, suc, ◌+◌, ◌*◌}
+use Prim.Native.Nat.{ℕ, ◌+◌, ◌*◌}
 use native.Mathlib.Numerals.{add-one}
 use native.Mathlib.Omega.{arith}
 use lib.IntN.{ℤ}
-use lib.ListN.{set, length, length-append}
+use lib.ListN.{set, length}
 use lib.Seq.{sets}
 use mir.Syntax.{w32, w64}
 use mir.Val.{SFits, to_z, of_z}
 use mir.Facts.{to_z-of_z}
 use Rattle.integers.specs.Bound.{Bound}
-use Rattle.integers.specs.Bytes.{be_bytes}
 use Rattle.integers.proofs.Z.{fits, fits64}
 use Rattle.integers.proofs.Lists.{sets_append}
 use Rattle.sheet_spec.specs.Slots.{◌!◌}
