@@ -1,6 +1,7 @@
 -- A turn of the definitions for a turn of the code's loops: a tested step, and the tested steps of a reach. Assumes nothing.
 use mathlib.Core.Path.{◌≡◌, refl, sym, ap, ◌∙◌}
 use mathlib.Core.Bool.{Bool, true, false, not}
+use mathlib.Core.Logic.{◌⊎◌, ⊎_elim}
 use mathlib.Core.List.{List}
 use Prim.Native.Nat.{ℕ, suc, ◌-◌, ◌≤◌, ◌<◌, min}
 use native.Mathlib.Omega.{arith}
@@ -8,6 +9,7 @@ use native.Mathlib.Nat.{le_refl}
 use borrow.Author.Tests.{le-leb, lt-leb, le-ltb, lt-ltb}
 use lib.Dec.{leb, ltb}
 use lib.IntN.{ℤ}
+use denote.Enum.Declared.{tag_of}
 use Rattle.integers.proofs.Tests.{pick_yes, pick_no, suc_of}
 use Rattle.sheet_spec.specs.Box.{lowest_met, clear}
 use Rattle.machine_spec.specs.Box.{hull, moved}
@@ -21,6 +23,7 @@ use Rattle.boxes.specs.declared.steps.ReachResult.TheVariants as result
 use Rattle.boxes_spec.specs.Step.{Result, ok, failed, unsafe, and_then, Step, step, swept}
 use Rattle.boxes_spec.specs.Reach.{Reached, tested_step, steps, reach}
 use Rattle.boxes.specs.ReachResult.{result_of, tested_step_of, reached_of, is_ended}
+use Rattle.boxes.specs.contracts.steps.ReachResult.{the_type}
 use Rattle.sheet_spec.proofs.Box.{differ, any_is}
 
 -- ---- a tested step
@@ -120,7 +123,10 @@ module _ {l : Bool} {a : ℕ} {m : Machine} {clear : List ℤ → Bool} {w : ℕ
           ∙ ap (λ (j : ℕ). steps l a m clear w j E X (left - t) i) (suc_of h.fuel (omega (arith, h.enough)));
     }
 
--- ---- a result that is not `Ended`
+-- ---- a result that is not `Ended`, by its tag
+
+pub not_ended : {r : ReachResult} → (tag_of the_type r ≡ 1) ⊎ ((tag_of the_type r ≡ 2) ⊎ (tag_of the_type r ≡ 3)) → (t d : ℕ) → r ≡ Ended t d → ⊥
+not_ended {r} k t d q = let z : tag_of the_type r ≡ 0 = ap (tag_of the_type) q in ⊎_elim (λ o. omega arith) (⊎_elim (λ o. omega arith) (λ o. omega arith)) k
 
 pub ended_not : (r : ReachResult) → ((t d : ℕ) → r ≡ Ended t d → ⊥) → is_ended r ≡ true → ⊥
 unfolding is_ended
