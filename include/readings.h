@@ -1,5 +1,5 @@
 /* The whole numbers next to a float from C, for products that decide nothing: the archive of the crate
- * `readings` alone, which `rt staticlib readings` proves and writes. The rule is that of paper 1 of
+ * `readings_c` alone, libreadings.a, which tests/archives.sh proves and writes. The rule is that of paper 1 of
  * "document 02" for one side of a measured box. */
 #ifndef READINGS_H
 #define READINGS_H

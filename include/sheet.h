@@ -1,5 +1,5 @@
-/* Reading a sheet from C, for products that decide nothing: the archive of the crate `sheet` alone,
- * which `rt staticlib sheet` proves and writes. The format is that of "document 01", the scope paper, with
+/* Reading a sheet from C, for products that decide nothing: the archive of the crate `sheet_c` alone,
+ * libsheet.a, which tests/archives.sh proves and writes. The format is that of "document 01", the scope paper, with
  * the no-go boxes in the order that paper 2 of "document 02" sets and, by its paper 8, none of them on the
  * recovery box; by its paper 9 with up to six variables, and with bands marked `BD` or `BF`. */
 #ifndef SHEET_H

@@ -1,4 +1,4 @@
-/* The call of include/readings.h from C, linked with the archive of the crate `readings` alone: both faces of
+/* The call of include/readings.h from C, linked with the archive of the crate `readings_c` alone: both faces of
  * floats at every edge of paper 1 of document 02, around every whole number, and at a stride over all bits.
  * What is due is worked out from the bits in whole numbers. The last line is `N passed, M failed`.
  *

@@ -1,4 +1,4 @@
-/* The calls of include/sheet.h from C, linked with the archive of the crate `sheet` beside that of the
+/* The calls of include/sheet.h from C, linked with the archive of the crate `sheet_c` beside that of the
  * guard: sheet A's numbers at each slot, and the refusal, with the array as it was, for each shorter file,
  * for each byte of it changed, for no-go boxes out of order, for a recovery box on a no-go box, and for marks
  * and law numbers of sheets whose plain law follows the state, as guard_sheet and guard_sheet_read answer. The

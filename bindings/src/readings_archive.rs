@@ -1,4 +1,4 @@
-//! The call of include/readings.h: the archive of the crate `readings` alone.
+//! The call of include/readings.h: the archive of the crate `readings_c` alone.
 
 mod c {
     extern "C" {

@@ -1,4 +1,4 @@
-//! The calls of include/sheet.h: the archive of the crate `sheet` alone.
+//! The calls of include/sheet.h: the archive of the crate `sheet_c` alone.
 
 use crate::format::NUMBERS;
 

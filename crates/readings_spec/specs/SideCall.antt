@@ -1,4 +1,4 @@
--- reading_side (include/readings.h), which the archive of the crate `readings` has: the floor (face 0) or the ceiling (any other face) of a value, or the refusal 19.
+-- reading_side (include/readings.h), which the archive of the crate `readings_c` has: the floor (face 0) or the ceiling (any other face) of a value, or the refusal 19.
 use Rattle.std.specs.Prelude.{cond, not, ℕ, ◌+◌, ◌*◌, ◌^◌, eqb, ℤ, pos, Float}
 use Rattle.readings_spec.specs.Causes.{Cause, number}
 use Rattle.readings_spec.specs.Exact.{rounded}

@@ -141,7 +141,7 @@ fn decide(sheet: &[u8], question: &[u8]) -> Times {
     )
 }
 
-/// Reading with the archive of the crate `sheet` alone.
+/// Reading with the archive of the crate `sheet_c` alone.
 fn read_by_guard(archive: SheetArchive, sheet: &[u8], numbers: &mut [i32; NUMBERS]) -> u64 {
     let refusal = archive.read(black_box(sheet), numbers);
     black_box(numbers);

@@ -1,4 +1,4 @@
-//! The archive of the crate `readings` against Rust's floors and ceilings and against the second guard,
+//! The archive of the crate `readings_c` against Rust's floors and ceilings and against the second guard,
 //! which works from a float's bits: a sample of patterns, and with `--all` each of the 2^32 once, over
 //! all cores. It prints how many floats of each kind it saw and how many sides of each, and fails where
 //! a side differs or a kind was not seen. The last line is `N passed, M failed`.

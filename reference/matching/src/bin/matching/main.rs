@@ -318,7 +318,7 @@ impl Matching {
         self.tally.check(self.kinds.calls, right, describe);
     }
 
-    /// A sheet's refusal, and its numbers by the archive of the crate `sheet` alone.
+    /// A sheet's refusal, and its numbers by the archive of the crate `sheet_c` alone.
     fn call_sheet(&mut self, kinds: &[KindId], sheet: &[u8]) -> Answer {
         let (wanted, found) = (expected::sheet(sheet), archive::sheet(sheet));
         let (mut wanted_numbers, mut numbers) = ([0x77; NUMBERS], [0x77; NUMBERS]);
