@@ -1,16 +1,19 @@
 // The C interface (include/guard.h) and nothing else: wrappers around the crates below, each answer one 64-bit number.
-// decision_spec/specs/Calls (of a reach: decision_spec/specs/ReachCall) says what a call answers and what it leaves in a lent
+// decision_spec/specs/Calls (of a reach: ReachCall, of readings: ReadingsCall) says what a call answers and what it leaves in a lent
 // buffer or array; no call has a `requires`. The first three are the drive's.
 #![tactic(auto)]
 
 ghost use Rattle.std.specs.Prelude.{◌≡◌};
 ghost use Rattle.sheet_spec.specs.Slots.{slots};
 ghost use Rattle.decision_spec.specs.ReachCall.{reach_call, reach_out};
+ghost use Rattle.decision_spec.specs.ReadingsCall.{readings_call};
 ghost use Rattle.decision_spec.specs.Calls.{decide_call, read_call, read_out, recovery_call, sheet_call, write_call, write_out};
 
 use decision::{check_recovery, decide};
 use decision_answers::{as_decision, pack_decision, pack_refusal};
+use decision_readings::decide_readings;
 use guard_reach::reach_call;
+use guard_readings::readings_in;
 use sheet::{read_zeroed, write};
 use sheet_spec::slots::SLOTS;
 
@@ -38,6 +41,19 @@ pub extern "C" fn guard_decide(sheet: &[u8], question: &[u8]) -> u64
     ensures { result ≡ decide_call sheet.now question.now }
 {
     pack_decision(decide(sheet, question))
+}
+
+// The decision by readings: the bytes before a question's pairs, and for the pairs a kind and two floats for each variable.
+#[unsafe(no_mangle)]
+pub extern "C" fn guard_decide_readings(
+    sheet: &[u8],
+    head: &[u8],
+    kinds: &[u8],
+    values: &[f32],
+) -> u64
+    ensures { result ≡ readings_call sheet.now head.now kinds.now values.now }
+{
+    pack_decision(decide_readings(sheet, head, readings_in(kinds, values)))
 }
 
 // The number of numbers in the arrays below.
