@@ -8,4 +8,4 @@ for crate in guard sheet_c readings_c; do
   (cd "crates/$crate" && rt lib) || exit 1
   cp "crates/$crate/out/lib$crate.a" "target/staticlib/lib${crate%_c}.a"
 done
-(cd crates/floor_listing/data && rt run floor_listing >/dev/null)
+(cd crates/floor_listing && rt run >/dev/null)
