@@ -385,6 +385,15 @@ static inline void guard_put_sides(uint8_t *pairs, const int32_t *sides, size_t 
         guard_put(pairs, i, sides[i]);
 }
 
+/* Writes what both questions have: the mark with this second letter, the allowance, and from sides_at on
+ * the sides. Gives the place between them, where the commands stand. */
+static inline uint8_t *guard_put_question(uint8_t *question, char letter, uint32_t allowance,
+                                          const int32_t *sides, size_t n, size_t sides_at)
+{
+    guard_put_sides(question + sides_at, sides, n);
+    return guard_put_allowance(question, letter, allowance);
+}
+
 /* Writes a question about one command, of 10 + 8n bytes, and gives its length; the sides are as above. */
 static inline size_t guard_question(uint8_t *question, uint32_t allowance, int32_t command,
                                     const int32_t *sides, size_t n)

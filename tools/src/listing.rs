@@ -1,7 +1,7 @@
 //! The floor listing, from the archive's answers: what the program prints for the two files.
 
 use crate::archive::{self, Answer};
-use crate::causes::cause;
+use crate::causes::cause_with_readings;
 use crate::questions::cut;
 
 /// An answer to a question as the listing has it.
@@ -70,5 +70,5 @@ pub fn recovery_sentence(answer: Answer) -> String {
 }
 
 fn refused(number: u32) -> String {
-    format!("refused {number} ({})", cause(number as u8))
+    format!("refused {number} ({})", cause_with_readings(number as u8))
 }

@@ -1,6 +1,6 @@
 //! Lines of text: comments, tokens, units, and faults that name their line.
 
-use crate::causes::cause;
+use crate::causes::cause_with_readings;
 use std::fmt;
 
 /// What is wrong, in which line, and the number with which the guard refuses it if it does.
@@ -37,7 +37,7 @@ impl fmt::Display for Fault {
             write!(out, "line {line}: ")?;
         }
         if let Some(number) = self.refusal {
-            write!(out, "refused {number} ({}): ", cause(number))?;
+            write!(out, "refused {number} ({}): ", cause_with_readings(number))?;
         }
         write!(out, "{}", self.what)
     }
