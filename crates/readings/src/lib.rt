@@ -194,7 +194,8 @@ fn pair_sides(lower: f32, upper: f32) -> Sides
     if !value_in(upper) {
         return refused(READING);
     }
-    if upper < lower {
+    let reversed = upper < lower;
+    if reversed {
         return refused(READING);
     }
     Sides {
