@@ -534,8 +534,8 @@ enum Most {
 
 /// Of a round: at n up to 4 what it took before a change was compared with its cap first, and with one
 /// band what it takes since boxes have room for six variables; at n 6 it is judged with eight bands. These
-/// were counted with an older toolchain. At n 1, where today's compiles the same code to up to 25
-/// instructions more, they are what it takes today; the older ones were 258, 385 and 572.
+/// were counted with an older toolchain. At n 1 they are what the same bodies take with today's, up to
+/// 25 instructions more; the older ones were 258, 385 and 572.
 fn most_of_round(Shape(n, bands, _): Shape) -> Most {
     Most::Instructions(match (n, bands) {
         (6, 8) => return Most::Times(1.1),
