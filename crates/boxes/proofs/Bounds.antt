@@ -11,14 +11,12 @@ use Rattle.machine_spec.specs.Box.{Sized}
 use Rattle.machine_spec.specs.Machine.{Machine, vars_of}
 use Rattle.machine_spec.specs.Accepted.{Accepted}
 use Rattle.machine_spec.proofs.Facts.{room}
-use Rattle.boxes_step.specs.declared.StepResult.{StepResult}
-use Rattle.boxes_step.specs.declared.StepResult.TheVariants as step
-use Rattle.boxes_step.specs.StepResult.{step_of}
-use Rattle.boxes.specs.declared.steps.ReachResult.{ReachResult}
-use Rattle.boxes.specs.declared.steps.ReachResult.TheVariants.{Ended}
+use Rattle.std.specs.declared.result.Result.TheVariants.{Ok}
+use Rattle.boxes_step.specs.declared.Covered.{Covered}
+use Rattle.boxes_step.specs.StepResult.{Stepped, step_of}
 use Rattle.boxes_spec.specs.Step.{ok}
 use Rattle.boxes_spec.specs.Reach.{Reached, tested_step, reach}
-use Rattle.boxes.specs.ReachResult.{result_of, tested_step_of}
+use Rattle.boxes.specs.ReachResult.{Outcome, result_of, tested_step_of}
 use Rattle.boxes.proofs.Turn.{Stepping, Reaching}
 use Rattle.boxes_spec.proofs.Stages.{value_of}
 use Rattle.boxes_spec.proofs.Settled.{step_takes, first_place, tested_takes, reach_takes}
@@ -26,10 +24,10 @@ use Rattle.machine_spec.proofs.Ranges.{sized_less}
 use Rattle.boxes_spec.proofs.Ranges.{settled_sized, steps_sized}
 
 -- a step covers at most its width
-pub step_ticks : {l : Bool} {a : ℕ} {m : Machine} {w : ℕ} {S : List ℤ} {left c : ℕ} {r : StepResult} {R : List ℤ} → Stepping l a m w S left c r R
-    → vars_of m ≤ N → 0 < w → w ≤ max_width → 0 < left → (t i : ℕ) → r ≡ step.Settled t i → t ≤ w
+pub step_ticks : {l : Bool} {a : ℕ} {m : Machine} {w : ℕ} {S : List ℤ} {left c : ℕ} {r : Stepped} {R : List ℤ} → Stepping l a m w S left c r R
+    → vars_of m ≤ N → 0 < w → w ≤ max_width → 0 < left → (s : Covered) → r ≡ Ok s → s.ticks ≤ w
 unfolding step_of
-step_ticks {l} {a} {m} {w} {S} {left} {c} {R = R} h room z u f t i q =
+step_ticks {l} {a} {m} {w} {S} {left} {c} {R = R} h room z u f s q =
     let g = value_of (step_takes l a m S room (min w left) c 9 (omega arith) (omega arith)) (sym h.same ∙ ap (step_of (vars_of m) S R) q) in
     omega (arith, g.0.most)
 
@@ -44,9 +42,9 @@ pub record StepBounds (n b left t : ℕ) (E : List ℤ) : Type 0 where
 -- a tested step that ended
 pub tested_bounds : {l : Bool} {a : ℕ} {m : Machine} {clear : List ℤ → Bool} {w : ℕ} {A : List ℤ} {T c : ℕ} {S W : List ℤ} {left d b : ℕ}
     → Reaching l a m clear w A T c S W left d → Accepted m → 0 < w → w ≤ max_width → Sized (vars_of m) b S → b + left * max_cap ≤ max_edge → 0 < left
-    → (r : ReachResult) (E P : List ℤ) → tested_step_of E P r ≡ tested_step l a m clear w S left d → (t i : ℕ) → r ≡ Ended t i → StepBounds (vars_of m) b left t E × (i ≤ d + 73)
+    → (r : Outcome) (E P : List ℤ) → tested_step_of E P r ≡ tested_step l a m clear w S left d → (o : Covered) → r ≡ Ok o → StepBounds (vars_of m) b left o.ticks E × (o.count ≤ d + 73)
 unfolding result_of
-tested_bounds {l} {a} {m} {clear} {w} {S = S} {left = left} {d = d} k wf z u s h f r E P e t i q =
+tested_bounds {l} {a} {m} {clear} {w} {S = S} {left = left} {d = d} k wf z u s h f r E P e o q =
     let g = value_of (tested_takes l a m clear w 9 (room wf.sheet) z (omega arith) (first_place S left) d f) (sym e ∙ ap (tested_step_of E P) q) in
     let settled = g.0.0 in (record { some = settled.some; most = omega (arith, settled.most); end = settled_sized wf s (omega arith) settled }, g.1.few)
 

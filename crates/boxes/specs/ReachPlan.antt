@@ -5,6 +5,7 @@ use Rattle.sheet_spec.specs.Box.{lowest_met, clear}
 use Rattle.machine_spec.specs.Machine.{Machine, machine}
 use Rattle.boxes_spec.specs.Step.{Result, Step}
 use Rattle.boxes_spec.specs.Reach.{Reached, tested_step, reach}
+use Rattle.boxes_step.specs.Allowance.{is_limited, allowed}
 use Rattle.boxes.specs.declared.steps.ReachPlan.{ReachPlan}
 
 -- the plan's machine on the sheet v, its test of a swept box, and the lowest number of a no-go box that a swept box meets
@@ -19,8 +20,8 @@ lowest_on p v = lowest_met (vars v) v p.boxes
 
 -- a tested step from S with `left` ticks left, after c rounds
 abbrev pub tested_step_on : ReachPlan → List ℤ → List ℤ → ℕ → ℕ → Result Step
-tested_step_on p v S left c = tested_step p.budget.limited p.budget.allowance (machine_on p v) (clear_on p v) p.width S left c
+tested_step_on p v S left c = tested_step (is_limited p.allowance) (allowed p.allowance) (machine_on p v) (clear_on p v) p.width S left c
 
 -- a reach of `ticks` ticks from S, after c rounds
 abbrev pub reach_on : ReachPlan → List ℤ → List ℤ → ℕ → ℕ → Result Reached
-reach_on p v S ticks c = reach p.budget.limited p.budget.allowance (machine_on p v) (clear_on p v) p.width S ticks c
+reach_on p v S ticks c = reach (is_limited p.allowance) (allowed p.allowance) (machine_on p v) (clear_on p v) p.width S ticks c

@@ -2,7 +2,7 @@
 use mathlib.Core.Bool.{Bool, true, false}
 use Prim.Native.Nat.{ℕ, ◌*◌}
 use lib.IntN.{ℤ, pos, neg_ℤ, nat_abs, ◌*ℤ◌}
-use lib.Signed.{◌≤ℤ◌, ◌<ℤ◌}
+use lib.Signed.{◌<ℤ◌}
 use Rattle.integers.specs.Bound.{Bound}
 use Rattle.integers.proofs.Z.{ints, sub, neg, mul_neg, bound_in, bound_neg, bound_mul}
 use Rattle.sheet_spec.specs.Limits.{max_command, max_divisor}
@@ -12,17 +12,17 @@ use Rattle.machine_spec.proofs.Clamped.{clamped_by_comparison}
 use Rattle.boxes_arithmetic.specs.Limits.{AboveAsked, CommandAsked}
 use Rattle.boxes_arithmetic.proofs.Quotient.{divisor_bound}
 
--- the clamp by comparisons, of a quotient that is rounded to either side
-pub outward_by_comparison : (up : Bool) (l h x q : ℤ) → l ≤ℤ h → pos 1 ≤ℤ q → ByComparison l h x q (outward_div up x (nat_abs q))
-unfolding outward_div
-outward_by_comparison false l h x q o one = (clamped_by_comparison l h x q o one).0
-outward_by_comparison true l h x q o one = (clamped_by_comparison l h x q o one).1
-
 -- a command times the divisor
 abbrev pub dividend_limit : ℕ
 dividend_limit = max_divisor * max_command
 
 module _ {l h q : ℤ} (asked : CommandAsked l h q) where
+  -- the clamp by comparisons, of a quotient that is rounded to either side
+  pub compared : (up : Bool) (x : ℤ) → ByComparison l h x q (outward_div up x (nat_abs q))
+  unfolding outward_div
+  compared false x = (clamped_by_comparison l h x q asked.ordered asked.divisor.low).0
+  compared true x = (clamped_by_comparison l h x q asked.ordered asked.divisor.low).1
+
   pub least_near : Bound (q *ℤ l) dividend_limit
   least_near = bound_mul (divisor_bound asked.divisor) asked.least
 

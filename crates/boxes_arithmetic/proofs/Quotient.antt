@@ -4,21 +4,21 @@ use mathlib.Core.Bool.{Bool, true, false}
 use Prim.Native.Nat.{ℕ, suc, ◌*◌, ◌/◌, ◌<◌}
 use native.Mathlib.Omega.{arith}
 use native.Mathlib.Nat.{div-le_self}
-use lib.Dec.{T, lit≤}
+use lib.Dec.{T}
 use lib.IntN.{ℤ, pos, negsuc, neg_ℤ, nat_abs, ◌+ℤ◌, ◌-ℤ◌, ◌*ℤ◌}
-use lib.Signed.{non_neg, yes_non_neg, ◌≤ℤ◌, ◌<ℤ◌}
+use lib.Signed.{non_neg, yes_non_neg, ◌≤ℤ◌}
 use mir.Syntax.{w32}
 use mir.Val.{Fits}
 use Rattle.integers.specs.Bound.{Bound}
 use Rattle.integers.specs.Order.{min_z}
 use Rattle.integers.specs.Division.{floor_div}
-use Rattle.integers.proofs.Z.{ints, flat, sub, le_true, le_false, neg, mul_mono, mul_neg, min_is, max_is, bound_in, bound_less, bound_neg, bound_mul}
+use Rattle.integers.proofs.Z.{ints, flat, le_true, le_false, neg, min_is, max_is, bound_in, bound_mul}
 use Rattle.integers.proofs.Rounding.{Close, floor_moved, floor_close, ceil_close, close_most, close_least}
-use Rattle.sheet_spec.specs.Limits.{max_cap, max_command, max_divisor}
+use Rattle.sheet_spec.specs.Limits.{max_command, max_divisor}
 use Rattle.sheet_spec.specs.Valid.{Between}
 use Rattle.machine_spec.specs.Machine.{clamp, outward_div}
 use Rattle.machine_spec.specs.Rate.{outer}
-use Rattle.boxes_arithmetic.specs.Limits.{AboveAsked, CapAsked, Capped, DivisionAsked}
+use Rattle.boxes_arithmetic.specs.Limits.{AboveAsked, Capped}
 use Rattle.boxes_arithmetic.specs.Outward.{no_further}
 
 -- ---- what 32 bits hold without a sign
@@ -66,49 +66,6 @@ moved_back base x (pos b) h k =
     let e : x +ℤ pos b *ℤ neg_ℤ base ≡ x -ℤ pos b *ℤ base = simp flat (omega ints) in
     rw (floored (x -ℤ pos b *ℤ base) b k) (simp flat (omega (ints, simp flat at (rw e at (floor_moved x (neg_ℤ base) b (omega ints))))))
 
--- ---- a sheet's divisor times its cap
-
-abbrev pub most_limit : ℕ
-most_limit = max_divisor * max_cap
-
-module _ {cap q : ℤ} (asked : CapAsked cap q) where
-  pub cap_bound : Bound cap max_cap
-  cap_bound = bound_in (omega (ints, asked.room.low, neg (pos max_cap))) asked.room.high
-
-  pub most_bound : Bound (q *ℤ cap) most_limit
-  most_bound = bound_mul (divisor_bound asked.divisor) cap_bound
-
-  -- −cap times the divisor
-  pub least_is : q *ℤ neg_ℤ cap ≡ neg_ℤ (q *ℤ cap)
-  least_is = mul_neg q cap
-
--- ---- a dividend x that the cap does not clamp
-
-module _ {cap x q : ℤ} (asked : DivisionAsked cap x q) where
-  pub dividend_bound : Bound x most_limit
-  dividend_bound =
-      let most = most_bound asked.sheet in
-      bound_in (omega (ints, asked.above, most.at_most, neg (q *ℤ cap), neg (pos most_limit))) (omega (ints, asked.below, most.at_most))
-
-  -- it is above q·(−cap)
-  pub above_cap : AboveAsked (neg_ℤ cap) x q
-  above_cap =
-      let most = most_bound asked.sheet in
-      record {
-        near = bound_less (bound_neg (cap_bound asked.sheet)) (lit≤ tt);
-        divisor = asked.sheet.divisor;
-        above = rw (least_is asked.sheet) asked.above;
-        below = rw (least_is asked.sheet) (omega (ints, sub x (neg_ℤ (q *ℤ cap)), asked.below, most.at_most, neg (q *ℤ cap)));
-      }
-
-  -- the negative of x
-  pub negative : DivisionAsked cap (neg_ℤ x) q
-  negative = record {
-    sheet = asked.sheet;
-    above = omega (ints, asked.below, neg x, neg (q *ℤ cap));
-    below = omega (ints, asked.above, neg x, neg (q *ℤ cap));
-  }
-
 -- ---- quotients of either face
 
 outward_close : (up : Bool) (x : ℤ) (q : ℕ) → 0 < q → Close x q (outward_div up x q)
@@ -117,26 +74,12 @@ outward_close false x q h = floor_close x q h
 outward_close true x q h = ceil_close x q h
 
 -- z·q is q·z
-turned : (z q : ℤ) → z *ℤ q ≡ q *ℤ z
+pub turned : (z q : ℤ) → z *ℤ q ≡ q *ℤ z
 turned z q = simp flat (omega ints)
 
--- ---- z, the outermost so far, lies within the cap: what z·q says of ±q·cap, and z of a clamped number
+-- ---- z, the outermost so far, lies within the cap: what it says of a clamped number
 
 module _ {cap z : ℤ} (capped : Capped cap z) where
-  pub cap_asked : {q : ℤ} → Between (pos 1) (pos max_divisor) q → CapAsked cap q
-  cap_asked divisor = record {
-    room = record { low = omega (ints, capped.between.low, capped.between.high, neg cap); high = omega (ints, capped.small.at_most) };
-    divisor = divisor;
-  }
-
-  pub below_most : (x q : ℤ) → pos 1 ≤ℤ q → x <ℤ (z *ℤ q) → x <ℤ (q *ℤ cap)
-  below_most x q one h = let far = mul_mono q z cap (omega (ints, one)) capped.between.high in omega (ints, turned z q)
-
-  pub above_least : (x q : ℤ) → pos 1 ≤ℤ q → (z *ℤ q) <ℤ x → neg_ℤ (q *ℤ cap) <ℤ x
-  above_least x q one h =
-      let far = mul_mono q (neg_ℤ cap) z (omega (ints, one)) capped.between.low in
-      omega (ints, far, mul_neg q cap, turned z q)
-
   clamp_least : (y : ℤ) → z ≤ℤ y → z ≤ℤ clamp cap y
   unfolding clamp
   clamp_least y h = omega (ints, capped.between.low, capped.between.high, max_is (neg_ℤ cap) (min_z y cap), min_is y cap)

@@ -12,17 +12,6 @@ limit = 16777216
 abbrev pub word : ℕ
 word = 2147483648
 
--- the cap and the divisor q are those of a sheet
-pub record CapAsked (cap q : ℤ) : Type 0 where
-  pub room : Between (pos 0) (pos max_cap) cap
-  pub divisor : Between (pos 1) (pos max_divisor) q
-
--- and x is strictly between −q·cap and q·cap: the cap does not clamp x / q
-pub record DivisionAsked (cap x q : ℤ) : Type 0 where
-  pub sheet : CapAsked cap q
-  pub above : neg_ℤ (q *ℤ cap) <ℤ x
-  pub below : x <ℤ (q *ℤ cap)
-
 -- the base is no further from 0 than a command, and x is above q·base, by no more than q times twice as much
 pub record AboveAsked (base x q : ℤ) : Type 0 where
   pub near : Bound base max_command
@@ -36,6 +25,12 @@ pub record CommandAsked (l h q : ℤ) : Type 0 where
   pub greatest : Bound h max_command
   pub ordered : l ≤ℤ h
   pub divisor : Between (pos 1) (pos max_divisor) q
+
+-- and x is strictly between q·l and q·h: the range does not clamp x / q
+pub record WithinAsked (l h x q : ℤ) : Type 0 where
+  pub range : CommandAsked l h q
+  pub above : (q *ℤ l) <ℤ x
+  pub below : x <ℤ (q *ℤ h)
 
 -- z lies from −cap to cap
 pub record Capped (cap z : ℤ) : Type 0 where

@@ -1,35 +1,23 @@
-// The arithmetic of a box's faces: the lesser, the greater and the outer one of two numbers, and signed numbers divided by
-// positive ones, rounded outward and clamped (document 01, "The machine on a sheet"; document 02, paper 6: compared first, and divided
-// only where nothing is clamped): a change to its cap, a command of the plain law to the safety range. The definitions are in integers/specs/Division, machine_spec/specs/Machine and
+// The arithmetic of a box's faces: the outer one of two numbers, and signed numbers divided by positive ones, rounded outward and clamped
+// (document 01, "The machine on a sheet"; document 02, paper 6: compared first, and divided only where nothing is clamped): a change to its
+// cap, a command of the plain law to the safety range. The definitions are in integers/specs/Division, machine_spec/specs/Machine and
 // machine_spec/specs/Rate, the law that makes comparisons of the clamp in machine_spec/specs/Clamped.
 #![tactic(auto)]
 
-ghost use Rattle.std.specs.Prelude.{◌≡◌, true, not, ◌&&◌, nat_abs, neg_ℤ, ◌*ℤ◌, ◌<ℤ◌};
-ghost use Rattle.std.specs.Int.Signed.{le_z};
-ghost use Rattle.integers.specs.Order.{min_z, max_z};
-ghost use Rattle.integers.specs.Division.{ceil_div, floor_div};
+ghost use Rattle.std.specs.Prelude.{◌≡◌, true, not, ◌*◌, nat_abs};
+ghost use Rattle.integers.specs.Bound.{Bound};
+ghost use Rattle.integers.specs.Division.{floor_div};
+ghost use Rattle.sheet_spec.specs.Limits.{max_cap, max_divisor};
 ghost use Rattle.machine_spec.specs.Machine.{clamp, clamp_to, outward_div};
 ghost use Rattle.machine_spec.specs.Rate.{neutral, outer};
-ghost use Rattle.boxes_arithmetic.specs.Limits.{AboveAsked, CapAsked, CommandAsked, DivisionAsked, QuotientAsked};
+ghost use Rattle.boxes_arithmetic.specs.Limits.{AboveAsked, CommandAsked, QuotientAsked, WithinAsked};
 ghost use Rattle.boxes_arithmetic.specs.Outward.{no_further};
-
-pub fn min(a: i64, b: i64) -> i64
-    ensures { result ≡ min_z a b }
-{
-    if a <= b { a } else { b }
-}
-
-pub fn max(a: i64, b: i64) -> i64
-    ensures { result ≡ max_z a b }
-{
-    if a < b { b } else { a }
-}
 
 // The smaller for a lower face, the greater for an upper.
 pub fn outer(up: bool, a: i64, b: i64) -> i64
     ensures { result ≡ outer up a b }
 {
-    if up { max(a, b) } else { min(a, b) }
+    if up { a.max(b) } else { a.min(b) }
 }
 
 // The quotient, rounded down, of a dividend that is above divisor·base. What it is above that, 32 bits hold: so nothing negative is divided.
@@ -39,23 +27,29 @@ fn quotient_above(base: i64, dividend: i64, divisor: i64) -> i64
 {
     let moved = dividend - divisor * base;
     let quotient = (moved as u32) / (divisor as u32);
-    (quotient as i64) + base
+    i64::from(quotient) + base
 }
 
-// The quotient, rounded down, of a dividend strictly between −divisor·cap and divisor·cap.
-pub fn floor_div(cap: i64, dividend: i64, divisor: i64) -> i64
-    requires { DivisionAsked cap dividend divisor }
-    ensures { result ≡ floor_div dividend (nat_abs divisor) }
+// The quotient, rounded outward, of a dividend strictly between divisor·least and divisor·greatest.
+fn outward_div(up: bool, least: i64, greatest: i64, dividend: i64, divisor: i64) -> i64
+    requires { WithinAsked least greatest dividend divisor }
+    ensures { result ≡ outward_div up dividend (nat_abs divisor) }
 {
-    quotient_above(-cap, dividend, divisor)
+    if up {
+        // the negative is rounded down
+        -quotient_above(-greatest, -dividend, divisor)
+    } else {
+        quotient_above(least, dividend, divisor)
+    }
 }
 
-// The quotient, rounded up, of a dividend strictly between −divisor·cap and divisor·cap: its negative is rounded down.
-pub fn ceil_div(cap: i64, dividend: i64, divisor: i64) -> i64
-    requires { DivisionAsked cap dividend divisor }
-    ensures { result ≡ ceil_div dividend (nat_abs divisor) }
+// The value that leaves the outermost as it is: the cap that the face goes away from.
+#[tactic(auto, unfolding(machine_spec::specs::Rate::neutral))]
+pub fn neutral(up: bool, cap: i64) -> i64
+    requires { Bound cap max_cap }
+    ensures { result ≡ neutral up cap }
 {
-    -floor_div(cap, -dividend, divisor)
+    if up { -cap } else { cap }
 }
 
 // The outermost change so far, and whether it is known to be the cap, beyond which no change goes.
@@ -65,49 +59,19 @@ pub struct Outermost {
     pub capped: bool,
 }
 
-// The quotient, rounded down and clamped, of a dividend below divisor·cap.
-fn clamped_floor(cap: i64, dividend: i64, divisor: i64) -> Outermost
-    requires { CapAsked cap divisor × (dividend <ℤ (divisor *ℤ cap)) }
-    ensures { (result.change ≡ clamp cap (floor_div dividend (nat_abs divisor))) × (result.capped ≡ true → result.change ≡ neg_ℤ cap) }
-{
-    let least = -(divisor * cap);
-    if least < dividend {
-        Outermost {
-            change: floor_div(cap, dividend, divisor),
-            capped: false,
-        }
-    } else {
-        Outermost {
-            change: -cap,
-            capped: true,
-        }
-    }
-}
-
-// The quotient, rounded up and clamped, of a dividend above −divisor·cap.
-fn clamped_ceil(cap: i64, dividend: i64, divisor: i64) -> Outermost
-    requires { CapAsked cap divisor × (neg_ℤ (divisor *ℤ cap) <ℤ dividend) }
-    ensures { (result.change ≡ clamp cap (ceil_div dividend (nat_abs divisor))) × (result.capped ≡ true → result.change ≡ cap) }
-{
-    let most = divisor * cap;
-    if dividend < most {
-        Outermost {
-            change: ceil_div(cap, dividend, divisor),
-            capped: false,
-        }
-    } else {
-        Outermost {
-            change: cap,
-            capped: true,
-        }
-    }
-}
-
 // x is no further out than z.
 fn no_further(up: bool, z: i64, x: i64) -> bool
     ensures { result ≡ no_further up z x }
 {
     if up { x <= z } else { z <= x }
+}
+
+// x is at or beyond the end that the face goes towards, of the range from −most to most.
+fn is_clamped(up: bool, most: i64, x: i64) -> bool
+    requires { Bound most (max_divisor * max_cap) }
+    ensures { result ≡ no_further up x (neutral (not up) most) }
+{
+    if up { most <= x } else { x <= -most }
 }
 
 // The outer one of the outermost so far and of the quotient, rounded outward and clamped by the cap. A dividend is divided only if it is
@@ -122,11 +86,17 @@ pub fn outer_quotient(up: bool, cap: i64, dividend: i64, divisor: i64, outermost
             capped: false,
         };
     }
-    // The outermost so far lies within the cap: so an upper face's dividend is above −divisor·cap, a lower face's below divisor·cap.
-    if up {
-        clamped_ceil(cap, dividend, divisor)
-    } else {
-        clamped_floor(cap, dividend, divisor)
+    let most = divisor * cap;
+    if is_clamped(up, most, dividend) {
+        return Outermost {
+            change: neutral(!up, cap),
+            capped: true,
+        };
+    }
+    // The dividend is further out than the outermost so far, which lies within the cap: so it lies within the other end too.
+    Outermost {
+        change: outward_div(up, -cap, cap, dividend, divisor),
+        capped: false,
     }
 }
 
@@ -142,17 +112,5 @@ pub fn clamped_command(up: bool, least: i64, greatest: i64, dividend: i64, divis
     if divisor * greatest <= dividend {
         return greatest;
     }
-    if up {
-        // the negative is rounded down
-        -quotient_above(-greatest, -dividend, divisor)
-    } else {
-        quotient_above(least, dividend, divisor)
-    }
-}
-
-// Both of two tests.
-pub fn both_le(a: i64, b: i64, c: i64, d: i64) -> bool
-    ensures { result ≡ (le_z a b && le_z c d) }
-{
-    if a <= b { c <= d } else { false }
+    outward_div(up, least, greatest, dividend, divisor)
 }

@@ -35,10 +35,6 @@ unfoldable pub outer_end : {A : Type 0} → Bool → ℤ → A → A → A
 outer_end false a l h = cond (lt_z a (pos 0)) h l
 outer_end true a l h = cond (lt_z a (pos 0)) l h
 
--- the place of that side of variable j, in a box that is not empty
-abbrev pub outer_place : Bool → ℤ → ℕ → ℕ
-outer_place up a j = outer_end up a j (j + N)
-
 -- a coefficient's products with the sides of variable j of the box B can be bounded
 pub record TermAsked (B : List ℤ) (j : ℕ) : Type 0 where
   pub room : j < N

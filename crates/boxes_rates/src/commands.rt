@@ -13,7 +13,7 @@ ghost use Rattle.boxes_rates.specs.Plant.{Chosen};
 ghost use Rattle.boxes_rates.specs.Known.{KnownAsked, Noted, end_count, end_place};
 
 use crate::Plant;
-use crate::row::{product, span_term, weighted};
+use crate::row::{outer_end, product, span_term, weighted};
 use boxes_arithmetic::{clamped_command, outer};
 use machine_spec::Law;
 use sheet_spec::limits::MAX_BANDS;
@@ -106,18 +106,6 @@ fn end_over(
     command
 }
 
-// The end of the commands at which a coefficient's product is the outer one: the greatest, or the least.
-#[tactic(auto, unfolding(crate::specs::Limits::outer_end))]
-fn outer_is_greatest(up: bool, coefficient: i32) -> bool
-    ensures { result ≡ outer_end up coefficient false true }
-{
-    if up {
-        if coefficient < 0 { false } else { true }
-    } else {
-        if coefficient < 0 { true } else { false }
-    }
-}
-
 // The outer one of a coefficient's products with the commands of the law that follows the state, in the band k at a slot, over the box.
 fn feedback_term(
     up: bool,
@@ -137,7 +125,7 @@ fn feedback_term(
     if coefficient == 0 {
         return 0;
     }
-    let end = outer_is_greatest(up, coefficient);
+    let end = outer_end(up, coefficient, false, true);
     let command = end_over(end, n, sheet, band, k, over, shared, ends);
     product(coefficient, command)
 }

@@ -14,7 +14,7 @@ ghost use Rattle.boxes_rates.specs.Known.{Known, KnownAsked, Noted, NotedAll};
 use crate::Plant;
 use crate::commands::{ENDS, UNKNOWN, command_term};
 use crate::row::{bound, further};
-use boxes_arithmetic::{Outermost, both_le, max, min};
+use boxes_arithmetic::{Outermost, neutral};
 use machine_spec::Law;
 use sheet_spec::BandKind;
 use sheet_spec::slots::{
@@ -52,15 +52,6 @@ fn band_number(band: usize) -> usize
     ensures { (k : ℕ) → band ≡ slots.band_slot k → result ≡ k }
 {
     (band - FIRST_BAND) / BAND_SIZE
-}
-
-// The value that leaves the outermost as it is.
-#[tactic(auto, unfolding(machine_spec::specs::Rate::neutral))]
-fn neutral(up: bool, cap: i64) -> i64
-    requires { Bound cap max_cap }
-    ensures { result ≡ neutral up cap }
-{
-    if up { -cap } else { cap }
 }
 
 // The outer one of the outermost so far and of the allowed change of variable i over the box, by the row of the band k at the slot `band`.
@@ -165,9 +156,9 @@ fn narrow(up: bool, start: &[i64; BOX_SIZE], reach: i64, work: &mut [i64; BOX_SI
 {
     let upper = i + N;
     if up {
-        work[i] = max(work[i], start[upper] - reach);
+        work[i] = work[i].max(start[upper] - reach);
     } else {
-        work[upper] = min(work[upper], start[i] + reach);
+        work[upper] = work[upper].min(start[i] + reach);
     }
 }
 
@@ -175,11 +166,7 @@ fn narrow(up: bool, start: &[i64; BOX_SIZE], reach: i64, work: &mut [i64; BOX_SI
 fn is_shared(follows: bool, side: i64, old: i64) -> bool
     ensures { result ≡ (follows && (le_z side old && le_z old side)) }
 {
-    if follows {
-        both_le(side, old, old, side)
-    } else {
-        false
-    }
+    follows && side == old
 }
 
 // The rate of a face of variable i in a step of `ticks` ticks from `start`, with the working box. The neighborhood is made in
@@ -232,12 +219,10 @@ fn rates_of(
     ensures work_unchanged { work.new ≡ work.old }
 {
     *face_rates = [0; BOX_SIZE];
-    let mut i: usize = 0;
-    while i < plant.n {
+    for i in 0..plant.n {
         let upper = i + N;
         face_rates[i] = face_rate(false, follows, n, plant, sheet, start, ticks, work, i, ends);
         face_rates[upper] = face_rate(true, follows, n, plant, sheet, start, ticks, work, i, ends);
-        i += 1;
     }
 }
 

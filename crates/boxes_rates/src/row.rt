@@ -9,21 +9,20 @@ ghost use Rattle.sheet_spec.specs.Box.{lo, hi};
 ghost use Rattle.machine_spec.specs.Machine.{change};
 ghost use Rattle.machine_spec.specs.Rate.{neutral, outer, weighted};
 ghost use Rattle.boxes_arithmetic.specs.Limits.{limit, word};
-ghost use Rattle.boxes_rates.specs.Limits.{ChangeAsked, RowAsked, RowBounded, TermAsked, outer_end, outer_place, term_limit};
+ghost use Rattle.boxes_rates.specs.Limits.{ChangeAsked, RowAsked, RowBounded, TermAsked, outer_end, term_limit};
 
 use boxes_arithmetic::{Outermost, outer_quotient};
 use sheet_spec::slots::{BOX_SIZE, N, ROW_C, ROW_D, ROW_Q, SLOTS};
 
-// The place of the side of variable j at which a coefficient's product is the outer one, in a box that is not empty.
+// Of the least and the greatest of a range the one at which a coefficient's product is the outer one.
 #[tactic(auto, unfolding(crate::specs::Limits::outer_end))]
-fn outer_place(up: bool, coefficient: i32, j: usize) -> usize
-    requires { j < slots.N }
-    ensures { result ≡ outer_place up coefficient j }
+pub(crate) fn outer_end<T: Copy>(up: bool, coefficient: i32, least: T, greatest: T) -> T
+    ensures { result ≡ outer_end up coefficient least greatest }
 {
     if up {
-        if coefficient < 0 { j } else { j + N }
+        if coefficient < 0 { least } else { greatest }
     } else {
-        if coefficient < 0 { j + N } else { j }
+        if coefficient < 0 { greatest } else { least }
     }
 }
 
@@ -32,7 +31,7 @@ fn term(up: bool, coefficient: i32, over: &[i64; BOX_SIZE], j: usize) -> i64
     requires { TermAsked over.now j }
     ensures { result ≡ outer up (coefficient *ℤ lo over.now j) (coefficient *ℤ hi over.now j) }
 {
-    let place = outer_place(up, coefficient, j);
+    let place = outer_end(up, coefficient, j, j + N);
     (coefficient as i64) * over[place]
 }
 
@@ -43,12 +42,10 @@ pub fn weighted(up: bool, n: usize, sheet: &[i32; SLOTS], row: usize, over: &[i6
     ensures bound { Bound result (slots.N * (word * limit)) }
 {
     let mut sum: i64 = 0;
-    let mut j: usize = 0;
-    // n is at most N, which the compiler knows: it writes the turns out.
-    while j < n && j < N {
+    // n is at most N: with both the compiler writes the turns out
+    for j in 0..n.min(N) {
         let slot = row + j;
-        sum = sum + term(up, sheet[slot], over, j);
-        j += 1;
+        sum += term(up, sheet[slot], over, j);
     }
     sum
 }
@@ -59,18 +56,6 @@ pub fn product(coefficient: i32, command: i64) -> i64
     ensures { (result ≡ coefficient *ℤ command) × Bound result term_limit }
 {
     (coefficient as i64) * command
-}
-
-// The end of a span at which a coefficient's product is the outer one.
-#[tactic(auto, unfolding(crate::specs::Limits::outer_end))]
-fn outer_end(up: bool, coefficient: i32, least: i64, greatest: i64) -> i64
-    ensures { result ≡ outer_end up coefficient least greatest }
-{
-    if up {
-        if coefficient < 0 { least } else { greatest }
-    } else {
-        if coefficient < 0 { greatest } else { least }
-    }
 }
 
 // The outer one of a coefficient's products with the commands of a span.

@@ -5,46 +5,48 @@
 
 ghost use Rattle.std.specs.Prelude.{◌≡◌, ◌≤◌};
 ghost use Rattle.sheet_spec.specs.Slots as slots;
+ghost use Rattle.sheet_spec.specs.Refusals.{refusal_of};
 ghost use Rattle.boxes_spec.specs.Reach.{in_range, law_refusal, reach_refusal, sides_refusal, ticks_refusal};
 
 use machine_spec::Law;
+use sheet_spec::Vars;
 use sheet_spec::limits::{MAX_SIDE, MAX_TICKS, MAX_WIDTH};
-use sheet_spec::refusals::{COMMAND, REACH, START};
+use sheet_spec::refusals::Refusal;
 use sheet_spec::slots::{BOX_SIZE, GREATEST, LEAST, N, SLOTS};
 
 #[tactic(auto, unfolding(boxes_spec::specs::Reach::ticks_refusal))]
-fn ticks_refusal(ticks: u32, width: u32) -> u8
-    ensures { result ≡ ticks_refusal ticks width }
+fn ticks_refusal(ticks: u32, width: u32) -> Result<(), Refusal>
+    ensures { refusal_of result ≡ ticks_refusal ticks width }
 {
     if MAX_TICKS < ticks {
-        return REACH;
+        return Err(Refusal::Reach);
     }
     if width < 1 {
-        return REACH;
+        return Err(Refusal::Reach);
     }
     if MAX_WIDTH < width {
-        return REACH;
+        return Err(Refusal::Reach);
     }
-    0
+    Ok(())
 }
 
 #[tactic(auto, unfolding(boxes_spec::specs::Reach::law_refusal), using(integers::proofs::Z::ints))]
-pub fn law_refusal(sheet: &[i32; SLOTS], law: Law) -> u8
-    ensures { result ≡ law_refusal sheet.now law }
+pub fn law_refusal(sheet: &[i32; SLOTS], law: Law) -> Result<(), Refusal>
+    ensures { refusal_of result ≡ law_refusal sheet.now law }
 {
     let Law::Span { least, greatest } = law else {
-        return 0;
+        return Ok(());
     };
     if least < sheet[LEAST] as i64 {
-        return COMMAND;
+        return Err(Refusal::Command);
     }
     if greatest < least {
-        return COMMAND;
+        return Err(Refusal::Command);
     }
     if (sheet[GREATEST] as i64) < greatest {
-        return COMMAND;
+        return Err(Refusal::Command);
     }
-    0
+    Ok(())
 }
 
 fn in_range(lower: i64, upper: i64) -> bool
@@ -60,41 +62,32 @@ fn in_range(lower: i64, upper: i64) -> bool
 }
 
 #[tactic(auto, using(crate::proofs::Turn::sides_none, crate::proofs::Turn::sides_more, crate::proofs::Turn::sides_stop))]
-pub fn sides_refusal(n: usize, start: &[i64; BOX_SIZE]) -> u8
-    requires { n ≤ slots.N }
-    ensures { result ≡ sides_refusal n start.now }
+pub fn sides_refusal(n: Vars, start: &[i64; BOX_SIZE]) -> Result<(), Refusal>
+    ensures { refusal_of result ≡ sides_refusal n start.now }
 {
-    let mut i: usize = 0;
-    while i < n {
+    for i in 0..n.count() {
         let upper = i + N;
         if !in_range(start[i], start[upper]) {
-            return START;
+            return Err(Refusal::Start);
         }
-        i += 1;
     }
-    0
+    Ok(())
 }
 
 // The first of them, for a sheet of n variables.
 #[tactic(auto, unfolding(boxes_spec::specs::Reach::reach_refusal, sheet_spec::specs::Refusals::first_of, sheet_spec::specs::Refusals::unless_refused))]
 pub fn reach_refusal(
-    n: usize,
+    n: Vars,
     sheet: &[i32; SLOTS],
     ticks: u32,
     width: u32,
     law: Law,
     start: &[i64; BOX_SIZE],
-) -> u8
-    requires { (n ≡ slots.vars sheet.now) × (n ≤ slots.N) }
-    ensures { result ≡ reach_refusal sheet.now ticks width law start.now }
+) -> Result<(), Refusal>
+    requires { n ≡ slots.vars sheet.now }
+    ensures { refusal_of result ≡ reach_refusal sheet.now ticks width law start.now }
 {
-    let of_ticks = ticks_refusal(ticks, width);
-    if of_ticks != 0 {
-        return of_ticks;
-    }
-    let of_law = law_refusal(sheet, law);
-    if of_law != 0 {
-        return of_law;
-    }
+    ticks_refusal(ticks, width)?;
+    law_refusal(sheet, law)?;
     sides_refusal(n, start)
 }

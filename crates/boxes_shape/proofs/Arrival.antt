@@ -4,7 +4,6 @@ use mathlib.Core.Path.{◌≡◌, sym, ap, ap₂, ◌∙◌}
 use mathlib.Core.Bool.{true, false}
 use mathlib.Core.List.{List}
 use Prim.Native.Nat.{ℕ, ◌≤◌, ◌<◌, ◌+◌}
-use native.Mathlib.Omega.{arith}
 use lib.IntN.{ℤ, pos, ◌+ℤ◌, ◌*ℤ◌}
 use lib.ListN.{set}
 use Rattle.integers.specs.Order.{min_z, max_z}
@@ -38,14 +37,13 @@ module _ (A : List ℤ) (k : ℕ) (R : List ℤ) where
       ∙ sides_same n _ _ _ _ (λ i l. (ap (min_z (lo A i)) (sym (sides_lo moved_lo moved_hi n i room l)), ap (max_z (hi A i)) (sym (sides_hi moved_lo moved_hi n i room l)))))
 
 -- the first i variables of A, of the working box E₀ and of the path P₀ are written, and the boxes are then B, E and P
-pub record Arriving (n : ℕ) (A : List ℤ) (k : ℕ) (R E₀ P₀ B E P : List ℤ) (i : ℕ) : Type 0 where
-  pub turns : i ≤ n
+pub record Arriving (A : List ℤ) (k : ℕ) (R E₀ P₀ B E P : List ℤ) (i : ℕ) : Type 0 where
   pub at : B ≡ with_sides i (moved_lo A k R) (moved_hi A k R) A
   pub work : E ≡ with_sides i (moved_lo A k R) (moved_hi A k R) E₀
   pub path : P ≡ with_sides i (path_lo A k R) (path_hi A k R) P₀
 
 -- a turn: the lower side of variable i, then the upper, of the boxes that have the first i variables
-module _ {n : ℕ} {A : List ℤ} {k : ℕ} {R E₀ P₀ B E P : List ℤ} {i : ℕ} (inv : Arriving n A k R E₀ P₀ B E P i) (more : i < n) (room : i < N) where
+module _ {A : List ℤ} {k : ℕ} {R E₀ P₀ B E P : List ℤ} {i : ℕ} (inv : Arriving A k R E₀ P₀ B E P i) (room : i < N) where
   -- the sides that are read are those that the box had at first
   pub low_was : lo B i ≡ lo A i
   low_was = turn_lo _ _ i _ inv.at room
@@ -54,13 +52,12 @@ module _ {n : ℕ} {A : List ℤ} {k : ℕ} {R E₀ P₀ B E P : List ℤ} {i : 
     pub high_was : hi B₁ i ≡ hi A i
     high_was = ap (λ (l : List ℤ). hi l i) lower.end ∙ turn_hi_set _ _ i _ inv.at _
 
-    pub turn : {B₂ E₂ P₂ : List ℤ} → ArriveSideDone true (i + N) B₁ k R E₁ P₁ B₂ E₂ P₂ → Arriving n A k R E₀ P₀ B₂ E₂ P₂ (i + 1)
+    pub turn : {B₂ E₂ P₂ : List ℤ} → ArriveSideDone true (i + N) B₁ k R E₁ P₁ B₂ E₂ P₂ → Arriving A k R E₀ P₀ B₂ E₂ P₂ (i + 1)
     unfolding outer
     turn upper =
         let low = ap (λ (x : ℤ). x +ℤ pos k *ℤ lo R i) low_was in
         let high = ap (λ (x : ℤ). x +ℤ pos k *ℤ hi R i) high_was in
         record {
-          turns = omega (arith, more);
           at = upper.end ∙ (ap (λ (l : List ℤ). set l (i + N) (moved_side B₁ k R (i + N))) lower.end ∙ with_more _ _ i _ inv.at low high);
           work = upper.work ∙ (ap (λ (l : List ℤ). set l (i + N) (moved_side B₁ k R (i + N))) lower.work ∙ with_more _ _ i _ inv.work low high);
           path =

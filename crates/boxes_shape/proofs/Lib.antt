@@ -1,3 +1,4 @@
 mod Sides
 mod Turn
 mod Arrival
+mod Passing

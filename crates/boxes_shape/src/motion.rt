@@ -1,5 +1,5 @@
 // Boxes that grow and move by their rates (document 01, "One lifted step"). They are lent, and changed in place: a
-// box that is returned is copied, and the next turn would wait for the copy. Loops are tested against N too, which n is at most: the
+// box that is returned is copied, and the next turn would wait for the copy. Loops end at N too, which n is at most: the
 // compiler knows it and writes the turns out. The definitions are in machine_spec/specs/Box; `compare` says what a box is.
 ghost use Rattle.std.specs.Prelude.{◌≡◌, ◌≤◌, ◌<◌, pos, ◌+ℤ◌, ◌*ℤ◌};
 ghost use Rattle.sheet_spec.specs.Slots as slots;
@@ -8,7 +8,7 @@ ghost use Rattle.machine_spec.specs.Box.{hull, moved, trim, within};
 ghost use Rattle.machine_spec.specs.Rate.{outer};
 ghost use Rattle.boxes_shape.specs.Limits.{ArriveDone, ArriveSideDone, Movable, SideMovable, TookIn, Trimmed};
 
-use boxes_arithmetic::{both_le, max, min, outer};
+use boxes_arithmetic::outer;
 use sheet_spec::slots::{BOX_SIZE, N};
 
 // A side moved by its rate for `ticks` ticks.
@@ -35,10 +35,9 @@ fn take_in(i: usize, low: i64, high: i64, work: &mut [i64; BOX_SIZE]) -> bool
     let upper = i + N;
     let lower_side = work[i];
     let upper_side = work[upper];
-    let inside = both_le(lower_side, low, high, upper_side);
-    work[i] = min(lower_side, low);
-    work[upper] = max(upper_side, high);
-    inside
+    work[i] = lower_side.min(low);
+    work[upper] = upper_side.max(high);
+    lower_side <= low && high <= upper_side
 }
 
 // Whether the hull of `start` and of `start` moved by its rates for `ticks` ticks lies in `work`, which becomes the hull of both.
@@ -54,14 +53,12 @@ pub fn grow(
     ensures work_after { work.new ≡ hull n work.old (hull n start.now (moved n start.now ticks rates.now)) }
 {
     let mut inside = true;
-    let mut i: usize = 0;
-    while i < n && i < N {
+    for i in 0..n.min(N) {
         let upper = i + N;
         let low = swept_side(false, start[i], ticks, rates[i]);
         let high = swept_side(true, start[upper], ticks, rates[upper]);
         let right = take_in(i, low, high, work);
         inside = inside && right;
-        i += 1;
     }
     inside
 }
@@ -97,11 +94,9 @@ pub fn arrive(
     requires { Movable n at.old ticks rates.now × Trimmed n work.old at.old path.old }
     ensures { ArriveDone n at.old ticks rates.now at.new work.new path.new }
 {
-    let mut i: usize = 0;
-    while i < n && i < N {
+    for i in 0..n.min(N) {
         arrive_side(false, i, ticks, rates, work, at, path);
         arrive_side(true, i + N, ticks, rates, work, at, path);
-        i += 1;
     }
 }
 
@@ -110,9 +105,7 @@ pub fn join(n: usize, other: &[i64; BOX_SIZE], out: &mut [i64; BOX_SIZE])
     requires { (n ≤ slots.N) × (trim n out.old ≡ out.old) }
     ensures { out.new ≡ hull n out.old other.now }
 {
-    let mut i: usize = 0;
-    while i < n && i < N {
+    for i in 0..n.min(N) {
         take_in(i, other[i], other[i + N], out);
-        i += 1;
     }
 }

@@ -12,10 +12,10 @@ use Rattle.machine_spec.specs.Machine.{Machine, vars_of}
 use Rattle.machine_spec.proofs.Facts.{room}
 use Rattle.machine_spec.proofs.Inside.{inside_trans, within_inside, inside_within, hull_left}
 use Rattle.machine_spec.proofs.Ranges.{near_less, hull_near}
-use Rattle.boxes_step.specs.declared.StepResult.{StepResult}
-use Rattle.boxes_step.specs.declared.StepResult.TheVariants.{Unsettled}
+use Rattle.std.specs.declared.result.Result.TheVariants.{Err}
+use Rattle.boxes_step.specs.declared.StepFault.TheVariants.{Unsettled}
 use Rattle.boxes_spec.specs.Step.{lifted, grown, rounds}
-use Rattle.boxes_step.specs.StepResult.{step_of}
+use Rattle.boxes_step.specs.StepResult.{Stepped, step_of}
 use Rattle.boxes_step.proofs.Turn.{Halving}
 use Rattle.boxes_spec.proofs.Stages.{failure_of_lem}
 use Rattle.boxes_spec.proofs.Settled.{starts, rounds_take}
@@ -23,7 +23,7 @@ use Rattle.boxes_spec.proofs.Ranges.{lifted_near}
 
 -- eight rounds add at most eight
 pub halving_count : {l : Bool} {a : ℕ} {m : Machine} {S : List ℤ} {w c k d : ℕ} → Halving l a m S w c k d
-    → (r : StepResult) (R : List ℤ) → step_of (vars_of m) S R r ≡ rounds l a m S k 8 S d → (i : ℕ) → r ≡ Unsettled i → i ≤ d + 8
+    → (r : Stepped) (R : List ℤ) → step_of (vars_of m) S R r ≡ rounds l a m S k 8 S d → (i : ℕ) → r ≡ Err (Unsettled i) → i ≤ d + 8
 unfolding step_of
 halving_count {l} {a} {m} {S} {k = k} {d = d} h r R e i q = (failure_of_lem (rounds_take l a m S k 8 S d h.some starts) (sym e ∙ ap (step_of (vars_of m) S R) q)).1.few
 

@@ -14,11 +14,11 @@ use Rattle.machine_spec.specs.Box.{trim, hull, within, moved}
 use Rattle.machine_spec.specs.Machine.{Machine, vars_of}
 use Rattle.machine_spec.specs.Rate.{rates}
 use Rattle.machine_spec.proofs.InPlace.{trim_as_hull}
-use Rattle.boxes_step.specs.declared.StepResult.{StepResult}
-use Rattle.boxes_step.specs.declared.StepResult.TheVariants.{Settled, Unsettled, Exhausted}
+use Rattle.std.specs.declared.result.Result.TheVariants.{Ok, Err}
+use Rattle.boxes_step.specs.declared.StepFault.TheVariants.{Unsettled, Exhausted}
 use Rattle.boxes_spec.specs.Step.{lifted, settles, end_box, grown, Result, ok, failed, unsettled, retry, is_exhausted, Step, rounds, halving, step}
 use Rattle.boxes_spec.proofs.Settled.{settles_one}
-use Rattle.boxes_step.specs.StepResult.{step_of}
+use Rattle.boxes_step.specs.StepResult.{Stepped, step_of}
 
 -- ---- a round, as the code works it out: n is the number of variables, r are the rates, and F is the working box E
 
@@ -47,44 +47,42 @@ settles_first m S k {E} h one e = ap (λ (j : ℕ). settles m S j E) one ∙ (ap
 
 -- ---- rounds
 
--- eight rounds of k ticks after c rounds, where the loop has the working box E after d rounds, and `left` are left
-pub record Rounding (l : Bool) (a : ℕ) (m : Machine) (S : List ℤ) (k c left : ℕ) (E : List ℤ) (d : ℕ) : Type 0 where
-  pub few : left ≤ 8
-  pub same : rounds l a m S k 8 S c ≡ rounds l a m S k left E d
+-- eight rounds of k ticks after c rounds, where the loop has taken `taken` of them and has the working box E after d rounds
+pub record Rounding (l : Bool) (a : ℕ) (m : Machine) (S : List ℤ) (k c taken : ℕ) (E : List ℤ) (d : ℕ) : Type 0 where
+  pub same : rounds l a m S k 8 S c ≡ rounds l a m S k (8 - taken) E d
 
-pub rounding_starts : (l : Bool) (a : ℕ) (m : Machine) {S : List ℤ} (k c : ℕ) {E : List ℤ} → E ≡ S → Rounding l a m S k c 8 E c
-rounding_starts l a m {S} k c e = record { few = omega arith; same = ap (λ (F : List ℤ). rounds l a m S k 8 F c) (sym e) }
+pub rounding_starts : (l : Bool) (a : ℕ) (m : Machine) {S : List ℤ} (k c : ℕ) {E : List ℤ} → E ≡ S → Rounding l a m S k c 0 E c
+rounding_starts l a m {S} k c e = record { same = ap (λ (F : List ℤ). rounds l a m S k 8 F c) (sym e) }
 
-module _ {l : Bool} {a : ℕ} {m : Machine} {S : List ℤ} {k c left : ℕ} {E : List ℤ} {d : ℕ} (h : Rounding l a m S k c left E d) where
-  pub rounding_ends : (R : List ℤ) → left ≡ 0 → step_of (vars_of m) S R (Unsettled d) ≡ rounds l a m S k 8 S c
+module _ {l : Bool} {a : ℕ} {m : Machine} {S : List ℤ} {k c taken : ℕ} {E : List ℤ} {d : ℕ} (h : Rounding l a m S k c taken E d) where
+  pub rounding_ends : (R : List ℤ) → 8 ≤ taken → step_of (vars_of m) S R (Err (Unsettled d)) ≡ rounds l a m S k 8 S c
   unfolding rounds step_of
-  rounding_ends R z = sym (h.same ∙ ap (λ (j : ℕ). rounds l a m S k j E d) z)
+  rounding_ends R all = let z : 8 - taken ≡ 0 = omega arith in sym (h.same ∙ ap (λ (j : ℕ). rounds l a m S k j E d) z)
 
   -- a round is due where t is not true
-  module _ (some : 0 < left) (t : Bool) (o : t ≡ is_exhausted l a d) where
-    turn : rounds l a m S k 8 S c ≡ rounds l a m S k (suc (left - 1)) E d
-    turn = h.same ∙ ap (λ (j : ℕ). rounds l a m S k j E d) (suc_of left some)
+  module _ (some : taken < 8) (t : Bool) (o : t ≡ is_exhausted l a d) where
+    turn : rounds l a m S k 8 S c ≡ rounds l a m S k (suc (8 - (taken + 1))) E d
+    turn = let z : 8 - taken ≡ suc (8 - (taken + 1)) = omega arith in h.same ∙ ap (λ (j : ℕ). rounds l a m S k j E d) z
 
-    pub rounding_exhausted : (R : List ℤ) → t ≡ true → step_of (vars_of m) S R (Exhausted d) ≡ rounds l a m S k 8 S c
+    pub rounding_exhausted : (R : List ℤ) → t ≡ true → step_of (vars_of m) S R (Err (Exhausted d)) ≡ rounds l a m S k 8 S c
     unfolding rounds step_of
     rounding_exhausted R e = sym (turn ∙ pick_yes (is_exhausted l a d) _ _ (sym o ∙ e))
 
     -- the round has settled where u is true
     module _ (due : t ≡ false) (u : Bool) (q : u ≡ settles m S k E) where
       -- with the rates R
-      pub rounding_settles : (R : List ℤ) → R ≡ rates m S k E → u ≡ true → step_of (vars_of m) S R (Settled k (d + 1)) ≡ rounds l a m S k 8 S c
+      pub rounding_settles : (R : List ℤ) → R ≡ rates m S k E → u ≡ true → step_of (vars_of m) S R (Ok (record { ticks = k; count = d + 1 })) ≡ rounds l a m S k 8 S c
       unfolding rounds step_of end_box
       rounding_settles R r e =
           ap (λ (Q : List ℤ). ok (record { ticks = k; end = moved (vars_of m) S k Q }) (d + 1)) r
           ∙ sym (turn ∙ pick_no (is_exhausted l a d) _ _ (sym o ∙ due) ∙ pick_yes (settles m S k E) _ _ (sym q ∙ e))
 
       -- with the next working box B
-      pub rounding_on : (B : List ℤ) → B ≡ grown m S k E → u ≡ false → Rounding l a m S k c (left - 1) B (d + 1)
+      pub rounding_on : (B : List ℤ) → B ≡ grown m S k E → u ≡ false → Rounding l a m S k c (taken + 1) B (d + 1)
       unfolding rounds
       rounding_on B b e = record {
-        few = omega (arith, h.few);
         same = turn ∙ pick_no (is_exhausted l a d) _ _ (sym o ∙ due) ∙ pick_no (settles m S k E) _ _ (sym q ∙ e)
-            ∙ ap (λ (F : List ℤ). rounds l a m S k (left - 1) F (d + 1)) (sym b);
+            ∙ ap (λ (F : List ℤ). rounds l a m S k (8 - (taken + 1)) F (d + 1)) (sym b);
       }
 
 -- ---- the halving
@@ -101,7 +99,7 @@ unfolding step
 halving_starts l a m S w c z = record { some = z; fuel = w; enough = le_refl w; same = refl }
 
 -- eight rounds came to r, with the rates R
-module _ {l : Bool} {a : ℕ} {m : Machine} {S : List ℤ} {w c k d : ℕ} (h : Halving l a m S w c k d) (r : StepResult) (R : List ℤ) (e : step_of (vars_of m) S R r ≡ rounds l a m S k 8 S d) where
+module _ {l : Bool} {a : ℕ} {m : Machine} {S : List ℤ} {w c k d : ℕ} (h : Halving l a m S w c k d) (r : Stepped) (R : List ℤ) (e : step_of (vars_of m) S R r ≡ rounds l a m S k 8 S d) where
   abbrev half : ℕ → Result Step
   half i = elim (leb k 1) [ true ↦ failed unsettled i | false ↦ halving l a m S (h.fuel - 1) (k / 2) i ]
 
@@ -109,23 +107,23 @@ module _ {l : Bool} {a : ℕ} {m : Machine} {S : List ℤ} {w c k d : ℕ} (h : 
   unfolding halving
   half_turn = h.same ∙ ap (λ (j : ℕ). halving l a m S j k d) (suc_of h.fuel (omega (arith, h.some, h.enough))) ∙ ap (λ (g : Result Step). retry g half) (sym e)
 
-  pub halving_ends : ((i : ℕ) → r ≡ Unsettled i → ⊥) → step_of (vars_of m) S R r ≡ step l a m S w c
+  pub halving_ends : ((i : ℕ) → r ≡ Err (Unsettled i) → ⊥) → step_of (vars_of m) S R r ≡ step l a m S w c
   unfolding step_of retry
   halving_ends n = sym (half_turn ∙ ends r n)
     where
-      ends : (o : StepResult) → ((i : ℕ) → o ≡ Unsettled i → ⊥) → retry (step_of (vars_of m) S R o) half ≡ step_of (vars_of m) S R o
-      ends (Settled t i) n = refl
-      ends (Unsettled i) n = absurd (n i refl)
-      ends (Exhausted i) n = refl
+      ends : (o : Stepped) → ((i : ℕ) → o ≡ Err (Unsettled i) → ⊥) → retry (step_of (vars_of m) S R o) half ≡ step_of (vars_of m) S R o
+      ends (Ok s) n = refl
+      ends (Err (Unsettled i)) n = absurd (n i refl)
+      ends (Err (Exhausted i)) n = refl
 
-  module _ (i : ℕ) (q : r ≡ Unsettled i) where
+  module _ (i : ℕ) (q : r ≡ Err (Unsettled i)) where
     halved : step l a m S w c ≡ half i
     unfolding step_of retry
-    halved = half_turn ∙ ap (λ (o : StepResult). retry (step_of (vars_of m) S R o) half) q
+    halved = half_turn ∙ ap (λ (o : Stepped). retry (step_of (vars_of m) S R o) half) q
 
-    pub halving_finest : k ≤ 1 → step_of (vars_of m) S R (Unsettled i) ≡ step l a m S w c
+    pub halving_finest : k ≤ 1 → step_of (vars_of m) S R r ≡ step l a m S w c
     unfolding step_of
-    halving_finest z = sym (halved ∙ pick_yes (leb k 1) _ _ (le-leb k 1 z))
+    halving_finest z = ap (step_of (vars_of m) S R) q ∙ sym (halved ∙ pick_yes (leb k 1) _ _ (le-leb k 1 z))
 
     pub halving_on : 1 < k → Halving l a m S w c (k / 2) i
     halving_on z = record { some = omega arith; fuel = h.fuel - 1; enough = omega (arith, h.enough); same = halved ∙ pick_no (leb k 1) _ _ (lt-leb k 1 z) }

@@ -1,2 +1,3 @@
+pub mod Allowance
 pub mod StepResult
 pub mod Limits

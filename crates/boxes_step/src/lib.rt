@@ -7,6 +7,7 @@ ghost use Rattle.std.specs.Prelude.{◌*◌, ◌≡◌};
 ghost use Rattle.sheet_spec.specs.Slots as slots;
 ghost use Rattle.machine_spec.specs.Machine.{machine};
 ghost use Rattle.boxes_spec.specs.Step.{is_exhausted, rounds, step};
+ghost use Rattle.boxes_step.specs.Allowance.{is_limited, allowed};
 ghost use Rattle.boxes_step.specs.Limits.{RoundAsked, StepAsked};
 ghost use Rattle.boxes_step.specs.StepResult.{RoundDone, StepDone};
 
@@ -15,22 +16,27 @@ use boxes_rates::rate::rates;
 use boxes_shape::motion::grow;
 use sheet_spec::slots::{BOX_SIZE, SLOTS};
 
-// A round is due only while the count is not the allowance, if there is one.
+// The most rounds of a length before half of it is tried.
+const ROUNDS: usize = 8;
+
+// The ticks that rounds, a step or a reach cover, and the count of rounds after them. The boxes are lent beside it.
 #[derive(Clone, Copy)]
-pub struct Budget {
-    pub limited: bool,
-    pub allowance: u32,
+pub struct Covered {
+    pub ticks: usize,
+    pub count: u32,
 }
 
-// What rounds or a step came to, with the count of rounds after them. The rates of the last round are lent beside it.
+// Why rounds or a step did not settle, with the count of rounds after them.
 #[derive(Clone, Copy)]
-pub enum StepResult {
-    // the ticks that it covers
-    Settled { ticks: usize, count: u32 },
+pub enum StepFault {
+    // no round of the length settled
     Unsettled { count: u32 },
     // a round was due and none was left
     Exhausted { count: u32 },
 }
+
+// The allowance, the plant, the sheet and the start box stay parameters: as a struct with methods, a round at one variable and one band
+// takes 277 instructions, and at most 262 are allowed.
 
 // One round of `ticks` ticks with the working box: whether it settles. `face_rates` becomes its rates, and if it does not settle
 // `work` becomes the next working box.
@@ -50,20 +56,18 @@ fn round(
     ticks == 1 || grow(plant.n, start, ticks - 1, face_rates, work)
 }
 
-fn is_exhausted(budget: Budget, count: u32) -> bool
-    ensures { result ≡ is_exhausted budget.limited budget.allowance count }
+// A round is due only while the count is not the allowance, if there is one.
+#[tactic(auto, unfolding(boxes_spec::specs::Step::is_exhausted))]
+fn is_exhausted(allowance: Option<u32>, count: u32) -> bool
+    ensures { result ≡ is_exhausted (is_limited allowance) (allowed allowance) count }
 {
-    if budget.limited {
-        count == budget.allowance
-    } else {
-        false
-    }
+    allowance == Some(count)
 }
 
 // Up to eight rounds of `ticks` ticks. The first working box is `start`, which `work` is at first. `face_rates` becomes the rates of
 // the last round.
 fn rounds(
-    budget: Budget,
+    allowance: Option<u32>,
     plant: Plant,
     sheet: &[i32; SLOTS],
     start: &[i64; BOX_SIZE],
@@ -71,33 +75,31 @@ fn rounds(
     count: u32,
     work: &mut [i64; BOX_SIZE],
     face_rates: &mut [i64; BOX_SIZE],
-) -> StepResult
+) -> Result<Covered, StepFault>
     requires { StepAsked plant sheet.now start.now ticks count 8 work.old face_rates.old }
-    ensures { StepDone (slots.vars sheet.now) start.now (rounds budget.limited budget.allowance (machine sheet.now plant.law) start.now ticks 8 start.now count) result work.new face_rates.new }
+    ensures { StepDone (slots.vars sheet.now) start.now (rounds (is_limited allowance) (allowed allowance) (machine sheet.now plant.law) start.now ticks 8 start.now count) result work.new face_rates.new }
 {
     let mut counted = count;
-    let mut left: usize = 8;
-    while left > 0 {
-        if is_exhausted(budget, counted) {
-            return StepResult::Exhausted { count: counted };
+    for _ in 0..ROUNDS {
+        if is_exhausted(allowance, counted) {
+            return Err(StepFault::Exhausted { count: counted });
         }
         let settled = round(plant, sheet, start, ticks, work, face_rates);
         counted += 1;
         if settled {
-            return StepResult::Settled {
-                ticks: ticks,
+            return Ok(Covered {
+                ticks,
                 count: counted,
-            };
+            });
         }
-        left -= 1;
     }
-    StepResult::Unsettled { count: counted }
+    Err(StepFault::Unsettled { count: counted })
 }
 
 // A step of at most `width` ticks from `start`, after `count` rounds. The working box is `start` at first; if the step
 // settles, its end box is `start` moved by `face_rates`.
 pub fn step(
-    budget: Budget,
+    allowance: Option<u32>,
     plant: Plant,
     sheet: &[i32; SLOTS],
     start: &[i64; BOX_SIZE],
@@ -105,24 +107,24 @@ pub fn step(
     count: u32,
     work: &mut [i64; BOX_SIZE],
     face_rates: &mut [i64; BOX_SIZE],
-) -> StepResult
+) -> Result<Covered, StepFault>
     requires { StepAsked plant sheet.now start.now width count (8 * width) work.old face_rates.old }
-    ensures { StepDone (slots.vars sheet.now) start.now (step budget.limited budget.allowance (machine sheet.now plant.law) start.now width count) result work.new face_rates.new }
+    ensures { StepDone (slots.vars sheet.now) start.now (step (is_limited allowance) (allowed allowance) (machine sheet.now plant.law) start.now width count) result work.new face_rates.new }
 {
     let mut ticks = width;
     let mut counted = count;
     loop {
         let r = rounds(
-            budget, plant, sheet, start, ticks, counted, work, face_rates,
+            allowance, plant, sheet, start, ticks, counted, work, face_rates,
         );
-        let StepResult::Unsettled { count: after } = r else {
+        let Err(StepFault::Unsettled { count: after }) = r else {
             return r;
         };
         if ticks <= 1 {
             return r;
         }
         *work = *start;
-        ticks = ticks / 2;
+        ticks /= 2;
         counted = after;
     }
 }

@@ -2,15 +2,15 @@
 // Each writes a line: what is checked, and the answer.
 #![tactic(auto)]
 
-ghost use Rattle.std.specs.Prelude.{◌<◌};
-
 mod feedback;
 mod sheet_a;
 mod sheet_f;
 mod six;
 
+use sheet::refusals::Refusal;
+use sheet::slots::SLOTS;
 use sheet_a::*;
-use std::io::Print;
+use std::fmt::Display;
 
 // A buffer that sheet A is written to, from a place on.
 const PLACE: usize = 5;
@@ -21,106 +21,86 @@ const BUFFER: usize = 80;
 
 const FILLER: u8 = 7;
 
-// A line that cannot be written is left out.
-fn print(to: &impl Print, text: &[u8]) {
-    let _ = to.write_all(text);
+// A line that cannot be written is left out, here and below.
+fn answer<T>(to: &impl Print, label: impl Display + Drop, answered: &Result<T, Refusal>) {
+    let _ = match answered {
+        Ok(_) => println!(to; "{label}: accepted"),
+        Err(refusal) => println!(to; "{label}: refused {}", u8::from(*refusal)),
+    };
 }
 
-fn answer(to: &impl Print, label: &[u8], refusal: u8) {
-    print(to, label);
-    if refusal == 0 {
-        print(to, b": accepted\n");
-    } else {
-        print(to, b": refused ");
-        let _ = to.print(refusal);
-        print(to, b"\n");
-    }
-}
-
-fn verdict(to: &impl Print, label: &[u8], same: bool) {
-    print(to, label);
-    if same {
-        print(to, b": same\n");
-    } else {
-        print(to, b": other\n");
-    }
+fn verdict(to: &impl Print, label: impl Display + Drop, same: bool) {
+    let _ = println!(to; "{label}: {}", if same { "same" } else { "other" });
 }
 
 // Reads a file.
-fn reading(to: &impl Print, label: &[u8], f: &[u8]) {
-    let read = sheet::read(f);
-    answer(to, label, read.refusal);
+fn reading(to: &impl Print, label: &str, f: &[u8]) {
+    answer(to, label, &sheet::read(f));
 }
 
-// Reads sheet A with one byte changed.
-fn changed(to: &impl Print, label: &[u8], at: usize, byte: u8)
-    requires { at < 71 }
-{
-    let f = with(file(), at, byte);
-    reading(to, label, &f[0..LENGTH]);
+// A file's numbers; zeros if it is refused, so that the checks on them say so.
+fn numbers(f: &[u8]) -> [i32; SLOTS] {
+    sheet::read(f).unwrap_or([0; SLOTS])
 }
 
 fn sums_of_ticks(to: &impl Print) {
-    let f = with(file(), ALPHA_FIRST, 3);
-    let most = with(f, ALPHA, 228);
-    reading(to, b"sum of ticks 1000", &most[0..LENGTH]);
-    let more = with(f, ALPHA, 229);
-    reading(to, b"sum of ticks 1001", &more[0..LENGTH]);
+    let mut f = FILE;
+    f[ALPHA_FIRST] = 3;
+    f[ALPHA] = 228;
+    reading(to, "sum of ticks 1000", &f[..LENGTH]);
+    f[ALPHA] = 229;
+    reading(to, "sum of ticks 1001", &f[..LENGTH]);
 }
 
 fn lengths(to: &impl Print) {
-    let f = file();
-    reading(to, b"19 bytes", &f[0..19]);
-    reading(to, b"69 bytes", &f[0..LENGTH - 1]);
-    reading(to, b"70 bytes", &f[0..LENGTH]);
-    reading(to, b"71 bytes", &f[0..PADDED]);
+    reading(to, "19 bytes", &FILE[..19]);
+    reading(to, "69 bytes", &FILE[..LENGTH - 1]);
+    reading(to, "70 bytes", &FILE[..LENGTH]);
+    reading(to, "71 bytes", &FILE);
 }
 
-fn refusals_of_head(to: &impl Print) {
-    changed(to, b"head's mark", HEAD_MARK, b'T');
-    changed(to, b"variables 7", VARS, 7);
-    changed(to, b"delta 0", DELTA, 0);
-    changed(to, b"greatest command 65561", GREATEST_SECOND, 1);
-    changed(to, b"bands 2", BANDS, 2);
-    changed(to, b"cap 0", CAP, 0);
-}
-
-fn refusals_of_records(to: &impl Print) {
-    changed(to, b"band's mark", BAND_MARK, b'C');
-    changed(to, b"edge -1999999", EDGE, 129);
-    changed(to, b"safety least 26", SAFETY_LEAST, 26);
-    changed(to, b"divisor 0", DIVISOR, 0);
-    changed(to, b"no-go upper side 2000001", UNSAFE_UPPER, 129);
+// Reads sheet A with one byte changed, once for each line.
+fn changed(to: &impl Print) {
+    for (label, at, byte) in [
+        ("head's mark", HEAD_MARK, b'T'),
+        ("variables 7", VARS, 7),
+        ("delta 0", DELTA, 0),
+        ("greatest command 65561", GREATEST_SECOND, 1),
+        ("bands 2", BANDS, 2),
+        ("cap 0", CAP, 0),
+        ("band's mark", BAND_MARK, b'C'),
+        ("edge -1999999", EDGE, 129),
+        ("safety least 26", SAFETY_LEAST, 26),
+        ("divisor 0", DIVISOR, 0),
+        ("no-go upper side 2000001", UNSAFE_UPPER, 129),
+    ] {
+        let mut f = FILE;
+        f[at] = byte;
+        reading(to, label, &f[..LENGTH]);
+    }
 }
 
 // Writes sheet A to a buffer that is a byte short, and to one with room, and looks at each byte of that.
 fn writing(to: &impl Print) {
-    let f = file();
-    let read = sheet::read(&f[0..LENGTH]);
-    let value = read.value;
+    let value = numbers(&FILE[..LENGTH]);
     let mut short = [FILLER; END - 1];
     let refused = sheet::write(&value, &mut short, PLACE);
-    answer(to, b"write at 5 of 74 bytes", refused.refusal);
+    answer(to, "write at 5 of 74 bytes", &refused);
     let mut buffer = [FILLER; BUFFER];
     let written = sheet::write(&value, &mut buffer, PLACE);
-    answer(to, b"write at 5 of 80 bytes", written.refusal);
-    verdict(to, b"length written", written.length == LENGTH);
-    verdict(to, b"bytes written", buffer[PLACE..END] == f[0..LENGTH]);
+    answer(to, "write at 5 of 80 bytes", &written);
+    verdict(to, "length written", written == Ok(LENGTH));
+    verdict(to, "bytes written", buffer[PLACE..END] == FILE[..LENGTH]);
     let filler = [FILLER; BUFFER];
-    verdict(to, b"bytes before", buffer[0..PLACE] == filler[0..PLACE]);
-    verdict(
-        to,
-        b"bytes after",
-        buffer[END..BUFFER] == filler[END..BUFFER],
-    );
+    verdict(to, "bytes before", buffer[..PLACE] == filler[..PLACE]);
+    verdict(to, "bytes after", buffer[END..] == filler[END..]);
 }
 
 fn main(rt: HostRuntime) {
     let to = rt.stdout();
     sums_of_ticks(&to);
     lengths(&to);
-    refusals_of_head(&to);
-    refusals_of_records(&to);
+    changed(&to);
     writing(&to);
     feedback::checks(&to);
     six::checks(&to);

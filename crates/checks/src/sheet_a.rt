@@ -1,6 +1,4 @@
 // Document 01's sheet A as a file, and the places in it that a check changes.
-ghost use Rattle.std.specs.Prelude.{◌<◌};
-
 pub const LENGTH: usize = 70;
 
 // One byte more follows the sheet.
@@ -34,18 +32,8 @@ pub const DIVISOR: usize = 49;
 pub const UNSAFE_UPPER: usize = 59;
 
 // A line for each record, the byte more in the last.
-pub fn file() -> [u8; PADDED] {
+pub const FILE: [u8; PADDED] =
     *b"SH\x01\x01\x01\x00\x00\x04\x00\x04\x00\x04\xff\xff\xff\xe7\x00\x00\x00\x19\x00\x05\
        BD\xff\xe1\x7b\x80\x00\x00\x00\x00\x00\x00\x00\x00\xff\xff\x00\x04\x00\x00\x00\x00\x00\x00\x00\x00\x00\x14\
        NG\x00\x00\x00\x82\x00\x1e\x84\x80\
-       RC\xff\xff\xff\x9c\x00\x00\x00\x64\x00"
-}
-
-// A file with one byte changed.
-pub fn with(f: [u8; PADDED], at: usize, byte: u8) -> [u8; PADDED]
-    requires { at < 71 }
-{
-    let mut changed = f;
-    changed[at] = byte;
-    changed
-}
+       RC\xff\xff\xff\x9c\x00\x00\x00\x64\x00";

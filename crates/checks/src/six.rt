@@ -1,8 +1,7 @@
 // Checks on sheets of six variables (document 02, paper 9).
 
-use crate::{answer, sheet_a, sheet_f, verdict};
+use crate::{answer, numbers, sheet_a, sheet_f, verdict};
 use sheet::slots::*;
-use std::io::Print;
 
 // The lengths of sheets with one band and one no-go box.
 const FIXED: usize = 290;
@@ -10,50 +9,27 @@ const FIXED: usize = 290;
 const FEEDBACK: usize = 308;
 
 // A sheet of one variable with five more, of which none changes; their sides are 0.
-fn six(v: [i32; SLOTS]) -> [i32; SLOTS] {
-    let mut w = v;
-    w[VARS] = 6;
-    let mut i: usize = 1;
-    while i < 6 {
-        w[FIRST_CAP + i] = 1;
-        w[FIRST_BAND + FIRST_ROW + i * ROW_SIZE + ROW_Q] = 1;
-        i = i + 1;
+fn six(mut v: [i32; SLOTS]) -> [i32; SLOTS] {
+    v[VARS] = 6;
+    for i in 1..6 {
+        v[FIRST_CAP + i] = 1;
+        v[FIRST_BAND + FIRST_ROW + i * ROW_SIZE + ROW_Q] = 1;
     }
-    w
+    v
 }
 
-// Writes it to a buffer of just its length, and reads that.
-fn fixed(to: &impl Print) {
-    let f = sheet_a::file();
-    let read = sheet::read(&f[0..sheet_a::LENGTH]);
-    let value = read.value;
-    let v = six(value);
-    let mut buffer = [0u8; FIXED];
-    let written = sheet::write(&v, &mut buffer, 0);
-    answer(to, b"write six variables", written.refusal);
-    verdict(to, b"length of six variables", written.length == FIXED);
-    let back = sheet::read(&buffer);
-    answer(to, b"six variables", back.refusal);
-}
-
-fn feedback(to: &impl Print) {
-    let f = sheet_f::file();
-    let read = sheet::read(&f);
-    let value = read.value;
-    let v = six(value);
-    let mut buffer = [0u8; FEEDBACK];
-    let written = sheet::write(&v, &mut buffer, 0);
-    answer(to, b"write BF of six variables", written.refusal);
-    verdict(
-        to,
-        b"length of BF of six variables",
-        written.length == FEEDBACK,
-    );
-    let back = sheet::read(&buffer);
-    answer(to, b"BF of six variables", back.refusal);
+// Writes a file's sheet with six variables to a buffer of just its length, and reads that.
+fn both_ways(to: &impl Print, label: &str, f: &[u8], buffer: &mut [u8]) {
+    let written = sheet::write(&six(numbers(f)), buffer, 0);
+    answer(to, format_args!("write {label}"), &written);
+    let whole = written == Ok(buffer.len());
+    verdict(to, format_args!("length of {label}"), whole);
+    answer(to, label, &sheet::read(buffer));
 }
 
 pub fn checks(to: &impl Print) {
-    fixed(to);
-    feedback(to);
+    let fixed = &sheet_a::FILE[..sheet_a::LENGTH];
+    both_ways(to, "six variables", fixed, &mut [0; FIXED]);
+    let feedback = &sheet_f::FILE;
+    both_ways(to, "BF of six variables", feedback, &mut [0; FEEDBACK]);
 }

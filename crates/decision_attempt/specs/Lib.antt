@@ -1,3 +1,2 @@
-pub mod AttemptPlan
 pub mod AttemptResult
 pub mod Limits

@@ -8,8 +8,6 @@ use Rattle.sheet_spec.specs.Limits.{max_side, max_ticks, max_width}
 use Rattle.boxes_step.specs.Limits.{step_limit, count_limit}
 use Rattle.decision_spec.specs.declared.Phase.{Phase}
 use Rattle.decision_spec.specs.Decision.{ticks_of}
-use Rattle.decision_attempt.specs.declared.AttemptPlan.{AttemptPlan}
-use Rattle.decision_attempt.specs.AttemptPlan.{phases_of}
 
 -- the most phases of an attempt
 abbrev pub max_phases : ℕ
@@ -20,22 +18,21 @@ abbrev pub AllLawful : List ℤ → List Phase → Type 0
 AllLawful v [] = Unit
 AllLawful v (p ∷ ps) = Lawful v p.law × AllLawful v ps
 
--- attempts of the plan on the sheet v from the box S, at the width w and below
-pub record AttemptsAsked (plan : AttemptPlan) (v S : List ℤ) (w : ℕ) : Type 0 where
+-- attempts of the phases ps on the sheet v from the box S, at the width w and below
+pub record AttemptsAsked (ps : List Phase) (v S : List ℤ) (w : ℕ) : Type 0 where
   pub sheet : ValidNumbers v
   pub start : Sized (vars v) max_side S
   pub trimmed : trim (vars v) S ≡ S
-  pub phases : plan.count ≤ max_phases
-  pub among : plan.count ≤ length plan.phases
-  pub laws : AllLawful v (phases_of plan)
-  pub ticks : ticks_of (phases_of plan) ≤ max_ticks
+  pub phases : length ps ≤ max_phases
+  pub laws : AllLawful v ps
+  pub ticks : ticks_of ps ≤ max_ticks
   pub some : 0 < w
   pub most : w ≤ max_width
 
 -- one attempt at the width w, after c rounds
-pub record AttemptAsked (plan : AttemptPlan) (v S : List ℤ) (w c : ℕ) : Type 0 where
-  pub attempts : AttemptsAsked plan v S w
-  pub counts : c + 73 * ticks_of (phases_of plan) + 8 * w ≤ count_limit
+pub record AttemptAsked (ps : List Phase) (v S : List ℤ) (w c : ℕ) : Type 0 where
+  pub attempts : AttemptsAsked ps v S w
+  pub counts : c + 73 * ticks_of ps + 8 * w ≤ count_limit
 
 -- the reach of a phase of it from the box A, after c rounds
 pub record PhaseAsked (phase : Phase) (v A : List ℤ) (w c : ℕ) : Type 0 where

@@ -1,36 +1,21 @@
 // Attempts (document 01, "The decision"): reaches under one law after another, at a width, and at ever smaller widths until one
 // attempt ends in the recovery box. The recovery check is made of them too. The definitions are in
-// decision_spec/specs/Decision; specs/AttemptPlan and specs/AttemptResult say what is asked and answered in their terms.
+// decision_spec/specs/Decision; specs/Limits and specs/AttemptResult say what is asked and answered in their terms.
 #![tactic(auto)]
 
-ghost use Rattle.std.specs.Prelude.{◌≡◌, List, ℤ};
-ghost use Rattle.sheet_spec.specs.Slots.{boxes, vars};
+ghost use Rattle.std.specs.Prelude.{◌≡◌, Ok};
 ghost use Rattle.sheet_spec.specs.Valid.{ValidNumbers};
-ghost use Rattle.sheet_spec.specs.Box.{lowest_met};
-ghost use Rattle.boxes.specs.ReachResult.{Names, reached_of};
 ghost use Rattle.decision_spec.specs.Decision.{attempts, finish, last_reply};
 ghost use Rattle.decision_answers.specs.Decision.{reply_of};
-ghost use Rattle.decision_attempt.specs.AttemptPlan.{attempt_of};
-ghost use Rattle.decision_attempt.specs.AttemptResult.{PhaseDone, summary};
+ghost use Rattle.decision_attempt.specs.AttemptResult.{PhaseDone, attempt_of, fault_of, summary};
 ghost use Rattle.decision_attempt.specs.Limits.{AttemptAsked, AttemptsAsked, PhaseAsked};
 
-use boxes::steps::{ReachPlan, ReachResult, plant, reach};
+use boxes::steps::{ReachPlan, Stopped, plant, reach};
 use boxes_shape::compare::{box_at, within};
-use boxes_step::Budget;
-use decision_answers::Decision;
+use boxes_step::Covered;
+use decision_answers::{Decision, Verdict};
 use decision_spec::Phase;
 use sheet_spec::slots::{BOX_SIZE, BOXES, RECOVERY, SLOTS, VARS};
-
-// The most phases of an attempt.
-pub const MAX_PHASES: usize = 2;
-
-// What is attempted: the first `count` of the phases, one after another, within a budget of rounds.
-#[derive(Clone, Copy)]
-pub struct AttemptPlan {
-    pub budget: Budget,
-    pub phases: [Phase; MAX_PHASES],
-    pub count: usize,
-}
 
 // Why an attempt failed.
 #[derive(Clone, Copy)]
@@ -44,147 +29,129 @@ pub enum Failure {
     Unrecovered,
 }
 
-// What an attempt came to, with the count of rounds after it.
+// Why an attempt did not succeed, with the count of rounds after it.
 #[derive(Clone, Copy)]
-pub enum AttemptResult {
-    Succeeded { count: u32 },
+pub enum Fault {
     Failed { why: Failure, count: u32 },
     // a round was due and none was left
     Exhausted { count: u32 },
 }
 
-// A reach on the sheet v with the swept box W as an attempt's outcome.
-#[tactic(auto, unfolding(crate::specs::AttemptResult::summary, crate::specs::AttemptResult::failure_of, boxes::specs::ReachResult::result_of, boxes::specs::ReachResult::Names))]
-fn summary_of(reached: ReachResult) -> AttemptResult
-    ensures { (v E W : List ℤ) → Names (lowest_met (vars v) v (boxes v) W) reached → result ≡ summary v (reached_of E W reached) }
-{
-    match reached {
-        ReachResult::Ended { ticks: _, count } => AttemptResult::Succeeded { count: count },
-        ReachResult::Unsettled { count } => AttemptResult::Failed {
-            why: Failure::Unsettled,
-            count: count,
-        },
-        ReachResult::Unsafe {
-            left,
-            number,
-            count,
-        } => AttemptResult::Failed {
-            why: Failure::Unsafe {
-                left: left,
-                number: number,
+impl From<Stopped> for Fault {
+    ghost from_gives = { λ stopped fault. fault ≡ fault_of stopped };
+
+    fn from(stopped: Stopped) -> Fault {
+        match stopped {
+            Stopped::Unsettled { count } => Fault::Failed {
+                why: Failure::Unsettled,
+                count,
             },
-            count: count,
-        },
-        ReachResult::Exhausted { count } => AttemptResult::Exhausted { count: count },
+            Stopped::Unsafe {
+                left,
+                number,
+                count,
+            } => Fault::Failed {
+                why: Failure::Unsafe { left, number },
+                count,
+            },
+            Stopped::Exhausted { count } => Fault::Exhausted { count },
+        }
     }
 }
 
 // The reach of a phase at a width from `end`, after `count` rounds. `end` becomes its end box, and `swept` its swept box or that
 // of the step that failed.
 fn reach_phase(
-    budget: Budget,
+    allowance: Option<u32>,
     phase: Phase,
     sheet: &[i32; SLOTS],
     width: usize,
     count: u32,
     end: &mut [i64; BOX_SIZE],
     swept: &mut [i64; BOX_SIZE],
-) -> ReachResult
+) -> Result<Covered, Stopped>
     requires { PhaseAsked phase sheet.now end.old width count }
-    ensures { PhaseDone budget phase sheet.now end.old width count result end.new swept.new }
+    ensures { PhaseDone allowance phase sheet.now end.old width count result end.new swept.new }
 {
-    let law = phase.law;
     let plan = ReachPlan {
-        budget: budget,
-        plant: plant(sheet, law),
+        allowance,
+        plant: plant(sheet, phase.law),
         boxes: sheet_encoding::count(sheet, BOXES),
-        width: width,
+        width,
     };
     reach(plan, sheet, phase.ticks, count, end, swept)
 }
 
-// What an attempt comes to whose last end box is `end`, after `count` rounds.
-fn finish(sheet: &[i32; SLOTS], end: &[i64; BOX_SIZE], count: u32) -> AttemptResult
+// What an attempt comes to whose last end box is `end`, after `count` rounds: the rounds, if it succeeds.
+fn finish(sheet: &[i32; SLOTS], end: &[i64; BOX_SIZE], count: u32) -> Result<u32, Fault>
     requires { ValidNumbers sheet.now }
     ensures { result ≡ summary sheet.now (finish sheet.now end.now count) }
 {
     let n = sheet_encoding::count(sheet, VARS);
     let recovery = box_at(n, sheet, RECOVERY);
     if within(n, end, &recovery) {
-        AttemptResult::Succeeded { count: count }
+        Ok(count)
     } else {
-        AttemptResult::Failed {
+        Err(Fault::Failed {
             why: Failure::Unrecovered,
-            count: count,
-        }
+            count,
+        })
     }
 }
 
-// An attempt at a width from the box `start`, after `count` rounds.
+// An attempt of the phases, one after another, at a width from the box `start`, after `count` rounds: the rounds after it, if it
+// succeeds.
 fn attempt(
-    plan: AttemptPlan,
+    allowance: Option<u32>,
+    phases: &[Phase],
     sheet: &[i32; SLOTS],
     start: &[i64; BOX_SIZE],
     width: usize,
     count: u32,
-) -> AttemptResult
-    requires { AttemptAsked plan sheet.now start.now width count }
-    ensures { result ≡ summary sheet.now (attempt_of plan sheet.now start.now width count) }
+) -> Result<u32, Fault>
+    requires { AttemptAsked phases.now sheet.now start.now width count }
+    ensures { result ≡ summary sheet.now (attempt_of allowance phases.now sheet.now start.now width count) }
 {
-    let budget = plan.budget;
     let mut end = *start;
     let mut swept = end;
     let mut counted = count;
-    let mut followed: usize = 0;
-    while followed < plan.count {
-        let phase = plan.phases[followed];
-        let r = reach_phase(budget, phase, sheet, width, counted, &mut end, &mut swept);
-        let ReachResult::Ended {
-            ticks: _,
-            count: after,
-        } = r
-        else {
-            return summary_of(r);
-        };
-        counted = after;
-        followed += 1;
+    for phase in phases {
+        let covered = reach_phase(
+            allowance, *phase, sheet, width, counted, &mut end, &mut swept,
+        )?;
+        counted = covered.count;
     }
     finish(sheet, &end, counted)
 }
 
-// Attempts at a width, then at half of it, and so on to 1.
+// Attempts at a width, then at half of it, and so on to 1, within an allowance of rounds, if there is one.
 pub fn attempts(
-    plan: AttemptPlan,
+    allowance: Option<u32>,
+    phases: &[Phase],
     sheet: &[i32; SLOTS],
     start: &[i64; BOX_SIZE],
     width: usize,
 ) -> Decision
-    requires { AttemptsAsked plan sheet.now start.now width }
-    ensures { reply_of result ≡ last_reply (attempts (attempt_of plan sheet.now start.now) width width 0) }
+    requires { AttemptsAsked phases.now sheet.now start.now width }
+    ensures { reply_of (Ok result) ≡ last_reply (attempts (attempt_of allowance phases.now sheet.now start.now) width width 0) }
 {
     let mut w = width;
     let mut counted: u32 = 0;
     loop {
-        let a = attempt(plan, sheet, start, w, counted);
-        match a {
-            AttemptResult::Succeeded { count } => return Decision::Keep {
-                width: w as u32,
-                rounds: count,
-            },
-            AttemptResult::Exhausted { count } => return Decision::Spent {
-                width: w as u32,
-                rounds: count,
-            },
-            AttemptResult::Failed { why: _, count } => {
-                if w <= 1 {
-                    return Decision::Finest {
-                        width: w as u32,
-                        rounds: count,
-                    };
-                }
-                w = w / 2;
+        let (verdict, rounds) = match attempt(allowance, phases, sheet, start, w, counted) {
+            Ok(rounds) => (Verdict::Keep, rounds),
+            Err(Fault::Exhausted { count }) => (Verdict::Spent, count),
+            Err(Fault::Failed { count, .. }) if w <= 1 => (Verdict::Finest, count),
+            Err(Fault::Failed { count, .. }) => {
+                w /= 2;
                 counted = count;
+                continue;
             }
-        }
+        };
+        return Decision {
+            verdict,
+            width: w as u32,
+            rounds,
+        };
     }
 }

@@ -14,7 +14,8 @@ use Rattle.sheet_spec.specs.Refusals.{Cause, number}
 use Rattle.sheet_spec.specs.Box.{lo, hi}
 use Rattle.machine_spec.specs.Machine.{one_command}
 use Rattle.boxes_spec.specs.Step.{Result, ok, failed, exhausted}
-use Rattle.decision_spec.specs.declared.QuestionKind.TheVariants.{Single, Ranged, Unknown}
+use Rattle.std.specs.declared.option.Option.TheVariants.{Some, None}
+use Rattle.decision_spec.specs.declared.QuestionKind.TheVariants.{Single, Ranged}
 use Rattle.decision_spec.specs.Question.{kind_of, next_length, least_of, greatest_of, measured, allowance_refusal, question_refusal}
 use Rattle.decision_spec.specs.Decision.{attempt, decision_phases}
 use Rattle.decision_spec.specs.Listing.{question_line, question_lines}
@@ -69,7 +70,7 @@ unfolding everything
 boxes_said = (refl, refl, refl, refl)
 
 -- QS and QR are marks; RR, QT, sq and one letter are none
-pub marks : map kind_of ((81 ∷ 83 ∷ []) ∷ (81 ∷ 82 ∷ []) ∷ (82 ∷ 82 ∷ []) ∷ (81 ∷ 84 ∷ []) ∷ (115 ∷ 113 ∷ []) ∷ (81 ∷ []) ∷ []) ≡ Single ∷ Ranged ∷ Unknown ∷ Unknown ∷ Unknown ∷ Unknown ∷ []
+pub marks : map kind_of ((81 ∷ 83 ∷ []) ∷ (81 ∷ 82 ∷ []) ∷ (82 ∷ 82 ∷ []) ∷ (81 ∷ 84 ∷ []) ∷ (115 ∷ 113 ∷ []) ∷ (81 ∷ []) ∷ []) ≡ Some Single ∷ Some Ranged ∷ None ∷ None ∷ None ∷ None ∷ []
 unfolding everything
 marks = refl
 

@@ -9,27 +9,29 @@ use native.Mathlib.Omega.{arith}
 use lib.IntN.{ℤ}
 use lib.ListN.{get_or, length, take}
 use lib.Seq.{get_or-take}
+use Rattle.std.specs.declared.option.Option.{Option}
+use Rattle.std.specs.declared.option.Option.TheVariants.{Some, None}
 use Rattle.sheet_spec.specs.Sizes.{letters}
 use Rattle.sheet_spec.specs.Refusals.{Cause, number, unless_refused, first_of}
 use Rattle.sheet_spec.specs.Sheet.{refusal, values}
 use Rattle.decision_spec.specs.declared.QuestionKind.{QuestionKind}
-use Rattle.decision_spec.specs.declared.QuestionKind.TheVariants.{Single, Ranged, Unknown}
+use Rattle.decision_spec.specs.declared.QuestionKind.TheVariants.{Single, Ranged}
 use Rattle.decision_spec.specs.Question.{kind_of, known, command_at, greatest_at, question_length, next_length, form_refusal, head_refusal, question_refusal}
 use Rattle.decision_spec.specs.Decision.{refused, decide}
 
 -- ---- where the greatest command starts
 
 -- not before the least command
-pub greatest_from : (k : QuestionKind) → command_at ≤ greatest_at k
-greatest_from Single = omega arith
-greatest_from Ranged = omega arith
-greatest_from Unknown = omega arith
+pub greatest_from : (k : Option QuestionKind) → command_at ≤ greatest_at k
+greatest_from (Some Single) = omega arith
+greatest_from (Some Ranged) = omega arith
+greatest_from None = omega arith
 
 -- nor after the greatest of a span
-pub greatest_to : (k : QuestionKind) → greatest_at k ≤ greatest_at Ranged
-greatest_to Single = omega arith
-greatest_to Ranged = omega arith
-greatest_to Unknown = omega arith
+pub greatest_to : (k : Option QuestionKind) → greatest_at k ≤ greatest_at (Some Ranged)
+greatest_to (Some Single) = omega arith
+greatest_to (Some Ranged) = omega arith
+greatest_to None = omega arith
 
 -- ---- the first bytes
 

@@ -28,8 +28,10 @@ use Rattle.boxes_spec.specs.Reach.{sides_refusal}
 use Rattle.readings_spec.specs.declared.Reading.{Reading}
 use Rattle.readings_spec.specs.Reading.{readings_refusal, readings_box}
 use Rattle.readings_spec.proofs.Sides.{max_side_read, box_near, box_trimmed}
+use Rattle.std.specs.declared.option.Option.{Option}
+use Rattle.std.specs.declared.option.Option.TheVariants.{Some, None}
 use Rattle.decision_spec.specs.declared.QuestionKind.{QuestionKind}
-use Rattle.decision_spec.specs.declared.QuestionKind.TheVariants.{Single, Ranged, Unknown}
+use Rattle.decision_spec.specs.declared.QuestionKind.TheVariants.{Single, Ranged}
 use Rattle.decision_spec.specs.declared.Question.{Question}
 use Rattle.decision_spec.specs.Numbers.{number_bytes, sides_of}
 use Rattle.decision_spec.specs.Question.{kind_of, known, allowance_at, command_at, greatest_at, sides_at, allowance_of, least_of, greatest_of, pairs, measured, question_head, question_of, form_refusal, allowance_refusal, head_refusal, question_refusal}
@@ -58,20 +60,20 @@ module _ (n : ℕ) (h : List ℕ) (B : List ℤ) where
   same_kind l = sym (kind_part g (length h) l) ∙ ap kind_of (take_at h behind (length h) refl)
 
   -- a single byte has no mark
-  short_unknown : length h < letters → kind_of h ≡ Unknown
+  short_unknown : length h < letters → kind_of h ≡ None
   unfolding kind_of
   short_unknown l = rw (get_or-eq_default h 0 (let m : length h ≤ 1 = omega arith in m)) (both (eqb (get_or h 0 0) 81))
     where
-      both : (b : Bool) → cond (b && false) Single (cond (b && false) Ranged Unknown) ≡ Unknown
+      both : (b : Bool) → cond (b && false) (Some Single) (cond (b && false) (Some Ranged) None) ≡ None
       both true = refl
       both false = refl
 
-  fields_from : (k : QuestionKind) → letters ≤ sides_at k
+  fields_from : (k : Option QuestionKind) → letters ≤ sides_at k
   fields_from k = omega (arith, greatest_from k)
 
   -- ---- its tests
 
-  same_length : (k : QuestionKind) → eqb (length g) (sides_at k + box_bytes n) ≡ eqb (length h) (sides_at k + 0)
+  same_length : (k : Option QuestionKind) → eqb (length g) (sides_at k + box_bytes n) ≡ eqb (length h) (sides_at k + 0)
   same_length k = by (eqb (length h) (sides_at k + 0)) refl
     where
       by : (t : Bool) → eqb (length h) (sides_at k + 0) ≡ t → eqb (length g) (sides_at k + box_bytes n) ≡ t
@@ -79,7 +81,7 @@ module _ (n : ℕ) (h : List ℕ) (B : List ℤ) where
       by false e = let other = eqb-false (length h) (sides_at k + 0) e in ne_eqb (length g) (sides_at k + box_bytes n) (λ q. other (omega (arith, size)))
 
   pub same_form : form_refusal (box_bytes n) g ≡ form_refusal 0 h
-  unfolding form_refusal known
+  unfolding form_refusal
   same_form = by (leb letters (length h)) refl
     where
       refuses : (b : Bool) → refuse_unless (b && false) Cause.question ≡ number Cause.question
@@ -135,7 +137,7 @@ module _ (n : ℕ) (h : List ℕ) (B : List ℤ) where
       side_at : (j a : ℕ) → j < pair_size * n → a ≡ sides_at (kind_of g) + 4 * j → decoded i32 (drop a g) ≡ sides_of n B ! j
       unfolding with_box
       side_at j a l e =
-          let q : a ≡ length h + 4 * j = e ∙ ap (λ (k : QuestionKind). sides_at k + 4 * j) of_kind ∙ ap (λ (k : ℕ). k + 4 * j) (sym own_size) in
+          let q : a ≡ length h + 4 * j = e ∙ ap (λ (k : Option QuestionKind). sides_at k + 4 * j) of_kind ∙ ap (λ (k : ℕ). k + 4 * j) (sym own_size) in
           rw q (number_at h (sides_of n B) (pair_size * n) (sides_each (Fit i32) n B fit) j l)
 
       pub same_box : trim n B ≡ B → measured n g ≡ B

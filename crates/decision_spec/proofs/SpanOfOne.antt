@@ -17,8 +17,9 @@ use Rattle.sheet_spec.specs.Refusals.{unless_refused}
 use Rattle.sheet_spec.specs.Sheet.{refusal, values}
 use Rattle.machine_spec.specs.Box.{box_of}
 use Rattle.machine_spec.specs.declared.Law.TheVariants.{Span}
+use Rattle.std.specs.declared.option.Option.TheVariants.{Some}
 use Rattle.decision_spec.specs.declared.QuestionKind.TheVariants.{Single, Ranged}
-use Rattle.decision_spec.specs.Question.{kind_of, known, sides_at, allowance_of, least_of, greatest_of, pairs, measured, question_of, form_refusal, allowance_refusal, head_refusal, question_refusal}
+use Rattle.decision_spec.specs.Question.{kind_of, sides_at, allowance_of, least_of, greatest_of, pairs, measured, question_of, form_refusal, allowance_refusal, head_refusal, question_refusal}
 use Rattle.decision_spec.specs.declared.Question.{Question}
 use Rattle.decision_spec.specs.Decision.{refused, decision_to, decide}
 use Rattle.decision_spec.specs.SpanOfOne.{single_question, ranged_question, SpanOfOne}
@@ -60,41 +61,41 @@ module _ (a c s : List ℕ) (few : length a ≡ bytes_in i32) (own : length c �
       ∙ sym (ap (decoded i32) (drop_at a (c ++ s) (bytes_in i32) few) ∙ number_is s)
 
   -- the sides are the bytes after the head
-  after_span : drop (sides_at Ranged) g ≡ s
+  after_span : drop (sides_at (Some Ranged)) g ≡ s
   after_span =
       sym (drop-drop (bytes_in i32) (bytes_in i32 + bytes_in i32) (a ++ (c ++ (c ++ s))))
       ∙ ap (λ (l : List ℕ). drop (bytes_in i32) l) (after_command (c ++ s)) ∙ drop_at c s (bytes_in i32) own
 
-  same_side : (k p q : ℕ) → p ≡ sides_at Ranged + k → q ≡ sides_at Single + k → decoded i32 (drop p g) ≡ decoded i32 (drop q g')
+  same_side : (k p q : ℕ) → p ≡ sides_at (Some Ranged) + k → q ≡ sides_at (Some Single) + k → decoded i32 (drop p g) ≡ decoded i32 (drop q g')
   same_side k p q e e' =
       rw (e, e')
       (ap (decoded i32)
-      (sym (drop-drop k (sides_at Ranged) g) ∙ ap (λ (l : List ℕ). drop k l) (after_span ∙ sym (after_command s)) ∙ drop-drop k (sides_at Single) g'))
+      (sym (drop-drop k (sides_at (Some Ranged)) g) ∙ ap (λ (l : List ℕ). drop k l) (after_span ∙ sym (after_command s)) ∙ drop-drop k (sides_at (Some Single)) g'))
 
   same_measured : (n : ℕ) → measured n g ≡ measured n g'
   unfolding measured pairs kind_of
   same_measured n =
-      λ t. box_of n (λ i. same_side (pair_bytes * i) _ _ refl refl t) (λ i. same_side (pair_bytes * i + upper_at) (sides_at Ranged + pair_bytes * i + upper_at) (sides_at Single + pair_bytes * i + upper_at) (omega arith) (omega arith) t)
+      λ t. box_of n (λ i. same_side (pair_bytes * i) _ _ refl refl t) (λ i. same_side (pair_bytes * i + upper_at) (sides_at (Some Ranged) + pair_bytes * i + upper_at) (sides_at (Some Single) + pair_bytes * i + upper_at) (omega arith) (omega arith) t)
 
   -- ---- their tests
 
-  ranged_size : length g ≡ sides_at Ranged + length s
+  ranged_size : length g ≡ sides_at (Some Ranged) + length s
   ranged_size = omega (arith, length-append a (c ++ (c ++ s)), length-append c (c ++ s), length-append c s)
 
-  single_size : length g' ≡ sides_at Single + length s
+  single_size : length g' ≡ sides_at (Some Single) + length s
   single_size = omega (arith, length-append a (c ++ s), length-append c s)
 
   same_form : (rest : ℕ) → form_refusal rest g ≡ form_refusal rest g'
-  unfolding form_refusal kind_of known
+  unfolding form_refusal kind_of
   same_form rest = by (eqb (length s) rest) refl
     where
       by : (t : Bool) → eqb (length s) rest ≡ t → form_refusal rest g ≡ form_refusal rest g'
       by true e =
           let own-length = eqb-true (length s) rest e in
-          rw (eq-eqb (length g) (sides_at Ranged + rest) (omega (arith, ranged_size)), eq-eqb (length g') (sides_at Single + rest) (omega (arith, single_size))) refl
+          rw (eq-eqb (length g) (sides_at (Some Ranged) + rest) (omega (arith, ranged_size)), eq-eqb (length g') (sides_at (Some Single) + rest) (omega (arith, single_size))) refl
       by false e =
           let other = eqb-false (length s) rest e in
-          rw (ne_eqb (length g) (sides_at Ranged + rest) (λ q. other (omega (arith, ranged_size))), ne_eqb (length g') (sides_at Single + rest) (λ q. other (omega (arith, single_size)))) refl
+          rw (ne_eqb (length g) (sides_at (Some Ranged) + rest) (λ q. other (omega (arith, ranged_size))), ne_eqb (length g') (sides_at (Some Single) + rest) (λ q. other (omega (arith, single_size)))) refl
 
   same_allowed : allowance_refusal g ≡ allowance_refusal g'
   unfolding allowance_refusal

@@ -1,6 +1,8 @@
 -- A question's bytes (document 01, "Sheet layout"; document 02, paper 4): a mark, the allowance, the command (`QS`) or the least and the
 -- greatest command of a span (`QR`), n pairs of sides. What they say, as one value, and the tests that refuse them.
-use Rattle.std.specs.Prelude.{Bool, true, false, cond, ◌&&◌, List, [], ◌∷◌, ℕ, ◌+◌, ◌*◌, min, leb, eqb, ℤ, get_or, length, take, drop}
+use Rattle.std.specs.Prelude.{Bool, cond, ◌&&◌, List, [], ◌∷◌, ℕ, ◌+◌, ◌*◌, min, leb, eqb, ℤ, get_or, length, take, drop, is_some}
+use Rattle.std.specs.declared.option.Option.{Option}
+use Rattle.std.specs.declared.option.Option.TheVariants.{Some, None}
 use Rattle.integers.specs.Bytes.{be}
 use Rattle.sheet_spec.specs.Fields.{i32, bytes_in, decoded}
 use Rattle.sheet_spec.specs.Sizes.{letters, upper_at, pair_bytes, box_bytes}
@@ -11,7 +13,7 @@ use Rattle.machine_spec.specs.Box.{box_of}
 use Rattle.machine_spec.specs.declared.Law.TheVariants.{Span}
 use Rattle.boxes_spec.specs.Reach.{law_refusal, sides_refusal}
 use Rattle.decision_spec.specs.declared.QuestionKind.{QuestionKind}
-use Rattle.decision_spec.specs.declared.QuestionKind.TheVariants.{Single, Ranged, Unknown}
+use Rattle.decision_spec.specs.declared.QuestionKind.TheVariants.{Single, Ranged}
 use Rattle.decision_spec.specs.declared.QuestionHead.{QuestionHead}
 use Rattle.decision_spec.specs.declared.Question.{Question}
 
@@ -27,14 +29,12 @@ ranged_mark = (81, 82)
 abbrev pub marked : ℕ × ℕ → List ℕ → Bool
 marked mark g = eqb (get_or g 0 0) mark.0 && eqb (get_or g 1 0) mark.1
 
--- the question that the mark announces. Fewer than two bytes have no mark
-unfoldable pub kind_of : List ℕ → QuestionKind
-kind_of g = cond (marked single_mark g) Single (cond (marked ranged_mark g) Ranged Unknown)
+-- the question that the mark announces, or None if it is unknown. Fewer than two bytes have no mark
+unfoldable pub kind_of : List ℕ → Option QuestionKind
+kind_of g = cond (marked single_mark g) (Some Single) (cond (marked ranged_mark g) (Some Ranged) None)
 
-unfoldable pub known : QuestionKind → Bool
-known Single = true
-known Ranged = true
-known Unknown = false
+abbrev pub known : Option QuestionKind → Bool
+known = is_some
 
 -- ---- its bytes
 
@@ -47,16 +47,16 @@ abbrev pub command_at : ℕ
 command_at = allowance_at + bytes_in i32
 
 -- the greatest command: a span has a field for it, after the least; one command is the least and the greatest
-abbrev pub greatest_at : QuestionKind → ℕ
-greatest_at Single = command_at
-greatest_at Ranged = command_at + bytes_in i32
-greatest_at Unknown = command_at
+abbrev pub greatest_at : Option QuestionKind → ℕ
+greatest_at (Some Single) = command_at
+greatest_at (Some Ranged) = command_at + bytes_in i32
+greatest_at None = command_at
 
-abbrev pub sides_at : QuestionKind → ℕ
+abbrev pub sides_at : Option QuestionKind → ℕ
 sides_at k = greatest_at k + bytes_in i32
 
 -- how many bytes a question on a sheet of n variables takes
-abbrev pub question_length : QuestionKind → ℕ → ℕ
+abbrev pub question_length : Option QuestionKind → ℕ → ℕ
 question_length k n = sides_at k + box_bytes n
 
 -- how many bytes the next question takes, where g are the bytes still to come: as many as its mark says, or all that are left if they

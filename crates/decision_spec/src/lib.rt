@@ -6,12 +6,11 @@
 use machine_spec::Law;
 use sheet_spec::slots::BOX_SIZE;
 
-// Which question a mark announces: with one command, with a span of commands, or none that there is.
+// Which question a mark announces: with one command, or with a span of commands.
 #[derive(Clone, Copy)]
 pub enum QuestionKind {
     Single,
     Ranged,
-    Unknown,
 }
 
 // The head of a question: how many rounds are allowed, and the law that is asked for.

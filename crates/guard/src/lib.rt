@@ -5,35 +5,44 @@
 
 ghost use Rattle.std.specs.Prelude.{◌≡◌};
 ghost use Rattle.sheet_spec.specs.Slots.{slots};
+ghost use Rattle.sheet_spec.specs.Refusals.{refusal_number};
+ghost use Rattle.decision_spec.specs.Call.{refused_call};
 ghost use Rattle.decision_spec.specs.ReachCall.{reach_call, reach_out};
 ghost use Rattle.decision_spec.specs.ReadingsCall.{readings_call};
 ghost use Rattle.decision_spec.specs.Calls.{decide_call, read_call, read_out, recovery_call, sheet_call, write_call, write_out};
 
 use decision::{check_recovery, decide};
-use decision_answers::{as_decision, pack_decision, pack_refusal};
+use decision_answers::{Decision, pack_decision, pack_refusal};
 use decision_readings::decide_readings;
 use guard_reach::reach_call;
 use guard_readings::readings_in;
-use sheet::{read_zeroed, write};
+use sheet::{read_into, read_zeroed, write};
+use sheet_spec::refusals::Refusal;
 use sheet_spec::slots::SLOTS;
+
+// What a refused call answers.
+fn refused(refusal: Refusal) -> u64
+    ensures { result ≡ refused_call (refusal_number refusal) }
+{
+    pack_refusal(u8::from(refusal))
+}
 
 #[unsafe(no_mangle)]
 pub extern "C" fn guard_sheet(sheet: &[u8]) -> u64
     ensures { result ≡ sheet_call sheet.now }
 {
-    let mut v = [0i32; SLOTS];
-    let refusal = read_zeroed(sheet, &mut v);
-    if refusal != 0 {
-        return pack_refusal(refusal);
+    let mut numbers = [0i32; SLOTS];
+    match read_zeroed(sheet, &mut numbers) {
+        Ok(()) => 0,
+        Err(refusal) => refused(refusal),
     }
-    0
 }
 
 #[unsafe(no_mangle)]
 pub extern "C" fn guard_recovery(sheet: &[u8]) -> u64
     ensures { result ≡ recovery_call sheet.now }
 {
-    pack_decision(as_decision(check_recovery(sheet)))
+    pack_decision(check_recovery(sheet).map(Decision::from))
 }
 
 #[unsafe(no_mangle)]
@@ -69,13 +78,10 @@ pub extern "C" fn guard_sheet_read(sheet: &[u8], numbers: &mut [i32; SLOTS]) -> 
     ensures value { result ≡ read_call sheet.now }
     ensures numbers_after { numbers.new ≡ read_out sheet.now numbers.old }
 {
-    let mut v = [0i32; SLOTS];
-    let refused = read_zeroed(sheet, &mut v);
-    if refused != 0 {
-        return pack_refusal(refused);
+    match read_into(sheet, numbers) {
+        Ok(()) => sheet.len() as u64,
+        Err(refusal) => refused(refusal),
     }
-    *numbers = v;
-    sheet.len() as u64
 }
 
 #[unsafe(no_mangle)]
@@ -83,11 +89,10 @@ pub extern "C" fn guard_sheet_write(numbers: &[i32; SLOTS], buffer: &mut [u8], p
     ensures value { result ≡ write_call numbers.now buffer.old place }
     ensures buffer_after { buffer.new ≡ write_out numbers.now buffer.old place }
 {
-    let w = write(numbers, buffer, place as usize);
-    if w.refusal != 0 {
-        return pack_refusal(w.refusal);
+    match write(numbers, buffer, place as usize) {
+        Ok(length) => length as u64,
+        Err(refusal) => refused(refusal),
     }
-    w.length as u64
 }
 
 #[unsafe(no_mangle)]

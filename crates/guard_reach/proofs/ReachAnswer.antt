@@ -1,6 +1,6 @@
 -- What a reach answers, as bytes. Assumes nothing.
-use mathlib.Core.Path.{◌≡◌, refl, ap}
-use mathlib.Core.List.{List, ◌++◌}
+use mathlib.Core.Path.{◌≡◌, refl, ap, ap₂, ◌∙◌}
+use mathlib.Core.List.{List, [], ◌++◌}
 use Prim.Native.Nat.{ℕ, zero, suc, ◌+◌, ◌*◌, ◌≤◌, ◌<◌}
 use native.Mathlib.Omega.{arith}
 use lib.IntN.{ℤ, pos}
@@ -9,11 +9,18 @@ use lib.Seq.{sets, sets-eq}
 use Rattle.integers.proofs.Lists.{sets_append}
 use Rattle.sheet_spec.specs.Slots.{◌!◌, vars}
 use Rattle.sheet_spec.specs.Sheet.{refusal, values}
-use Rattle.sheet_spec.proofs.FirstRefusal.{found_stops, found_none}
+use Rattle.std.specs.declared.result.Result.TheVariants.{Err}
+use Rattle.sheet_spec.specs.declared.refusals.Refusal.{Refusal}
+use Rattle.sheet_spec.specs.Refusals.{refusal_number}
+use Rattle.sheet_spec.proofs.Laws as laws
+use Rattle.sheet_spec.proofs.FirstRefusal.{found_stops, found_none, first_fails}
+use Rattle.machine_spec.specs.declared.Law.{Law}
 use Rattle.boxes_spec.specs.Reach.{Answer, refused, reach_of, reach_file}
 use Rattle.decision_spec.specs.Numbers.{number_bytes, sides_of}
-use Rattle.decision_spec.specs.ReachCall.{start_box, law_of, reach_answer}
+use Rattle.decision_spec.specs.Call.{refused_call}
+use Rattle.decision_spec.specs.ReachCall.{start_box, law_of, reach_answer, reached_refusal, reached_call, reached_out}
 use Rattle.decision_spec.proofs.Numbers.{sides_length}
+use Rattle.guard_reach.specs.Answered.{number_of}
 
 -- ---- bytes
 
@@ -38,14 +45,37 @@ boxes_bytes l n E W h = bytes_same _ _ (4 * n) at
         let e : 2 * n ≡ 0 + length (sides_of n E) = omega (arith, sides_length n E) in
         rw e (rw (sets_append l 0 (sides_of n E) (sides_of n W), sets-eq both l 0 (omega (arith, size))) (get_or-append both _ (pos 0) i (omega (arith, size))))
 
--- ---- of a file, whose refusal is r in the code
+-- ---- an answer of the code
 
-module _ (f : List ℕ) (ticks w law : ℕ) (u : ℤ) (s : List ℕ) {r : ℕ} (p : r ≡ refusal f) where
-  pub file_refused : (r ≡ 0 → ⊥) → r ≡ (reach_answer f ticks w law u s).refusal
-  unfolding reach_answer reach_file
-  file_refused n = ap (λ (a : Answer). a.refusal) (found_stops refused _ p n)
+-- the refusal r, as the code comes to it, is answered, and nothing is written
+module _ (n : ℕ) (a : Answer) (out : List ℕ) (r : Refusal) where
+  pub refused_value : refusal_number r ≡ reached_refusal n a out → number_of (Err r) ≡ reached_call n a out
+  unfolding reached_call
+  refused_value is = found_stops refused_call _ is (laws.refused r)
 
-  -- v and B are the code's value and start box
-  pub file_reached : r ≡ 0 → {v B : List ℤ} → v ≡ values f → B ≡ start_box (vars (values f)) s → reach_of v ticks w (law_of law u) B ≡ reach_answer f ticks w law u s
+  pub refused_after : refusal_number r ≡ reached_refusal n a out → out ≡ reached_out n a out
+  unfolding reached_out
+  refused_after is = found_stops (λ r. out) _ is (laws.refused r)
+
+  -- the reach itself is refused
+  pub reach_stops : refusal_number r ≡ a.refusal → refusal_number r ≡ reached_refusal n a out
+  unfolding reached_refusal
+  reach_stops is = first_fails is [] _ tt (laws.refused r)
+
+-- ---- of a file
+
+module _ (f : List ℕ) (ticks w law : ℕ) (u : ℤ) (s : List ℕ) where
+  -- the code's refusal of it is that of the reach
+  pub file_refused : (r : Refusal) → refusal_number r ≡ refusal f → refusal_number r ≡ (reach_answer f ticks w law u s).refusal
   unfolding reach_answer reach_file
-  file_reached e h k = rw (h, k) (found_none refused _ p e)
+  file_refused r is = ap (λ (a : Answer). a.refusal) (found_stops refused _ is (laws.refused r))
+
+  -- of a file that is accepted v, n, l and B are the code's value, its variables, the law and the start box, and the code answers a
+  pub file_reached : {v B : List ℤ} {n : ℕ} {l : Law} {a : Answer} → 0 ≡ refusal f → v ≡ values f → n ≡ vars v → l ≡ law_of law u → B ≡ start_box n s
+      → a ≡ reach_of v ticks w l B → a ≡ reach_answer f ticks w law u s
+  unfolding reach_answer reach_file
+  file_reached {v} {B} accepted value count same start answers =
+      answers
+      ∙ ap (λ (l : Law). reach_of v ticks w l B) same
+      ∙ ap₂ (λ (v B : List ℤ). reach_of v ticks w (law_of law u) B) value (start ∙ ap (λ (n : ℕ). start_box n s) (count ∙ ap vars value))
+      ∙ found_none refused _ accepted refl

@@ -17,24 +17,20 @@ pub fn put_numbers(out: &mut [u8], v: &[i32; SLOTS], count: usize)
     requires { (count ≤ slots.slots) × (bytes_in i32 * count ≤ length out.old) }
     ensures { out.new ≡ sets out.old 0 (number_bytes v.now count) }
 {
-    let mut k: usize = 0;
-    while k < count {
+    for k in 0..count {
         put_i32(out, I32 * k, v, k);
-        k += 1;
     }
 }
 
-// Puts the sides of a box's variables into v, from a slot on.
+// Puts the sides of a box's variables into v, from a slot on. A side of a reach fits 32 bits, so that `as` cuts nothing.
 pub fn put_sides(v: &mut [i32; SLOTS], at: usize, n: usize, b: &[i64; BOX_SIZE])
     requires { (n ≤ slots.N) × ((at + 2 * n ≤ slots.slots) × Near n max_reached b.now) }
     ensures { v.new ≡ sets v.old at (sides_of n b.now) }
 {
-    let mut i: usize = 0;
-    while i < n {
-        let l = at + 2 * i;
-        let h = i + N;
-        v[l] = b[i] as i32;
-        v[l + 1] = b[h] as i32;
-        i += 1;
+    for i in 0..n {
+        let lower_at = at + 2 * i;
+        let upper = i + N;
+        v[lower_at] = b[i] as i32;
+        v[lower_at + 1] = b[upper] as i32;
     }
 }

@@ -10,7 +10,7 @@ ghost use Rattle.decision_spec.specs.ReadingsCall.{reading_in, reading_of, readi
 use readings_spec::{Measurement, Reading};
 use sheet_spec::slots::N;
 
-// The kinds.
+// The kinds: the numbers are the C interface's (include/guard.h).
 const POINT: u8 = 1;
 
 const PAIR: u8 = 2;
@@ -19,7 +19,7 @@ const PAIR: u8 = 2;
 fn kind_at(kinds: &[u8], i: usize) -> u8
     ensures { result ≡ get_or kinds.now i 0 }
 {
-    if i < kinds.len() { kinds[i] } else { 0 }
+    kinds.get(i).copied().unwrap_or(0)
 }
 
 // A variable's reading, from its kind and its two floats.
@@ -27,16 +27,14 @@ fn kind_at(kinds: &[u8], i: usize) -> u8
 fn reading_of(kind: u8, x: f32, y: f32) -> Reading
     ensures { result ≡ reading_of kind x y }
 {
-    if kind == POINT {
-        return Reading::Point(Measurement {
+    match kind {
+        POINT => Reading::Point(Measurement {
             value: x,
             tolerance: y,
-        });
+        }),
+        PAIR => Reading::Pair { lower: x, upper: y },
+        _ => Reading::Missing,
     }
-    if kind == PAIR {
-        return Reading::Pair { lower: x, upper: y };
-    }
-    Reading::Missing
 }
 
 // Variable i's reading. Where a slice does not reach that far there is none.
@@ -46,10 +44,10 @@ fn reading_in(kinds: &[u8], values: &[f32], i: usize) -> Reading
     ensures { result ≡ reading_in kinds.now values.now i }
 {
     let at = 2 * i;
-    if values.len() < at + 2 {
+    let (Some(&x), Some(&y)) = (values.get(at), values.get(at + 1)) else {
         return Reading::Missing;
-    }
-    reading_of(kind_at(kinds, i), values[at], values[at + 1])
+    };
+    reading_of(kind_at(kinds, i), x, y)
 }
 
 // The readings of all variables.
@@ -57,11 +55,5 @@ fn reading_in(kinds: &[u8], values: &[f32], i: usize) -> Reading
 pub fn readings_in(kinds: &[u8], values: &[f32]) -> [Reading; N]
     ensures { result ≡ readings_in kinds.now values.now slots.N }
 {
-    let mut readings = [Reading::Missing; N];
-    let mut i: usize = 0;
-    while i < N {
-        readings[i] = reading_in(kinds, values, i);
-        i += 1;
-    }
-    readings
+    std::array::from_fn(|i| reading_in(kinds, values, i))
 }

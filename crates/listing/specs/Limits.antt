@@ -1,5 +1,5 @@
 -- How much of the two files has to be at hand.
-use Rattle.std.specs.Prelude.{ℕ, ◌+◌, ◌*◌}
+use Rattle.std.specs.Prelude.{ℕ, ◌+◌, ◌*◌, Some}
 use Rattle.sheet_spec.specs.Slots.{N}
 use Rattle.sheet_spec.specs.Limits.{max_bands, max_boxes}
 use Rattle.sheet_spec.specs.Sizes.{letters, caps_at, cap_bytes, band_head, law_bytes, row_bytes, box_bytes}
@@ -13,4 +13,4 @@ longest_sheet = caps_at + cap_bytes N + max_bands * (band_head + law_bytes Feedb
 
 -- the bytes of the longest question, one with a span. A question's step looks at no more of the bytes still to come (proofs/ListingSteps)
 abbrev pub longest_question : ℕ
-longest_question = question_length Ranged N
+longest_question = question_length (Some Ranged) N

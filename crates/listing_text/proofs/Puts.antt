@@ -1,16 +1,12 @@
--- Text put into a buffer piece by piece. Assumes nothing.
-use mathlib.Core.Path.{◌≡◌, refl, ap, subst, ◌∙◌}
-use mathlib.Core.List.{List, [], ◌++◌}
-use Prim.Native.Nat.{ℕ, ◌+◌, ◌<◌}
-use native.Mathlib.Numerals.{add-one}
-use native.Mathlib.Omega.{arith}
-use lib.ListN.{length, take, get_or, set, length-append}
-use lib.Seq.{sets, take-suc}
+-- Text put into a line's bytes piece by piece. Assumes nothing.
+use Rattle.std.proofs.Common.{◌≡◌, refl, sym, ap, subst, ◌∙◌, List, ◌++◌, ℕ, ◌+◌, ◌-◌, ◌≤◌, length, take, drop, append_assoc, arith}
+use Rattle.std.proofs.Math.Seq.{sets, sets-eq}
+use Rattle.std.proofs.lemmas.List.Edits.{paste_all}
+use Rattle.std.proofs.lemmas.Slice.{put_mid-paste}
+use borrow.Rule.Slice.PartMut.{put_mid}
+use lib.ListN.{length-append}
 use Rattle.integers.proofs.Lists.{sets_append}
 use Rattle.listing_text.specs.Limits.{Put}
-
-pub none : (l : List ℕ) (at : ℕ) → Put [] l at l (at + 0)
-none l at = record { ends = refl; is = refl }
 
 pub then : {s t l m r : List ℕ} {at k e : ℕ} → Put s l at m k → Put t m k r e → Put (s ++ t) l at r e
 then {s} {t} {l} {m} {r} {at} {k} {e} p q =
@@ -23,8 +19,14 @@ then {s} {t} {l} {m} {r} {at} {k} {e} p q =
 pub put_as : {s t l m : List ℕ} {at e : ℕ} → s ≡ t → Put s l at m e → Put t l at m e
 put_as {s} {t} {l} {m} {at} {e} = subst (λ (text : List ℕ). Put text l at m e)
 
--- a turn of the loop that puts a text
-pub next : (s : List ℕ) (i : ℕ) {l m : List ℕ} {at : ℕ} → i < length s → Put (take i s) l at m (at + i)
-    → Put (take (i + 1) s) l at (set m (at + i) (get_or s i 0)) (at + (i + 1))
-next s i {l} {m} {at} h p =
-    rw (add-one i, take-suc s i 0) (then p (record { ends = omega arith; is = refl }))
+-- the text was copied to a part of the bytes
+pub copied : (text l part : List ℕ) (at : ℕ) → at + length text ≤ length l → part ≡ text
+    → Put text l at (put_mid at (at + length text - at) l part) (at + length text)
+copied text l part at h e =
+    record {
+      ends = refl;
+      is =
+          put_mid-paste at (at + length text - at) l part text (length text) e (omega arith) refl
+          ∙ paste_all l at text (length text) refl
+          ∙ sym (sets-eq text l at h ∙ append_assoc (take at l) text (drop (at + length text) l));
+    }

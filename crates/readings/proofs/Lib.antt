@@ -1,2 +1,3 @@
 pub mod Rounding
 pub mod OneReading
+pub mod Order

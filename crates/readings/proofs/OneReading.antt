@@ -11,9 +11,9 @@ use mir.Facts.{to_z-of_z}
 use Rattle.integers.specs.Bound.{Bound}
 use Rattle.integers.proofs.Z.{ints, bound_sum, bound_sub, fits64, op64}
 use Rattle.sheet_spec.specs.Limits.{max_reading, max_tolerance}
-use Rattle.readings_spec.specs.Causes.{Cause, number}
+use Rattle.sheet_spec.specs.declared.refusals.Refusal.{Refusal}
+use Rattle.sheet_spec.specs.Refusals.{refusal_number}
 use Rattle.sheet_spec.proofs.Box.{and_both, le_is}
-use Rattle.readings_spec.proofs.Causes.{number_is}
 use Rattle.readings_spec.specs.declared.Reading.{Reading}
 use Rattle.readings_spec.specs.declared.Reading.TheVariants.{Point, Pair, Missing}
 use Rattle.readings_spec.specs.declared.Measurement.{Measurement}
@@ -21,7 +21,7 @@ use Rattle.readings_spec.specs.Exact.{finite, scaled, whole, between}
 use Rattle.readings_spec.specs.Reading.{value_in, tolerance_in, reading_refusal}
 use Rattle.readings_spec.proofs.Exact.{lt_scaled, lt_le_z, ge_le_z}
 use Rattle.readings_spec.proofs.Sides.{ends, value_finite}
-use Rattle.readings.specs.declared.Sides.{Sides}
+use Rattle.std.specs.declared.result.Result.TheVariants.{Err}
 use Rattle.readings.specs.Sides.{SidesOf}
 
 -- ---- a tolerance that is in range is a value in range
@@ -42,38 +42,38 @@ tolerance_value x inside =
 
 -- ---- refusals
 
-refused_by : (k : Cause) (x : Reading) (r : Sides) → reading_refusal x ≡ number k → r.refusal ≡ number k → SidesOf x r
-refused_by k x r e own = record { refusal = own ∙ sym e; lower = λ none. absurd (number_is k (sym own ∙ none)); upper = λ none. absurd (number_is k (sym own ∙ none)) }
+refused : (k : Refusal) (x : Reading) → refusal_number k ≡ reading_refusal x → SidesOf x (Err k)
+refused k x e = record { refusal = e; lower = tt; upper = tt }
 
 and_no : (b : Bool) → b && false ≡ false
 and_no true = refl
 and_no false = refl
 
-pub missing : (r : Sides) → r.refusal ≡ number Cause.missing → SidesOf Missing r
+pub missing : SidesOf Missing (Err Refusal.Missing)
 unfolding reading_refusal
-missing r own = refused_by Cause.missing Missing r refl own
+missing = refused Refusal.Missing Missing refl
 
-module _ (m : Measurement) (r : Sides) (own : r.refusal ≡ number Cause.reading) where
-  pub bad_value : value_in m.value ≡ false → SidesOf (Point m) r
+module _ (m : Measurement) where
+  pub bad_value : value_in m.value ≡ false → SidesOf (Point m) (Err Refusal.Reading)
   unfolding reading_refusal
-  bad_value e = refused_by Cause.reading (Point m) r (rw e refl) own
+  bad_value e = refused Refusal.Reading (Point m) (rw e refl)
 
-  pub bad_tolerance : tolerance_in m.tolerance ≡ false → SidesOf (Point m) r
+  pub bad_tolerance : tolerance_in m.tolerance ≡ false → SidesOf (Point m) (Err Refusal.Reading)
   unfolding reading_refusal
-  bad_tolerance e = refused_by Cause.reading (Point m) r (rw (e, and_no (value_in m.value)) refl) own
+  bad_tolerance e = refused Refusal.Reading (Point m) (rw (e, and_no (value_in m.value)) refl)
 
-module _ (l u : Float) (r : Sides) (own : r.refusal ≡ number Cause.reading) where
-  pub bad_lower : value_in l ≡ false → SidesOf (Pair l u) r
+module _ (l u : Float) where
+  pub bad_lower : value_in l ≡ false → SidesOf (Pair l u) (Err Refusal.Reading)
   unfolding reading_refusal
-  bad_lower e = refused_by Cause.reading (Pair l u) r (rw e refl) own
+  bad_lower e = refused Refusal.Reading (Pair l u) (rw e refl)
 
-  pub bad_upper : value_in u ≡ false → SidesOf (Pair l u) r
+  pub bad_upper : value_in u ≡ false → SidesOf (Pair l u) (Err Refusal.Reading)
   unfolding reading_refusal
-  bad_upper e = refused_by Cause.reading (Pair l u) r (rw (e, and_no (value_in l)) refl) own
+  bad_upper e = refused Refusal.Reading (Pair l u) (rw (e, and_no (value_in l)) refl)
 
-  pub reversed : le_z (scaled l) (scaled u) ≡ false → SidesOf (Pair l u) r
+  pub reversed : le_z (scaled l) (scaled u) ≡ false → SidesOf (Pair l u) (Err Refusal.Reading)
   unfolding reading_refusal
-  reversed e = refused_by Cause.reading (Pair l u) r (rw (e, and_no (value_in l && value_in u)) refl) own
+  reversed e = refused Refusal.Reading (Pair l u) (rw (e, and_no (value_in l && value_in u)) refl)
 
 -- ---- a pair in order, by the order of floats
 

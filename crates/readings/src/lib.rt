@@ -13,11 +13,12 @@ ghost use Rattle.readings.specs.Rounding.{PartsOf};
 ghost use Rattle.readings.specs.Sides.{BoxOf, SidesOf};
 
 use readings_spec::{Measurement, Reading};
-use sheet_spec::refusals::{MISSING, READING};
+use sheet_spec::Vars;
+use sheet_spec::refusals::Refusal;
 use sheet_spec::slots::{BOX_SIZE, N};
 
 // The greatest value, without its sign, and the greatest tolerance.
-const MAX_VALUE: f32 = 1000000.0;
+const MAX_VALUE: f32 = 1_000_000.0;
 
 const MAX_TOLERANCE: f32 = 1000.0;
 
@@ -32,10 +33,10 @@ const ONES: u32 = 150;
 // How many binary digits a float has.
 const DIGITS: u32 = 24;
 
-// What `reading_side` answers where a value is refused: 3 · 2^48 + 19 · 2^32.
-const REFUSED: i64 = 844506534510592;
+// The code of a refusal, as the calls of include/guard.h have it above its number.
+const CODE: i64 = 3;
 
-// The parts of a float: its sign, the whole part of its size, and whether nothing else is left.
+// The parts of a float: its sign, the whole part of its size, and whether nothing else is left. Each of the three holds in every case.
 #[derive(Clone, Copy)]
 pub struct Parts {
     pub negative: bool,
@@ -43,19 +44,31 @@ pub struct Parts {
     pub exact: bool,
 }
 
-// A refusal, or 0 and the two sides.
-#[derive(Clone, Copy)]
-pub struct Sides {
-    pub refusal: u8,
-    pub lower: i64,
-    pub upper: i64,
+impl Parts {
+    // The whole part.
+    fn near(self) -> i64
+        ensures { result ≡ pos self.whole }
+    {
+        i64::from(self.whole)
+    }
+
+    // The whole part, or the next whole number where something is left.
+    fn far(self) -> i64
+        ensures { result ≡ pos (cond self.exact self.whole (self.whole + 1)) }
+    {
+        if self.exact {
+            self.near()
+        } else {
+            self.near() + 1
+        }
+    }
 }
 
-// A refusal, or 0 and the measured box.
+// The sides that a reading gives its variable.
 #[derive(Clone, Copy)]
-pub struct BoxRead {
-    pub measured: [i64; BOX_SIZE],
-    pub refusal: u8,
+pub struct Sides {
+    pub lower: i64,
+    pub upper: i64,
 }
 
 // Whether a float is finite and lies from least to greatest.
@@ -63,16 +76,7 @@ fn lies_between(x: f32, least: f32, greatest: f32) -> bool
     requires { T (finite least) × T (finite greatest) }
     ensures { result ≡ between (scaled least) (scaled greatest) x }
 {
-    if x != x {
-        return false;
-    }
-    if x < least {
-        return false;
-    }
-    if greatest < x {
-        return false;
-    }
-    true
+    (least..=greatest).contains(&x)
 }
 
 fn value_in(x: f32) -> bool
@@ -103,12 +107,10 @@ fn fraction_digits(exponent: u32) -> u32
     requires { exponent ≤ 150 }
     ensures { result ≡ min 24 (149 - (exponent - 1)) }
 {
-    if exponent < ONES - DIGITS {
-        return DIGITS;
-    }
-    ONES - exponent
+    DIGITS.min(ONES - exponent)
 }
 
+// By the bits, and not by `f32::floor` and `f32::ceil`: those add and subtract floats, and so depend on how the processor rounds.
 fn parts_of(x: f32) -> Parts
     requires { value_in x ≡ true }
     ensures { PartsOf x result }
@@ -118,22 +120,11 @@ fn parts_of(x: f32) -> Parts
     let all = significand(exponent, bits % LEADING);
     let behind = fraction_digits(exponent);
     let whole = all >> behind;
-    let back = whole << behind;
     Parts {
         negative: SIGN <= bits,
-        whole: whole,
-        exact: back == all,
+        whole,
+        exact: whole << behind == all,
     }
-}
-
-// The whole part, or the next whole number where something is left.
-fn away(whole: u32, exact: bool) -> i64
-    ensures { result ≡ pos (cond exact whole (whole + 1)) }
-{
-    if exact {
-        return whole as i64;
-    }
-    whole as i64 + 1
 }
 
 // The floor of a value, or its ceiling.
@@ -141,108 +132,65 @@ fn rounded(x: f32, ceiling: bool) -> i64
     requires { value_in x ≡ true }
     ensures { result ≡ rounded ceiling x }
 {
-    let p = parts_of(x);
-    let near = p.whole as i64;
-    let far = away(p.whole, p.exact);
-    if p.negative {
-        if ceiling {
-            return -near;
-        }
-        return -far;
-    }
-    if ceiling {
-        return far;
-    }
-    near
-}
-
-fn refused(number: u8) -> Sides
-    ensures { result.refusal ≡ number }
-{
-    Sides {
-        refusal: number,
-        lower: 0,
-        upper: 0,
+    let parts = parts_of(x);
+    let near = parts.near();
+    let far = parts.far();
+    match (parts.negative, ceiling) {
+        (false, false) => near,
+        (false, true) => far,
+        (true, false) => -far,
+        (true, true) => -near,
     }
 }
 
-fn point_sides(point: Measurement) -> Sides
+fn point_sides(point: Measurement) -> Result<Sides, Refusal>
     ensures { SidesOf (Point point) result }
 {
-    let value = point.value;
-    let tolerance = point.tolerance;
-    if !value_in(value) {
-        return refused(READING);
-    }
-    if !tolerance_in(tolerance) {
-        return refused(READING);
+    let Measurement { value, tolerance } = point;
+    if !value_in(value) || !tolerance_in(tolerance) {
+        return Err(Refusal::Reading);
     }
     let margin = rounded(tolerance, true);
-    Sides {
-        refusal: 0,
+    Ok(Sides {
         lower: rounded(value, false) - margin,
         upper: rounded(value, true) + margin,
-    }
+    })
 }
 
-fn pair_sides(lower: f32, upper: f32) -> Sides
+fn pair_sides(lower: f32, upper: f32) -> Result<Sides, Refusal>
     ensures { SidesOf (Pair lower upper) result }
 {
-    if !value_in(lower) {
-        return refused(READING);
-    }
-    if !value_in(upper) {
-        return refused(READING);
-    }
     let reversed = upper < lower;
-    if reversed {
-        return refused(READING);
+    if !value_in(lower) || !value_in(upper) || reversed {
+        return Err(Refusal::Reading);
     }
-    Sides {
-        refusal: 0,
+    Ok(Sides {
         lower: rounded(lower, false),
         upper: rounded(upper, true),
-    }
+    })
 }
 
-fn sides_of(reading: Reading) -> Sides
+fn sides_of(reading: Reading) -> Result<Sides, Refusal>
     ensures { SidesOf reading result }
 {
     match reading {
         Reading::Point(point) => point_sides(point),
         Reading::Pair { lower, upper } => pair_sides(lower, upper),
-        Reading::Missing => refused(MISSING),
+        Reading::Missing => Err(Refusal::Missing),
     }
 }
 
 // The box of the first n readings.
-pub fn measured(n: usize, readings: [Reading; N]) -> BoxRead
-    requires { n ≤ slots.N }
+pub fn measured(n: Vars, readings: [Reading; N]) -> Result<[i64; BOX_SIZE], Refusal>
     ensures { BoxOf n readings result }
 {
-    let mut measured: [i64; BOX_SIZE] = [0; BOX_SIZE];
-    let mut i: usize = 0;
-    while i < n {
-        let reading = readings[i];
-        let of_one = sides_of(reading);
-        let refusal = of_one.refusal;
-        let lower = of_one.lower;
-        let upper = of_one.upper;
-        if refusal != 0 {
-            return BoxRead {
-                measured: measured,
-                refusal: refusal,
-            };
-        }
-        let upper_at = i + N;
-        measured[i] = lower;
-        measured[upper_at] = upper;
-        i += 1;
+    let mut measured = [0i64; BOX_SIZE];
+    for (i, reading) in readings[..n.count()].iter().enumerate() {
+        let sides = sides_of(*reading)?;
+        measured[i] = sides.lower;
+        measured[i + N] = sides.upper;
     }
-    BoxRead {
-        measured: measured,
-        refusal: 0,
-    }
+    Ok(measured)
 }
 
 // A float's floor (face 0) or its ceiling (any other face), or why it is refused, as include/readings.h has it. `readings_c` exports it to C.
@@ -250,7 +198,7 @@ pub fn reading_side(value: f32, face: u32) -> i64
     ensures { result ≡ side_call value face }
 {
     if !value_in(value) {
-        return REFUSED;
+        return (CODE << 48) + (i64::from(u8::from(Refusal::Reading)) << 32);
     }
     rounded(value, face != 0)
 }

@@ -1,5 +1,4 @@
-// Reading a sheet from C (include/sheet.h), in an archive of its own for products that decide nothing: each export calls the
-// function of the crate `sheet` of the same name, and promises what it promises.
+// Reading a sheet from C (include/sheet.h), in an archive of its own for products that decide nothing.
 #![tactic(auto)]
 
 ghost use Rattle.std.specs.Prelude.{◌≡◌};
@@ -13,7 +12,7 @@ use sheet_spec::slots::SLOTS;
 pub extern "C" fn sheet_numbers() -> u64
     ensures { result ≡ slots }
 {
-    sheet::sheet_numbers()
+    SLOTS as u64
 }
 
 // Reads a sheet; a refusal leaves the array as it was.
@@ -22,5 +21,8 @@ pub extern "C" fn sheet_read(f: &[u8], v: &mut [i32; SLOTS]) -> u8
     ensures value { result ≡ refusal f.now }
     ensures v_after { (result ≡ 0 → v.new ≡ values f.now) × ((result ≡ 0 → ⊥) → v.new ≡ v.old) }
 {
-    sheet::sheet_read(f, v)
+    match sheet::read_into(f, v) {
+        Ok(()) => 0,
+        Err(refusal) => u8::from(refusal),
+    }
 }

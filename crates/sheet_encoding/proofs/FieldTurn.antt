@@ -7,13 +7,12 @@ use native.Mathlib.Nat.{zero-add, add-zero, mul-le-mul_right}
 use lib.IntN.{ℤ}
 use lib.ListN.{set, drop}
 use Rattle.sheet_spec.specs.Slots.{head_size, band_slot, law_in_band, safety_least_slot, safety_greatest_slot, pair_size}
-use Rattle.sheet_spec.specs.Refusals.{unless_refused, first_refusal}
 use Rattle.sheet_spec.specs.Fields.{i32, Field, decoded, test, offset, filled, bad}
 use Rattle.sheet_spec.specs.Sizes.{cap_bytes, safety_least_at, safety_greatest_at, row_bytes, upper_at, box_bytes, coefficient_bytes}
 use Rattle.sheet_spec.specs.declared.BandKind.{BandKind}
 use Rattle.sheet_spec.specs.Layout.{◌▸◌, cap_field, coefficient_field, head_fields, edge_field, law_fields, law_rest, row_fields, row_rest, band_fields, side_fields, box_fields}
 use Rattle.sheet_spec.proofs.Length.{cap_offset, rest_offset, law_rest_offset, side_offset}
-use Rattle.sheet_spec.proofs.FieldRuns.{FieldRun, offset_part, offset_next, filled_run, filled_next, bad_run, bad_next}
+use Rattle.sheet_spec.proofs.FieldRuns.{FieldRun, offset_part, offset_next, filled_run, filled_next, bad_run, bad_next, bad_none}
 use Rattle.sheet_spec.proofs.FieldPlaces.{cap_at, coefficient_at, rest_at, gain_at, law_rest_at, side_run}
 
 pub cap_run : (n : ℕ) → FieldRun head_fields cap_field head_size n
@@ -49,17 +48,16 @@ module _ {p r : ℕ → Field} {n s : ℕ} (parts : Coefficients p r n s) where
       filled_run p (coefficient_field s) 0 n parts.run f at v hu (sym (add-zero at)) refl ∙ ap (λ (k : ℕ). filled p f at k v) e
 
   pub bad_coefficients : (v : List ℤ) {x : ℕ} → x ≡ bad (coefficient_field s) v n → x ≡ bad p v (n + 0)
-  unfolding bad first_refusal unless_refused
   bad_coefficients v hx =
       let e : 0 + n ≡ n + 0 = omega arith in
-      bad_run p (coefficient_field s) 0 n parts.run v refl refl hx ∙ ap (bad p v) e
+      bad_run p (coefficient_field s) 0 n parts.run v (bad_none p v) hx ∙ ap (bad p v) e
 
   -- number q of the rest
   pub filled_rest : (q : ℕ) (f : List ℕ) (at : ℕ) (v : List ℤ) (a : ℕ) {w : List ℤ} {i : ℕ} {z : ℤ} → (r q).slot ≡ i → z ≡ decoded (r q).kind (drop a f)
       → a ≡ at + coefficient_bytes n + offset r q → w ≡ filled p f at (n + q) v → set w i z ≡ filled p f at (n + suc q) v
   filled_rest q f at v a hi hz ha = filled_next p (n + q) (n + suc q) (omega arith) _ (parts.rest q) f at v a hi hz (omega (arith, parts.places q))
 
-  pub bad_rest : (q : ℕ) (v : List ℤ) {y z : ℕ} → y ≡ unless_refused z (λ c. c) (test v (r q)) → z ≡ bad p v (n + q) → y ≡ bad p v (n + suc q)
+  pub bad_rest : (q : ℕ) (v : List ℤ) {y : ℕ} → 0 ≡ bad p v (n + q) → y ≡ test v (r q) → y ≡ bad p v (n + suc q)
   bad_rest q v = bad_next p (n + q) (n + suc q) (omega arith) (r q) (parts.rest q) v
 
 -- a band's edge and safety range

@@ -1,5 +1,5 @@
 -- The records of a file as the code goes through them, one at each turn: x is the r-th. Assumes nothing.
-use mathlib.Core.Path.{◌≡◌, sym, ap, ap₂, ◌∙◌, subst}
+use mathlib.Core.Path.{◌≡◌, refl, sym, ap, ap₂, ◌∙◌, subst}
 use mathlib.Core.Bool.{Bool}
 use mathlib.Core.List.{List}
 use Prim.Native.Nat.{ℕ, zero, suc, ◌+◌, ◌*◌, ◌-◌, ◌≤◌, ◌<◌}
@@ -8,7 +8,8 @@ use native.Mathlib.Numerals.{add-one}
 use native.Mathlib.Nat.{add-zero, mul-le-mul}
 use lib.IntN.{ℤ}
 use Rattle.sheet_spec.specs.Slots.{N}
-use Rattle.sheet_spec.specs.Refusals.{Cause, refuse_unless, unless_refused, first_refusal}
+use Rattle.sheet_spec.specs.declared.refusals.Refusal.{Refusal}
+use Rattle.sheet_spec.specs.Refusals.{Cause, refusal_number, refuse_unless, unless_refused, first_refusal}
 use Rattle.sheet_spec.specs.Fields.{filled}
 use Rattle.sheet_spec.specs.Sizes.{letters, law_bytes, row_bytes}
 use Rattle.sheet_spec.specs.declared.BandKind.{BandKind}
@@ -17,6 +18,7 @@ use Rattle.sheet_spec.specs.declared.Shape.{Shape}
 use Rattle.sheet_spec.specs.declared.Record.{Record}
 use Rattle.sheet_spec.specs.Layout.{fields, field_count}
 use Rattle.sheet_spec.specs.File.{Small, HasRoom, records, record_at, record_length, record_start, filled_all, bad_numbers, bad_record, bad_all}
+use Rattle.sheet_spec.proofs.Laws.{first_next, first_keep, refused}
 use Rattle.sheet_spec.proofs.Records.{room_at}
 
 -- the refusal of a wrong mark or, if it is right, x
@@ -49,6 +51,21 @@ module _ (s : Shape) (r : ℕ) where
   pub bad_more : (marks : ℕ → Bool) (v : List ℤ) {x y z : ℕ} → y ≡ unless_refused z (λ c. c) x → z ≡ bad_all marks s v r → x ≡ bad_record marks s v r → y ≡ bad_all marks s v (r + 1)
   unfolding bad_all first_refusal
   bad_more marks v hy hz hx = rw (add-one r, first_refusal) (hy ∙ ap₂ (λ (z x : ℕ). unless_refused z (λ c. c) x) hz hx)
+
+module _ (s : Shape) (marks : ℕ → Bool) (v : List ℤ) where
+  pub bad_none : 0 ≡ bad_all marks s v 0
+  unfolding bad_all first_refusal
+  bad_none = refl
+
+  -- where the first r records pass, the next one decides
+  pub bad_next : (r : ℕ) {y : ℕ} → 0 ≡ bad_all marks s v r → y ≡ bad_record marks s v r → y ≡ bad_all marks s v (r + 1)
+  unfolding bad_all
+  bad_next r pass is = sym (first_next (bad_record marks s v) r _ (sym pass) is)
+
+  -- and a refusal stays
+  pub bad_stop : (r k : ℕ) (e : Refusal) → refusal_number e ≡ bad_all marks s v r → r ≤ k → refusal_number e ≡ bad_all marks s v k
+  unfolding bad_all
+  bad_stop r k e is l = first_keep (bad_record marks s v) r k _ l (refused e) (sym is)
 
 start_mono : (s : Shape) (r d : ℕ) → record_start s r ≤ record_start s (r + d)
 start_mono s r zero = rw (add-zero r) (omega arith)

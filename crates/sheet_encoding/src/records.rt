@@ -9,7 +9,7 @@ ghost use Rattle.sheet_spec.specs.File.{shape, Small, records, record_at, record
 use crate::count;
 use sheet_spec::sizes::*;
 use sheet_spec::slots::{BANDS, BOXES, FIRST_BAND, LAW, LAW_DIVISOR, SLOTS, VARS};
-use sheet_spec::{BandKind, Record, Shape};
+use sheet_spec::{BandKind, Record, Shape, Vars};
 
 // The counts of a sheet whose head is in range, and a kind of bands.
 pub fn shape_with(v: &[i32; SLOTS], kind: BandKind) -> Shape
@@ -20,7 +20,7 @@ pub fn shape_with(v: &[i32; SLOTS], kind: BandKind) -> Shape
         vars: count(v, VARS),
         bands: count(v, BANDS),
         boxes: count(v, BOXES),
-        kind: kind,
+        kind,
     }
 }
 
@@ -28,11 +28,10 @@ pub fn shape_with(v: &[i32; SLOTS], kind: BandKind) -> Shape
 pub fn band_kind(v: &[i32; SLOTS]) -> BandKind
     ensures { result ≡ band_kind v.now }
 {
-    let q = v[FIRST_BAND + LAW + LAW_DIVISOR];
-    if q == 0 {
-        return BandKind::Fixed;
+    match v[FIRST_BAND + LAW + LAW_DIVISOR] {
+        0 => BandKind::Fixed,
+        _ => BandKind::Feedback,
     }
-    BandKind::Feedback
 }
 
 // The shape of a value whose head is in range.
@@ -43,7 +42,8 @@ pub fn shape_of(v: &[i32; SLOTS]) -> Shape
     shape_with(v, band_kind(v))
 }
 
-// How many records a file has.
+// How many records a file has. `Small shape` is asked and is not the type's own: the definitions make the shape of any value (`shape` in
+// sheet_spec/specs/File), and a loop that passes on a struct around a struct with a model is not covered yet.
 pub fn record_count(shape: Shape) -> usize
     requires { Small shape }
     ensures { result ≡ records shape }
@@ -71,22 +71,20 @@ pub fn record_at(shape: Shape, r: usize) -> Record
 }
 
 // The bytes of the law of a band of a kind.
-pub fn law_bytes(kind: BandKind, n: usize) -> usize
-    requires { n ≤ N }
+pub fn law_bytes(kind: BandKind, n: Vars) -> usize
     ensures { result ≡ law_bytes kind n }
 {
     match kind {
         BandKind::Fixed => 0,
-        BandKind::Feedback => I16 * n + LAW_REST_BYTES,
+        BandKind::Feedback => I16 * n.count() + LAW_REST_BYTES,
     }
 }
 
 // The bytes of a band.
-fn band_length(kind: BandKind, n: usize) -> usize
-    requires { n ≤ N }
+fn band_length(kind: BandKind, n: Vars) -> usize
     ensures { result ≡ band_head + law_bytes kind n + n * row_bytes n }
 {
-    BAND_HEAD + law_bytes(kind, n) + n * (I16 * n + REST_BYTES)
+    BAND_HEAD + law_bytes(kind, n) + n.count() * (I16 * n.count() + REST_BYTES)
 }
 
 // The bytes of a record.
@@ -97,9 +95,8 @@ pub fn record_length(shape: Shape, record: Record) -> usize
     let n = shape.vars;
     match record {
         Record::Head => CAPS_AT + U16 * n,
-        Record::Band(kind, _) => band_length(kind, n),
-        Record::Unsafe(_) => LETTERS + PAIR_BYTES * n,
-        Record::Recovery => LETTERS + PAIR_BYTES * n,
+        Record::Band(kind, _) => band_length(kind, Vars { count: n }),
+        Record::Unsafe(_) | Record::Recovery => LETTERS + PAIR_BYTES * n,
     }
 }
 
@@ -112,6 +109,6 @@ pub fn file_length(shape: Shape) -> usize
     let kind = shape.kind;
     CAPS_AT
         + U16 * n
-        + shape.bands * band_length(kind, n)
+        + shape.bands * band_length(kind, Vars { count: n })
         + (LETTERS + PAIR_BYTES * n) * (shape.boxes + 1)
 }

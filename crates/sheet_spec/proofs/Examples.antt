@@ -11,8 +11,8 @@ use Rattle.sheet_spec.specs.Slots.{N, box_size, boxes_slot, band_slot, law_slot,
 use Rattle.sheet_spec.specs.Fields.{u16, i16, i32, encoded}
 use Rattle.sheet_spec.specs.Box.{meets}
 use Rattle.sheet_spec.specs.Order.{compare_boxes}
-use Rattle.sheet_spec.specs.declared.Comparison.{Comparison}
-use Rattle.sheet_spec.specs.declared.Comparison.TheVariants.{Less, Equal, Greater}
+use Rattle.std.specs.declared.cmp.Ordering.{Ordering}
+use Rattle.std.specs.declared.cmp.Ordering.TheVariants.{Less, Equal, Greater}
 use Rattle.sheet_spec.specs.declared.BandKind.TheVariants.{Fixed, Feedback}
 use Rattle.sheet_spec.specs.declared.Record.TheVariants.{Recovery}
 use Rattle.sheet_spec.specs.declared.Shape.{Shape}
@@ -145,7 +145,7 @@ pub box : ℤ → ℤ → ℤ → ℤ → List ℤ
 box l0 h0 l1 h1 = sets (sets (replicate box_size (pos 0)) 0 (l0 ∷ l1 ∷ [])) N (h0 ∷ h1 ∷ [])
 
 -- two boxes, and how they compare
-pub comparisons : List (List ℤ × (List ℤ × Comparison))
+pub comparisons : List (List ℤ × (List ℤ × Ordering))
 comparisons =
     -- they differ in the first lower side, whatever the others are
     (box (negsuc 4) (pos 9) (pos 9) (pos 9), (box (negsuc 3) (pos 0) (pos 0) (pos 0), Less))

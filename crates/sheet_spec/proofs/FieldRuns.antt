@@ -7,8 +7,9 @@ use native.Mathlib.Nat.{add-zero, add-suc}
 use lib.IntN.{ℤ}
 use lib.ListN.{set, drop}
 use Rattle.sheet_spec.specs.Slots.{◌!◌}
-use Rattle.sheet_spec.specs.Refusals.{first_refusal, unless_refused}
-use Rattle.sheet_spec.proofs.Laws.{stops_either, either_none}
+use Rattle.sheet_spec.specs.declared.refusals.Refusal.{Refusal}
+use Rattle.sheet_spec.specs.Refusals.{refusal_number, first_refusal, unless_refused}
+use Rattle.sheet_spec.proofs.Laws.{goes_on, stops_either, either_none, first_next, first_keep, refused}
 use Rattle.sheet_spec.specs.Fields.{Field, bytes_in, decoded, encoded, test, offset, filled, coded, bad}
 
 module _ (p q : ℕ → Field) (k : ℕ) where
@@ -55,8 +56,9 @@ module _ (p q : ℕ → Field) (k : ℕ) where
       rw (add-suc k m, first_refusal)
       (ap₂ (λ (x : ℕ) (y : Field). unless_refused x (λ c. c) (test v y)) (bad_part m (less h) v) (last h) ∙ stops_either (λ c. c) (test v (q m)) (bad p v k) (bad q v m))
 
-  pub bad_run : (m : ℕ) → FieldRun m → (v : List ℤ) {x y z : ℕ} → y ≡ unless_refused z (λ c. c) x → z ≡ bad p v k → x ≡ bad q v m → y ≡ bad p v (k + m)
-  bad_run m h v hy hz hx = hy ∙ ap₂ (λ (z x : ℕ). unless_refused z (λ c. c) x) hz hx ∙ sym (bad_part m h v)
+  -- where p's first k pass, q's m decide
+  pub bad_run : (m : ℕ) → FieldRun m → (v : List ℤ) {x : ℕ} → 0 ≡ bad p v k → x ≡ bad q v m → x ≡ bad p v (k + m)
+  bad_run m h v pass is = is ∙ sym (bad_part m h v ∙ goes_on (λ c. c) _ (sym pass))
 
 pub offset_mono : (p : ℕ → Field) (j k : ℕ) → j ≤ k → offset p j ≤ offset p k
 offset_mono p j k l =
@@ -81,11 +83,25 @@ module _ (p : ℕ → Field) (k m : ℕ) (l : m ≡ k + 1) (x : Field) (e : p k 
       ∙ ap₂ (λ (u : List ℤ) (b : ℕ). set u x.slot (decoded x.kind (drop b f))) hw ha
       ∙ ap (λ (y : Field). set (filled p f at k v) y.slot (decoded y.kind (drop (at + offset p k) f))) (sym e))
 
-  pub bad_next : (v : List ℤ) {y z : ℕ} → y ≡ unless_refused z (λ c. c) (test v x) → z ≡ bad p v k → y ≡ bad p v m
-  unfolding bad first_refusal
-  bad_next v h i =
-      rw (is_suc, first_refusal) (h ∙ ap₂ (λ (z : ℕ) (y : Field). unless_refused z (λ c. c) (test v y)) i (sym e))
+  pub bad_next : (v : List ℤ) {y : ℕ} → 0 ≡ bad p v k → y ≡ test v x → y ≡ bad p v m
+  unfolding bad
+  bad_next v pass is = rw l (sym (first_next (λ j. test v (p j)) k _ (sym pass) (is ∙ ap (test v) (sym e))))
 
--- field k of p
-pub bad_field : (p : ℕ → Field) (v : List ℤ) (k : ℕ) {y z : ℕ} → y ≡ unless_refused z (λ c. c) (test v (p k)) → z ≡ bad p v k → y ≡ bad p v (suc k)
-bad_field p v k h i = bad_next p k (suc k) (omega arith) (p k) refl v h i
+-- ---- the tests of p's fields, up to the first that fails
+
+module _ (p : ℕ → Field) (v : List ℤ) where
+  pub bad_none : 0 ≡ bad p v 0
+  unfolding bad first_refusal
+  bad_none = refl
+
+  -- where the first k pass, field k decides
+  pub bad_field : (k : ℕ) {y : ℕ} → 0 ≡ bad p v k → y ≡ test v (p k) → y ≡ bad p v (suc k)
+  bad_field k = bad_next p k (suc k) (omega arith) (p k) refl v
+
+  -- and a refusal stays
+  pub bad_stop : (k m : ℕ) (r : Refusal) → refusal_number r ≡ bad p v k → k ≤ m → refusal_number r ≡ bad p v m
+  unfolding bad
+  bad_stop k m r is l = first_keep (λ j. test v (p j)) k m _ l (refused r) (sym is)
+
+-- by these a search puts the tests of fields together
+pub ruleset tests = (bad_none, bad_field, bad_stop)

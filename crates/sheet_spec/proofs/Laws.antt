@@ -6,7 +6,8 @@ use Prim.Native.Nat.{ℕ, zero, suc, ◌+◌, ◌-◌, ◌≤◌, ◌<◌}
 use native.Mathlib.Omega.{arith}
 use native.Mathlib.Numerals.{add-one}
 use native.Mathlib.Nat.{zero-add, suc-add, eq-or-lt_of_le}
-use Rattle.sheet_spec.specs.Refusals.{Cause, number, refuse_unless, first_refusal, greatest_number, unless_refused}
+use Rattle.sheet_spec.specs.declared.refusals.Refusal.{Refusal}
+use Rattle.sheet_spec.specs.Refusals.{Cause, number, refusal_number, refuse_unless, first_refusal, greatest_number, unless_refused}
 use Rattle.sheet_spec.proofs.Streams.{Each}
 
 -- ---- a refusal, or going on
@@ -113,6 +114,10 @@ number_range Cause.overlap = (omega arith, omega arith)
 
 pub number_is : (c : Cause) → number c ≡ 0 → ⊥
 number_is c e = omega (arith, (number_range c).0)
+
+-- and so do those of the refusals
+pub refused : (r : Refusal) → refusal_number r ≡ 0 → ⊥
+refused r e = grind arith
 
 pub unless_zero : (b : Bool) (c : Cause) → refuse_unless b c ≡ 0 → b ≡ true
 unless_zero true c e = refl

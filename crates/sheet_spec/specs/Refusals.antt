@@ -1,5 +1,9 @@
 -- Why a call is refused, by number (document 01, "Refused calls", and the papers of document 02), and which of several refusals comes first.
 use Rattle.std.specs.Prelude.{Bool, true, false, List, [], ◌∷◌, ℕ, zero, suc}
+use Rattle.std.specs.declared.result.Result.{Result}
+use Rattle.std.specs.declared.result.Result.TheVariants.{Ok, Err}
+use Rattle.sheet_spec.specs.declared.refusals.Refusal.{Refusal}
+use Rattle.sheet_spec.specs.declared.refusals.Refusal.TheVariants.{Head, Counts, Times, Commands, Length, Cap, Mark, Edge, Safety, Row, Side, Question, Allowance, Command, Start, Reach, Room, Missing, Reading, Order, Overlap}
 
 pub data Cause : Type 0 where
   -- under 20 bytes, or the mark is not SH
@@ -85,3 +89,34 @@ first_of (r ∷ rs) = unless_refused r (λ c. c) (first_of rs)
 unfoldable pub first_refusal : (ℕ → ℕ) → ℕ → ℕ
 first_refusal h zero = 0
 first_refusal h (suc k) = unless_refused (first_refusal h k) (λ c. c) (h k)
+
+-- ---- what the code answers
+
+-- the number of a refusal; readings have the causes Missing and Reading (readings_spec/specs/Causes)
+abbrev pub refusal_number : Refusal → ℕ
+refusal_number Head = number head
+refusal_number Counts = number counts
+refusal_number Times = number times
+refusal_number Commands = number commands
+refusal_number Length = number length
+refusal_number Cap = number cap
+refusal_number Mark = number mark
+refusal_number Edge = number edge
+refusal_number Safety = number safety
+refusal_number Row = number row
+refusal_number Side = number side
+refusal_number Question = number question
+refusal_number Allowance = number allowance
+refusal_number Command = number command
+refusal_number Start = number start
+refusal_number Reach = number reach
+refusal_number Room = number room
+refusal_number Missing = 18
+refusal_number Reading = 19
+refusal_number Order = number order
+refusal_number Overlap = number overlap
+
+-- 0 where a call is not refused, else the number of its refusal
+abbrev pub refusal_of : {A : Type 0} → Result A Refusal → ℕ
+refusal_of (Ok a) = 0
+refusal_of (Err r) = refusal_number r

@@ -1,64 +1,80 @@
-// Why a call is refused (document 01, "Refused calls", and the papers of document 02): the numbers of specs/Refusals.antt.
+// Why a call is refused (document 01, "Refused calls", and the papers of document 02). Each refusal has the number that specs/Refusals.antt
+// gives to its cause.
+ghost use Rattle.std.specs.Prelude.{◌≡◌};
+ghost use Rattle.sheet_spec.specs.Refusals.{refusal_number};
 
-// Under 20 bytes, or the mark is not SH.
-pub const HEAD: u8 = 1;
+#[derive(Clone, Copy, Debug, PartialEq, Eq)]
+pub enum Refusal {
+    // under 20 bytes, or the mark is not SH
+    Head,
+    // N, a count or the band variable
+    Counts,
+    // Δ, α or ρ
+    Times,
+    // the head's commands
+    Commands,
+    // the file's length
+    Length,
+    // a cap
+    Cap,
+    // a later record's mark
+    Mark,
+    // a band's edge
+    Edge,
+    // a band's safety range
+    Safety,
+    // a number of a row
+    Row,
+    // a side of a no-go box or of the recovery box
+    Side,
+    // a question's length or mark
+    Question,
+    // a question's allowance
+    Allowance,
+    // a command outside the head's
+    Command,
+    // a side of a measured or a start box
+    Start,
+    // the ticks or the width of a reach
+    Reach,
+    // too little room in the buffer
+    Room,
+    // a variable without a reading
+    Missing,
+    // a number of a reading
+    Reading,
+    // a no-go box that is not greater than the one before
+    Order,
+    // the recovery box shares a state with a no-go box
+    Overlap,
+}
 
-// N, a count or the band variable.
-pub const COUNTS: u8 = 2;
+impl From<Refusal> for u8 {
+    ghost from_gives = { λ r n. n ≡ refusal_number r };
 
-// Δ, α or ρ.
-pub const TIMES: u8 = 3;
-
-// The head's commands.
-pub const COMMANDS: u8 = 4;
-
-// The file's length.
-pub const LENGTH: u8 = 5;
-
-// A cap.
-pub const CAP: u8 = 6;
-
-// A later record's mark.
-pub const MARK: u8 = 7;
-
-// A band's edge.
-pub const EDGE: u8 = 8;
-
-// A band's safety range.
-pub const SAFETY: u8 = 9;
-
-// A number of a row.
-pub const ROW: u8 = 10;
-
-// A side of a no-go box or of the recovery box.
-pub const SIDE: u8 = 11;
-
-// A question's length or mark.
-pub const QUESTION: u8 = 12;
-
-// A question's allowance.
-pub const ALLOWANCE: u8 = 13;
-
-// A command outside the head's.
-pub const COMMAND: u8 = 14;
-
-// A side of a measured or a start box.
-pub const START: u8 = 15;
-
-// The ticks or the width of a reach.
-pub const REACH: u8 = 16;
-
-// Too little room in the buffer.
-pub const ROOM: u8 = 17;
-
-// A variable without a reading.
-pub const MISSING: u8 = 18;
-
-// A number of a reading.
-pub const READING: u8 = 19;
-
-// A no-go box that is not greater than the one before.
-pub const ORDER: u8 = 20;
-
-// The recovery box shares a state with a no-go box.
-pub const OVERLAP: u8 = 22;
+    fn from(refusal: Refusal) -> u8 {
+        match refusal {
+            Refusal::Head => 1,
+            Refusal::Counts => 2,
+            Refusal::Times => 3,
+            Refusal::Commands => 4,
+            Refusal::Length => 5,
+            Refusal::Cap => 6,
+            Refusal::Mark => 7,
+            Refusal::Edge => 8,
+            Refusal::Safety => 9,
+            Refusal::Row => 10,
+            Refusal::Side => 11,
+            Refusal::Question => 12,
+            Refusal::Allowance => 13,
+            Refusal::Command => 14,
+            Refusal::Start => 15,
+            Refusal::Reach => 16,
+            Refusal::Room => 17,
+            Refusal::Missing => 18,
+            Refusal::Reading => 19,
+            Refusal::Order => 20,
+            Refusal::Overlap => 22,
+        }
+    }
+}

@@ -1,13 +1,13 @@
 // The tests of a sheet's numbers (document 01, "Sheet layout"), in the file's order, over the value: reader and writer share
-// them. Each gives 0, or the refusal of the first number out of range. The definitions are in sheet_spec/specs/Layout: each field
-// has its range and its cause; and in sheet_spec/specs/File: the test of a record as a whole.
+// them. Each gives `Ok(())`, or the refusal of the first number out of range. The definitions are in sheet_spec/specs/Layout: each
+// field has its range and its cause; and in sheet_spec/specs/File: the test of a record as a whole.
 #![tactic(auto)]
 
 ghost use Rattle.std.specs.Prelude.{◌≡◌, true, ◌+◌, ◌≤◌, ◌<◌};
 ghost use Rattle.integers.specs.Bound.{Bound};
 ghost use Rattle.sheet_spec.specs.Limits.{max_bands};
 ghost use Rattle.sheet_spec.specs.Slots.{◌!◌, N, head_size, box_size, law_size, row_size, slots};
-ghost use Rattle.sheet_spec.specs.Refusals.{number, unless_refused};
+ghost use Rattle.sheet_spec.specs.Refusals.{number, refusal_number, refusal_of};
 ghost use Rattle.sheet_spec.specs.File.{Small, HasRoom, records, closing, bad_numbers, bad_all};
 ghost use Rattle.sheet_spec.specs.Fields.{Field, test, bad};
 ghost use Rattle.sheet_spec.specs.declared.BandKind.TheVariants.{Feedback};
@@ -20,9 +20,9 @@ use crate::order::bad_order;
 use crate::overlap::bad_overlap;
 use sheet_encoding::records::{record_at, record_count};
 use sheet_spec::limits::*;
-use sheet_spec::refusals::{CAP, COMMANDS, COUNTS, EDGE, ROW, SAFETY, SIDE, TIMES};
+use sheet_spec::refusals::Refusal;
 use sheet_spec::slots::*;
-use sheet_spec::{BandKind, Record, Shape};
+use sheet_spec::{BandKind, Record, Shape, Vars};
 
 const MOST_VARS: i64 = MAX_VARS as i64;
 
@@ -45,157 +45,150 @@ fn value(v: &[i32; SLOTS], slot: usize) -> i64
     x as i64
 }
 
-// A refusal or, if it is 0, the next.
-pub fn first(x: u8, y: u8) -> u8
-    ensures { result ≡ unless_refused x (λ c. c) y }
-{
-    if x == 0 { y } else { x }
-}
-
-// A refusal or, if it is 0, the test of a field with this slot, range and cause.
-fn after(x: u8, v: &[i32; SLOTS], slot: usize, least: i64, greatest: i64, cause: u8) -> u8
+// The number at a slot lies in a range, or else there is this refusal.
+fn in_range(
+    v: &[i32; SLOTS],
+    slot: usize,
+    least: i64,
+    greatest: i64,
+    refusal: Refusal,
+) -> Result<(), Refusal>
     requires { slot < slots }
-    ensures { (p : Field) → p.slot ≡ slot → p.least v.now ≡ least → p.greatest v.now ≡ greatest → number p.cause ≡ cause → result ≡ unless_refused x (λ c. c) (test v.now p) }
+    ensures { (p : Field) → p.slot ≡ slot → p.least v.now ≡ least → p.greatest v.now ≡ greatest → number p.cause ≡ refusal_number refusal → refusal_of result ≡ test v.now p }
 {
-    if x != 0 {
-        return x;
-    }
     let z = value(v, slot);
     if least <= z && z <= greatest {
-        return 0;
+        return Ok(());
     }
-    cause
+    Err(refusal)
 }
 
 // The head's numbers but for the caps.
-pub fn bad_head(v: &[i32; SLOTS]) -> u8
-    ensures { result ≡ bad head_fields v.now head_size }
+pub fn bad_head(v: &[i32; SLOTS]) -> Result<(), Refusal>
+    ensures { refusal_of result ≡ bad head_fields v.now head_size }
 {
-    let mut x = after(0, v, VARS, 1, MOST_VARS, COUNTS);
-    x = after(x, v, BANDS, 1, MAX_BANDS as i64, COUNTS);
-    x = after(x, v, BOXES, 1, MAX_BOXES as i64, COUNTS);
-    x = after(x, v, BAND_VAR, 0, value(v, VARS) - 1, COUNTS);
-    x = after(x, v, DELTA, 1, MOST_TICKS, TIMES);
-    x = after(x, v, ALPHA, 1, MOST_TICKS - value(v, DELTA), TIMES);
-    x = after(x, v, RHO, 1, MOST_TICKS, TIMES);
-    x = after(x, v, LEAST, MIN_COMMAND, MAX_COMMAND, COMMANDS);
-    after(x, v, GREATEST, value(v, LEAST), MAX_COMMAND, COMMANDS)
+    in_range(v, VARS, 1, MOST_VARS, Refusal::Counts)?;
+    in_range(v, BANDS, 1, MAX_BANDS as i64, Refusal::Counts)?;
+    in_range(v, BOXES, 1, MAX_BOXES as i64, Refusal::Counts)?;
+    in_range(v, BAND_VAR, 0, value(v, VARS) - 1, Refusal::Counts)?;
+    in_range(v, DELTA, 1, MOST_TICKS, Refusal::Times)?;
+    in_range(v, ALPHA, 1, MOST_TICKS - value(v, DELTA), Refusal::Times)?;
+    in_range(v, RHO, 1, MOST_TICKS, Refusal::Times)?;
+    in_range(v, LEAST, MIN_COMMAND, MAX_COMMAND, Refusal::Commands)?;
+    in_range(v, GREATEST, value(v, LEAST), MAX_COMMAND, Refusal::Commands)
 }
 
-pub fn bad_caps(v: &[i32; SLOTS], n: usize) -> u8
-    requires { n ≤ N }
-    ensures { result ≡ bad head_fields v.now (head_size + n) }
+pub fn bad_caps(v: &[i32; SLOTS], n: Vars) -> Result<(), Refusal>
+    ensures { refusal_of result ≡ bad head_fields v.now (head_size + n) }
 {
-    let mut x = bad_head(v);
-    let mut i: usize = 0;
-    while i < n {
-        x = after(x, v, FIRST_CAP + i, 1, MAX_CAP, CAP);
-        i = i + 1;
+    bad_head(v)?;
+    for i in 0..n.count() {
+        in_range(v, FIRST_CAP + i, 1, MAX_CAP, Refusal::Cap)?;
     }
-    x
+    Ok(())
 }
 
 // The coefficients of a law or of a row.
-fn bad_coefficients(v: &[i32; SLOTS], n: usize, slot: usize) -> u8
-    requires { (n ≤ N) × (slot + N ≤ slots) }
-    ensures { result ≡ bad (coefficient_field slot) v.now n }
+fn bad_coefficients(v: &[i32; SLOTS], n: Vars, slot: usize) -> Result<(), Refusal>
+    requires { slot + N ≤ slots }
+    ensures { refusal_of result ≡ bad (coefficient_field slot) v.now n }
 {
-    let mut x: u8 = 0;
-    let mut j: usize = 0;
-    while j < n {
-        x = after(x, v, slot + j, MIN_COEFFICIENT, MAX_COEFFICIENT, ROW);
-        j = j + 1;
+    for j in 0..n.count() {
+        in_range(v, slot + j, MIN_COEFFICIENT, MAX_COEFFICIENT, Refusal::Row)?;
     }
-    x
+    Ok(())
 }
 
 // A law that follows the state.
-fn bad_feedback(v: &[i32; SLOTS], n: usize, slot: usize) -> u8
-    requires { (n ≤ N) × (slot + law_size ≤ slots) }
-    ensures { result ≡ bad (law_fields n slot) v.now (law_count Feedback n) }
+fn bad_feedback(v: &[i32; SLOTS], n: Vars, slot: usize) -> Result<(), Refusal>
+    requires { slot + law_size ≤ slots }
+    ensures { refusal_of result ≡ bad (law_fields n slot) v.now (law_count Feedback n) }
 {
-    let mut x = bad_coefficients(v, n, slot);
-    x = after(x, v, slot + LAW_CONSTANT, MIN_CONSTANT, MAX_CONSTANT, ROW);
-    after(x, v, slot + LAW_DIVISOR, 1, MAX_DIVISOR, ROW)
+    bad_coefficients(v, n, slot)?;
+    in_range(
+        v,
+        slot + LAW_CONSTANT,
+        MIN_CONSTANT,
+        MAX_CONSTANT,
+        Refusal::Row,
+    )?;
+    in_range(v, slot + LAW_DIVISOR, 1, MAX_DIVISOR, Refusal::Row)
 }
 
 // The law of a band of a kind.
-fn bad_law(v: &[i32; SLOTS], n: usize, kind: BandKind, slot: usize) -> u8
-    requires { (n ≤ N) × (slot + law_size ≤ slots) }
-    ensures { result ≡ bad (law_fields n slot) v.now (law_count kind n) }
+fn bad_law(v: &[i32; SLOTS], n: Vars, kind: BandKind, slot: usize) -> Result<(), Refusal>
+    requires { slot + law_size ≤ slots }
+    ensures { refusal_of result ≡ bad (law_fields n slot) v.now (law_count kind n) }
 {
     match kind {
-        BandKind::Fixed => 0,
+        BandKind::Fixed => Ok(()),
         BandKind::Feedback => bad_feedback(v, n, slot),
     }
 }
 
-fn bad_row(v: &[i32; SLOTS], n: usize, slot: usize) -> u8
-    requires { (n ≤ N) × (slot + row_size ≤ slots) }
-    ensures { result ≡ bad (row_fields n slot) v.now (row_count n) }
+fn bad_row(v: &[i32; SLOTS], n: Vars, slot: usize) -> Result<(), Refusal>
+    requires { slot + row_size ≤ slots }
+    ensures { refusal_of result ≡ bad (row_fields n slot) v.now (row_count n) }
 {
-    let mut x = bad_coefficients(v, n, slot);
-    x = after(x, v, slot + ROW_B, MIN_COEFFICIENT, MAX_COEFFICIENT, ROW);
-    x = after(x, v, slot + ROW_C, MIN_CONSTANT, MAX_CONSTANT, ROW);
-    x = after(x, v, slot + ROW_D, 0, MAX_SPREAD, ROW);
-    after(x, v, slot + ROW_Q, 1, MAX_DIVISOR, ROW)
+    bad_coefficients(v, n, slot)?;
+    in_range(
+        v,
+        slot + ROW_B,
+        MIN_COEFFICIENT,
+        MAX_COEFFICIENT,
+        Refusal::Row,
+    )?;
+    in_range(v, slot + ROW_C, MIN_CONSTANT, MAX_CONSTANT, Refusal::Row)?;
+    in_range(v, slot + ROW_D, 0, MAX_SPREAD, Refusal::Row)?;
+    in_range(v, slot + ROW_Q, 1, MAX_DIVISOR, Refusal::Row)
 }
 
-fn bad_edge(v: &[i32; SLOTS], k: usize) -> u8
+fn bad_edge(v: &[i32; SLOTS], k: usize) -> Result<(), Refusal>
     requires { k < max_bands }
-    ensures { result ≡ test v.now (edge_field k) }
+    ensures { refusal_of result ≡ test v.now (edge_field k) }
 {
     let slot = FIRST_BAND + k * BAND_SIZE;
     if k == 0 {
-        return after(0, v, slot, MIN_EDGE, MIN_EDGE, EDGE);
+        return in_range(v, slot, MIN_EDGE, MIN_EDGE, Refusal::Edge);
     }
-    after(0, v, slot, value(v, slot - BAND_SIZE) + 1, MAX_EDGE, EDGE)
+    let before = value(v, slot - BAND_SIZE);
+    in_range(v, slot, before + 1, MAX_EDGE, Refusal::Edge)
 }
 
-pub fn bad_band(v: &[i32; SLOTS], n: usize, kind: BandKind, k: usize) -> u8
-    requires { (n ≤ N) × (k < max_bands) }
-    ensures { result ≡ bad (band_fields n kind k) v.now (band_count n kind) }
+pub fn bad_band(v: &[i32; SLOTS], n: Vars, kind: BandKind, k: usize) -> Result<(), Refusal>
+    requires { k < max_bands }
+    ensures { refusal_of result ≡ bad (band_fields n kind k) v.now (band_count n kind) }
 {
     let slot = FIRST_BAND + k * BAND_SIZE;
+    let least = value(v, LEAST);
     let greatest = value(v, GREATEST);
-    let mut x = bad_edge(v, k);
-    x = after(x, v, slot + SAFETY_LEAST, value(v, LEAST), greatest, SAFETY);
-    x = after(
-        x,
-        v,
-        slot + SAFETY_GREATEST,
-        value(v, slot + SAFETY_LEAST),
-        greatest,
-        SAFETY,
-    );
-    x = first(x, bad_law(v, n, kind, slot + LAW));
-    let mut i: usize = 0;
-    while i < n {
-        x = first(x, bad_row(v, n, slot + FIRST_ROW + i * ROW_SIZE));
-        i = i + 1;
+    let lower = value(v, slot + SAFETY_LEAST);
+    bad_edge(v, k)?;
+    in_range(v, slot + SAFETY_LEAST, least, greatest, Refusal::Safety)?;
+    in_range(v, slot + SAFETY_GREATEST, lower, greatest, Refusal::Safety)?;
+    bad_law(v, n, kind, slot + LAW)?;
+    for i in 0..n.count() {
+        bad_row(v, n, slot + FIRST_ROW + i * ROW_SIZE)?;
     }
-    x
+    Ok(())
 }
 
-pub fn bad_box(v: &[i32; SLOTS], n: usize, slot: usize, most: u32) -> u8
-    requires { (n ≤ N) × (slot + box_size ≤ slots) }
-    ensures { result ≡ bad (box_fields most slot) v.now (box_count n) }
+pub fn bad_box(v: &[i32; SLOTS], n: Vars, slot: usize, most: u32) -> Result<(), Refusal>
+    requires { slot + box_size ≤ slots }
+    ensures { refusal_of result ≡ bad (box_fields most slot) v.now (box_count n) }
 {
     let side = most as i64;
-    let mut x: u8 = 0;
-    let mut i: usize = 0;
-    while i < n {
-        x = after(x, v, slot + i, -side, side, SIDE);
-        x = after(x, v, slot + i + N, value(v, slot + i), side, SIDE);
-        i = i + 1;
+    for i in 0..n.count() {
+        in_range(v, slot + i, -side, side, Refusal::Side)?;
+        in_range(v, slot + i + N, value(v, slot + i), side, Refusal::Side)?;
     }
-    x
+    Ok(())
 }
 
 // The fields of a record.
-fn bad_fields(v: &[i32; SLOTS], n: usize, record: Record) -> u8
-    requires { (n ≤ N) × HasRoom «record» }
-    ensures { result ≡ bad (fields n «record») v.now (field_count n «record») }
+fn bad_fields(v: &[i32; SLOTS], n: Vars, record: Record) -> Result<(), Refusal>
+    requires { HasRoom «record» }
+    ensures { refusal_of result ≡ bad (fields n «record») v.now (field_count n «record») }
 {
     match record {
         Record::Head => bad_caps(v, n),
@@ -206,38 +199,37 @@ fn bad_fields(v: &[i32; SLOTS], n: usize, record: Record) -> u8
 }
 
 // A record as a whole, after its fields.
-fn closing(v: &[i32; SLOTS], shape: Shape, record: Record) -> u8
+fn closing(v: &[i32; SLOTS], shape: Shape, record: Record) -> Result<(), Refusal>
     requires { Small shape × HasRoom «record» }
-    ensures { result ≡ closing v.now shape «record» }
+    ensures { refusal_of result ≡ closing v.now shape «record» }
 {
+    let n = Vars { count: shape.vars };
     match record {
-        Record::Head => 0,
-        Record::Band(_, _) => 0,
-        Record::Unsafe(j) => bad_order(v, shape.vars, j),
-        Record::Recovery => bad_overlap(v, shape.vars, shape.boxes),
+        Record::Head => Ok(()),
+        Record::Band(_, _) => Ok(()),
+        Record::Unsafe(j) => bad_order(v, n, j),
+        Record::Recovery => bad_overlap(v, n, shape.boxes),
     }
 }
 
 // The numbers of a record.
-pub fn bad_record(v: &[i32; SLOTS], shape: Shape, record: Record) -> u8
+#[tactic(auto, unfolding(sheet_spec::specs::Refusals::unless_refused))]
+pub fn bad_record(v: &[i32; SLOTS], shape: Shape, record: Record) -> Result<(), Refusal>
     requires { Small shape × HasRoom «record» }
-    ensures { result ≡ bad_numbers v.now shape «record» }
+    ensures { refusal_of result ≡ bad_numbers v.now shape «record» }
 {
-    let x = bad_fields(v, shape.vars, record);
-    first(x, closing(v, shape, record))
+    let n = Vars { count: shape.vars };
+    bad_fields(v, n, record)?;
+    closing(v, shape, record)
 }
 
 // The numbers of every record.
-pub fn bad_values(v: &[i32; SLOTS], shape: Shape) -> u8
+pub fn bad_values(v: &[i32; SLOTS], shape: Shape) -> Result<(), Refusal>
     requires { Small shape }
-    ensures { result ≡ bad_all (λ r. true) shape v.now (records shape) }
+    ensures { refusal_of result ≡ bad_all (λ r. true) shape v.now (records shape) }
 {
-    let count = record_count(shape);
-    let mut x: u8 = 0;
-    let mut r: usize = 0;
-    while r < count {
-        x = first(x, bad_record(v, shape, record_at(shape, r)));
-        r = r + 1;
+    for r in 0..record_count(shape) {
+        bad_record(v, shape, record_at(shape, r))?;
     }
-    x
+    Ok(())
 }

@@ -1,5 +1,5 @@
 -- What a buffer holds as the records are written to it: one after another, what was written to a part of it, and the answer. Assumes nothing.
-use mathlib.Core.Path.{◌≡◌, sym, ap, ap₂, ◌∙◌}
+use mathlib.Core.Path.{◌≡◌, refl, sym, ap, ap₂, ◌∙◌}
 use mathlib.Core.Bool.{true}
 use mathlib.Core.List.{List, ◌++◌, append_assoc, append-nil}
 use Prim.Native.Nat.{ℕ, ◌+◌, ◌-◌, ◌≤◌, ◌<◌}
@@ -15,7 +15,8 @@ use Rattle.sheet_spec.specs.Refusals.{Cause, number}
 use Rattle.sheet_spec.specs.Fields.{bad}
 use Rattle.sheet_spec.specs.declared.Shape.{Shape}
 use Rattle.sheet_spec.specs.declared.Record.{Record}
-use Rattle.sheet_spec.specs.Layout.{head_fields, fields, field_count}
+use Rattle.sheet_spec.specs.declared.Record.TheVariants.{Head}
+use Rattle.sheet_spec.specs.Layout.{◌▸◌, head_fields, fields, field_count}
 use Rattle.sheet_spec.specs.File.{shape, records, record_at, record_length, record_start, record_bytes, coded_all, bad_all}
 use Rattle.sheet_spec.specs.Sheet.{value_refusal, length_of, bytes_of}
 use Rattle.sheet_spec.specs.Written.{written_length, Wrote}
@@ -25,6 +26,8 @@ use Rattle.sheet_spec.proofs.Tests.{good_ranges, ranges_bad, value_good}
 use Rattle.sheet_spec.proofs.Answers.{WriteAnswer, write_bad, write_short, write_done}
 use Rattle.sheet_spec.proofs.Numbers.{length_coded}
 use Rattle.sheet_spec.proofs.Says.{length_coded_all}
+use Rattle.sheet_spec.proofs.Length.{record_size_lem}
+use Rattle.sheet_encoding.proofs.RecordTurn.{record_room}
 use Rattle.sheet_spec.proofs.RoundTrip.{length_bytes_of}
 use Rattle.sheet_writer.proofs.RecordTurn.{then}
 
@@ -41,6 +44,13 @@ record_next s v b r {x} {a} {t} is hu ha ht =
     then b 0 (record_start s r) (coded_all s v r) (record_bytes s.vars (record_at s r) v) (length_coded_all s v r) (ha ∙ sym (zero-add (record_start s r))) ht
     (hu ∙ ap (λ (y : Record). sets t a (record_bytes s.vars y v)) is)
     ∙ ap (λ (j : ℕ). sets b 0 (coded_all s v j)) (sym (add-one r))
+
+-- no sheet is empty
+pub some_length : (s : Shape) → 0 < record_start s (records s)
+unfolding record_start record_at ◌▸◌
+some_length s =
+    let room = record_room s 0 (records s) (record_start s (records s)) {x = Head} {a = 0} refl refl (omega arith) (omega arith) in
+    omega (arith, room, record_size_lem s.vars Head)
 
 -- ---- the part of s from a on, lent to a call and back
 

@@ -4,7 +4,7 @@ use mathlib.Core.List.{List, ◌++◌}
 use Prim.Native.Nat.{ℕ, zero, suc, ◌+◌}
 use native.Mathlib.Omega.{arith}
 use lib.IntN.{ℤ}
-use lib.ListN.{set, length}
+use lib.ListN.{length}
 use lib.Seq.{sets}
 use mir.Syntax.{w32}
 use mir.Val.{of_z}
@@ -12,10 +12,8 @@ use Rattle.integers.specs.Bytes.{be_bytes}
 use Rattle.integers.proofs.Lists.{sets_append}
 use Rattle.sheet_spec.specs.Slots.{◌!◌}
 use Rattle.sheet_spec.specs.Fields.{Kind, i32, Field, bytes_in, encoded, offset, coded}
-use Rattle.sheet_spec.specs.Sizes.{letters, coefficient_bytes}
-use Rattle.sheet_spec.specs.declared.Record.{Record}
-use Rattle.sheet_spec.specs.Layout.{coefficient_field, edge_field, mark, fields, field_count}
-use Rattle.sheet_spec.specs.File.{record_bytes}
+use Rattle.sheet_spec.specs.Sizes.{coefficient_bytes}
+use Rattle.sheet_spec.specs.Layout.{coefficient_field, edge_field}
 use Rattle.sheet_spec.proofs.Numbers.{length_coded}
 use Rattle.sheet_spec.proofs.FieldRuns.{FieldRun, coded_part}
 use Rattle.sheet_encoding.proofs.FieldTurn.{Coefficients}
@@ -71,9 +69,3 @@ pub edge_bytes : (k : ℕ) → bytes_in i32 ≡ bytes_in (edge_field k).kind
 unfolding edge_field
 edge_bytes zero = refl
 edge_bytes (suc k) = refl
-
--- ---- with its mark
-
-pub record_is : (n : ℕ) (x : Record) (v : List ℤ) (b : List ℕ) {p q : ℕ} {u : List ℕ} → u ≡ sets (set (set b 0 p) 1 q) letters (coded (fields n x) v (field_count n x)) → p ≡ (mark x).0 → q ≡ (mark x).1
-    → u ≡ sets b 0 (record_bytes n x v)
-record_is n x v b hu hp hq = hu ∙ ap₂ (λ (p q : ℕ). sets (set (set b 0 p) 1 q) letters (coded (fields n x) v (field_count n x))) hp hq

@@ -16,7 +16,7 @@ use sheet_encoding::marks::mark_of;
 use sheet_encoding::records::law_bytes;
 use sheet_spec::sizes::*;
 use sheet_spec::slots::*;
-use sheet_spec::{BandKind, Record, Shape};
+use sheet_spec::{BandKind, Record, Shape, Vars};
 
 // The head's numbers but for the caps.
 fn write_head(s: &mut [u8], v: &[i32; SLOTS])
@@ -34,44 +34,40 @@ fn write_head(s: &mut [u8], v: &[i32; SLOTS])
     put_i32(s, GREATEST_AT, v, GREATEST);
 }
 
-fn write_caps(s: &mut [u8], n: usize, v: &[i32; SLOTS])
-    requires { (n ≤ N) × (caps_at + cap_bytes n ≤ length s.old) }
+fn write_caps(s: &mut [u8], n: Vars, v: &[i32; SLOTS])
+    requires { caps_at + cap_bytes n ≤ length s.old }
     ensures { s.new ≡ sets s.old letters (coded head_fields v.now (head_size + n)) }
 {
     write_head(s, v);
-    let mut i: usize = 0;
-    while i < n {
+    for i in 0..n.count() {
         put_u16(s, CAPS_AT + U16 * i, v, FIRST_CAP + i);
-        i = i + 1;
     }
 }
 
 // The coefficients of a law or of a row.
-fn write_coefficients(s: &mut [u8], at: usize, n: usize, v: &[i32; SLOTS], slot: usize)
-    requires { (n ≤ N) × ((slot + N ≤ slots) × (at + coefficient_bytes n ≤ length s.old)) }
+fn write_coefficients(s: &mut [u8], at: usize, n: Vars, v: &[i32; SLOTS], slot: usize)
+    requires { (slot + N ≤ slots) × (at + coefficient_bytes n ≤ length s.old) }
     ensures { s.new ≡ sets s.old at (coded (coefficient_field slot) v.now n) }
 {
-    let mut j: usize = 0;
-    while j < n {
+    for j in 0..n.count() {
         put_u16(s, at + I16 * j, v, slot + j);
-        j = j + 1;
     }
 }
 
 // A law that follows the state.
-fn write_feedback(s: &mut [u8], at: usize, n: usize, v: &[i32; SLOTS], slot: usize)
-    requires { (n ≤ N) × ((slot + law_size ≤ slots) × (at + law_bytes Feedback n ≤ length s.old)) }
+fn write_feedback(s: &mut [u8], at: usize, n: Vars, v: &[i32; SLOTS], slot: usize)
+    requires { (slot + law_size ≤ slots) × (at + law_bytes Feedback n ≤ length s.old) }
     ensures { s.new ≡ sets s.old at (coded (law_fields n slot) v.now (law_count Feedback n)) }
 {
     write_coefficients(s, at, n, v, slot);
-    let rest = at + I16 * n;
+    let rest = at + I16 * n.count();
     put_i32(s, rest, v, slot + LAW_CONSTANT);
     put_u16(s, rest + DIVISOR_AT, v, slot + LAW_DIVISOR);
 }
 
 // The law of a band of a kind.
-fn write_law(s: &mut [u8], at: usize, n: usize, kind: BandKind, v: &[i32; SLOTS], slot: usize)
-    requires { (n ≤ N) × ((slot + law_size ≤ slots) × (at + law_bytes kind n ≤ length s.old)) }
+fn write_law(s: &mut [u8], at: usize, n: Vars, kind: BandKind, v: &[i32; SLOTS], slot: usize)
+    requires { (slot + law_size ≤ slots) × (at + law_bytes kind n ≤ length s.old) }
     ensures { s.new ≡ sets s.old at (coded (law_fields n slot) v.now (law_count kind n)) }
 {
     match kind {
@@ -80,20 +76,20 @@ fn write_law(s: &mut [u8], at: usize, n: usize, kind: BandKind, v: &[i32; SLOTS]
     }
 }
 
-fn write_row(s: &mut [u8], at: usize, n: usize, v: &[i32; SLOTS], slot: usize)
-    requires { (n ≤ N) × ((slot + row_size ≤ slots) × (at + row_bytes n ≤ length s.old)) }
+fn write_row(s: &mut [u8], at: usize, n: Vars, v: &[i32; SLOTS], slot: usize)
+    requires { (slot + row_size ≤ slots) × (at + row_bytes n ≤ length s.old) }
     ensures { s.new ≡ sets s.old at (coded (row_fields n slot) v.now (row_count n)) }
 {
     write_coefficients(s, at, n, v, slot);
-    let rest = at + I16 * n;
+    let rest = at + I16 * n.count();
     put_u16(s, rest, v, slot + ROW_B);
     put_i32(s, rest + C_AT, v, slot + ROW_C);
     put_i32(s, rest + D_AT, v, slot + ROW_D);
     put_u16(s, rest + Q_AT, v, slot + ROW_Q);
 }
 
-fn write_band(s: &mut [u8], n: usize, kind: BandKind, v: &[i32; SLOTS], k: usize)
-    requires { (n ≤ N) × ((k < max_bands) × (letters + band_bytes kind n ≤ length s.old)) }
+fn write_band(s: &mut [u8], n: Vars, kind: BandKind, v: &[i32; SLOTS], k: usize)
+    requires { (k < max_bands) × (letters + band_bytes kind n ≤ length s.old) }
     ensures { s.new ≡ sets s.old letters (coded (band_fields n kind k) v.now (band_count n kind)) }
 {
     let slot = FIRST_BAND + k * BAND_SIZE;
@@ -102,28 +98,24 @@ fn write_band(s: &mut [u8], n: usize, kind: BandKind, v: &[i32; SLOTS], k: usize
     put_i32(s, LETTERS + SAFETY_GREATEST_AT, v, slot + SAFETY_GREATEST);
     write_law(s, BAND_HEAD, n, kind, v, slot + LAW);
     let rows = BAND_HEAD + law_bytes(kind, n);
-    let mut i: usize = 0;
-    while i < n {
+    for i in 0..n.count() {
         write_row(
             s,
-            rows + i * (I16 * n + REST_BYTES),
+            rows + i * (I16 * n.count() + REST_BYTES),
             n,
             v,
             slot + FIRST_ROW + i * ROW_SIZE,
         );
-        i = i + 1;
     }
 }
 
-fn write_box(s: &mut [u8], n: usize, v: &[i32; SLOTS], slot: usize)
-    requires { (n ≤ N) × ((slot + box_size ≤ slots) × (letters + box_bytes n ≤ length s.old)) }
+fn write_box(s: &mut [u8], n: Vars, v: &[i32; SLOTS], slot: usize)
+    requires { (slot + box_size ≤ slots) × (letters + box_bytes n ≤ length s.old) }
     ensures { (h : ℕ) → s.new ≡ sets s.old letters (coded (box_fields h slot) v.now (box_count n)) }
 {
-    let mut i: usize = 0;
-    while i < n {
+    for i in 0..n.count() {
         put_i32(s, LETTERS + PAIR_BYTES * i, v, slot + i);
         put_i32(s, LETTERS + PAIR_BYTES * i + UPPER_AT, v, slot + i + N);
-        i = i + 1;
     }
 }
 
@@ -133,7 +125,7 @@ fn write_numbers(s: &mut [u8], shape: Shape, record: Record, v: &[i32; SLOTS])
     requires record_in_bounds { record_length shape.vars «record» ≤ length s.old }
     ensures { s.new ≡ sets s.old letters (coded (fields shape.vars «record») v.now (field_count shape.vars «record»)) }
 {
-    let n = shape.vars;
+    let n = Vars { count: shape.vars };
     match record {
         Record::Head => write_caps(s, n, v),
         Record::Band(kind, k) => write_band(s, n, kind, v, k),
@@ -148,8 +140,6 @@ pub fn write_record(s: &mut [u8], shape: Shape, record: Record, v: &[i32; SLOTS]
     requires record_in_bounds { record_length shape.vars «record» ≤ length s.old }
     ensures { s.new ≡ sets s.old 0 (record_bytes shape.vars «record» v.now) }
 {
-    let m = mark_of(record);
-    s[0] = m.first;
-    s[1] = m.second;
+    s[..LETTERS].copy_from_slice(&mark_of(record));
     write_numbers(s, shape, record, v);
 }

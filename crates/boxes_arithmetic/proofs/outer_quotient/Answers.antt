@@ -1,23 +1,30 @@
--- `outer_quotient` gives the outermost so far where the dividend is no further out than that times the divisor, and the clamped quotient
--- elsewhere. Assumes nothing.
-use Rattle.std.proofs.Common.{◌≡◌, sym, ap, ◌∙◌, subst, Bool, false, not, w64, FitsSigned, ℤ, neg_ℤ, nat_abs, ◌*ℤ◌}
+-- `outer_quotient` gives the outermost so far where the dividend is no further out than that times the divisor, the cap where it is at or beyond
+-- that times the divisor, and the quotient between them. Assumes nothing.
+use Rattle.std.proofs.Common.{◌≡◌, sym, ◌∙◌, Bool, not, rules, w64, FitsSigned, ℤ, neg_ℤ, ◌*ℤ◌, to_z, of_z}
 use Rattle.std.proofs.lemmas.Bool.{false≢true}
 use mir.Facts.{to_z-of_z}
-use Rattle.integers.proofs.Z.{le_false, bound_mul, fits64}
-use Rattle.machine_spec.specs.Machine.{clamp, outward_div}
+use Rattle.integers.proofs.Z.{bound_neg, bound_mul, fits64}
+use Rattle.machine_spec.specs.Machine.{clamp}
 use Rattle.machine_spec.specs.Rate.{neutral}
-use Rattle.boxes_arithmetic.specs.Limits.{CapAsked, QuotientAsked}
-use Rattle.boxes_arithmetic.specs.Outward.{no_further}
-use Rattle.boxes_arithmetic.proofs.Bounds.{between_bound}
-use Rattle.boxes_arithmetic.proofs.Quotient.{divisor_bound, cap_asked, below_most, above_least, outer_stays, outer_moves}
+use Rattle.boxes_arithmetic.specs.Limits.{QuotientAsked, WithinAsked}
+use Rattle.boxes_arithmetic.proofs.Bounds.{zero_less, between_bound}
+use Rattle.boxes_arithmetic.proofs.Command.{compared}
+use Rattle.boxes_arithmetic.proofs.Capped.{neutral_bound, most_bound, range, clamped_there, strictly_within}
+use Rattle.boxes_arithmetic.proofs.Quotient.{divisor_bound, outer_stays, outer_moves}
 use Rattle.boxes_arithmetic.proofs.outer_quotient.Goals as goal
 
 module _ {cap q z : ℤ} (asked : QuotientAsked cap q z) where
-  division : CapAsked cap q
-  division = cap_asked asked.capped asked.divisor
-
   product_fits : FitsSigned w64 (z *ℤ q)
   product_fits = fits64 (bound_mul (between_bound asked.capped.small asked.capped.between) (divisor_bound asked.divisor)) tt
+
+  negative_fits : FitsSigned w64 (neg_ℤ cap)
+  negative_fits = fits64 (bound_neg asked.capped.small) tt
+
+  most_fits : FitsSigned w64 (q *ℤ cap)
+  most_fits = fits64 (most_bound asked) tt
+
+  end_fits : (up : Bool) → FitsSigned w64 (neutral (not up) cap)
+  end_fits up = fits64 (neutral_bound (not up) asked.capped.small) tt
 
 -- the outermost so far
 pub returns-then-no_further : goal.returns-then-no_further
@@ -29,48 +36,40 @@ returns-then-no_further c =
       λ e. absurd (false≢true e),
     )
 
--- the dividend is further out: so it is above −divisor·cap for an upper face
-pub clamped_ceil-requires : goal.clamped_ceil-requires
-unfolding no_further
-clamped_ceil-requires c =
-    let a = c.args in
-    let said = simp (to_z-of_z, c.ranges.outermost, c.ranges.divisor, c.ranges.dividend, product_fits c.requires) at c.no_further.ensures in
-    let test = subst (λ (b : Bool). no_further b (a.outermost *ℤ a.divisor) a.dividend ≡ false) c.if-up.true (sym said ∙ c.if-no_further.false) in
-    simp (to_z-of_z, c.ranges.cap, c.ranges.dividend, c.ranges.divisor)
-    (division c.requires, above_least c.requires.capped a.dividend a.divisor c.requires.divisor.low (le_false a.dividend (a.outermost *ℤ a.divisor) test))
+pub is_clamped-requires : goal.is_clamped-requires
+is_clamped-requires c = simp (to_z-of_z, c.ranges.cap, c.ranges.divisor, most_fits c.requires) (most_bound c.requires)
 
--- and below divisor·cap for a lower face
-pub clamped_floor-requires : goal.clamped_floor-requires
-unfolding no_further
-clamped_floor-requires c =
+-- the cap
+pub returns-then-is_clamped : goal.returns-then-is_clamped
+returns-then-is_clamped c =
     let a = c.args in
-    let said = simp (to_z-of_z, c.ranges.outermost, c.ranges.divisor, c.ranges.dividend, product_fits c.requires) at c.no_further.ensures in
-    let test = subst (λ (b : Bool). no_further b (a.outermost *ℤ a.divisor) a.dividend ≡ false) c.if-up.false (sym said ∙ c.if-no_further.false) in
-    simp (to_z-of_z, c.ranges.cap, c.ranges.dividend, c.ranges.divisor)
-    (division c.requires, below_most c.requires.capped a.dividend a.divisor c.requires.divisor.low (le_false (a.outermost *ℤ a.divisor) a.dividend test))
+    let outside = simp (to_z-of_z, c.ranges.outermost, c.ranges.divisor, c.ranges.dividend, product_fits c.requires) at c.no_further.ensures in
+    let beyond = simp (to_z-of_z, c.ranges.cap, c.ranges.divisor, c.ranges.dividend, most_fits c.requires) at c.is_clamped.ensures in
+    let end = simp (to_z-of_z, c.ranges.cap) at c.neutral.ensures in
+    let end_is : to_z w64 (of_z w64 c.neutral.result) ≡ neutral (not a.up) a.cap = rw end (to_z-of_z (end_fits c.requires a.up)) in
+    let moves = outer_moves a.up a.cap a.outermost a.dividend a.divisor c.requires.capped c.requires.divisor.low (sym outside ∙ c.if-no_further.false) in
+    (end_is ∙ (sym (clamped_there c.requires a.up a.dividend (sym beyond ∙ c.if-is_clamped.true)) ∙ moves), λ e. end_is)
 
--- the clamped quotient is the outer one: an upper face
-pub returns-then-up : goal.returns-then-up
-unfolding outward_div neutral
-returns-then-up c =
+pub outward_div-requires : goal.outward_div-requires
+outward_div-requires c =
     let a = c.args in
-    let said = simp (to_z-of_z, c.ranges.outermost, c.ranges.divisor, c.ranges.dividend, product_fits c.requires) at c.no_further.ensures in
-    let moved = outer_moves a.up a.cap a.outermost a.dividend a.divisor c.requires.capped c.requires.divisor.low (sym said ∙ c.if-no_further.false) in (
-      c.clamped_ceil.ensures.0
-          ∙ simp (to_z-of_z, c.ranges.cap, c.ranges.dividend, c.ranges.divisor)
-          (ap (λ (b : Bool). clamp a.cap (outward_div b a.dividend (nat_abs a.divisor))) (sym c.if-up.true) ∙ moved),
-      λ e. c.clamped_ceil.ensures.1 e ∙ to_z-of_z c.ranges.cap ∙ ap (λ (b : Bool). neutral (not b) a.cap) (sym c.if-up.true),
-    )
+    let outside = simp (to_z-of_z, c.ranges.outermost, c.ranges.divisor, c.ranges.dividend, product_fits c.requires) at c.no_further.ensures in
+    let beyond = simp (to_z-of_z, c.ranges.cap, c.ranges.divisor, c.ranges.dividend, most_fits c.requires) at c.is_clamped.ensures in
+    simp (to_z-of_z, c.ranges.cap, c.ranges.divisor, c.ranges.dividend, zero_less, negative_fits c.requires)
+    (strictly_within c.requires a.up a.dividend (sym outside ∙ c.if-no_further.false) (sym beyond ∙ c.if-is_clamped.false))
 
--- a lower face
-pub returns-else-up : goal.returns-else-up
-unfolding outward_div neutral
-returns-else-up c =
+-- the quotient
+pub returns : goal.returns
+unfolding clamp
+returns c =
     let a = c.args in
-    let said = simp (to_z-of_z, c.ranges.outermost, c.ranges.divisor, c.ranges.dividend, product_fits c.requires) at c.no_further.ensures in
-    let moved = outer_moves a.up a.cap a.outermost a.dividend a.divisor c.requires.capped c.requires.divisor.low (sym said ∙ c.if-no_further.false) in (
-      c.clamped_floor.ensures.0
-          ∙ simp (to_z-of_z, c.ranges.cap, c.ranges.dividend, c.ranges.divisor)
-          (ap (λ (b : Bool). clamp a.cap (outward_div b a.dividend (nat_abs a.divisor))) (sym c.if-up.false) ∙ moved),
-      λ e. c.clamped_floor.ensures.1 e ∙ ap neg_ℤ (to_z-of_z c.ranges.cap) ∙ ap (λ (b : Bool). neutral (not b) a.cap) (sym c.if-up.false),
+    let outside = simp (to_z-of_z, c.ranges.outermost, c.ranges.divisor, c.ranges.dividend, product_fits c.requires) at c.no_further.ensures in
+    let beyond = simp (to_z-of_z, c.ranges.cap, c.ranges.divisor, c.ranges.dividend, most_fits c.requires) at c.is_clamped.ensures in
+    let moves = outer_moves a.up a.cap a.outermost a.dividend a.divisor c.requires.capped c.requires.divisor.low (sym outside ∙ c.if-no_further.false) in
+    let inner : WithinAsked (neg_ℤ a.cap) a.cap a.dividend a.divisor = strictly_within c.requires a.up a.dividend (sym outside ∙ c.if-no_further.false) (sym beyond ∙ c.if-is_clamped.false) in
+    let fits : FitsSigned w64 c.outward_div.result = search rules in (
+      to_z-of_z fits
+          ∙ (c.outward_div.ensures ∙ simp (to_z-of_z, c.ranges.dividend, c.ranges.divisor)
+          (sym ((compared (range c.requires) a.up a.dividend).between inner.above inner.below) ∙ moves)),
+      λ e. absurd (false≢true e),
     )

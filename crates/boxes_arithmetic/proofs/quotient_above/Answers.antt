@@ -37,20 +37,14 @@ overflow_cast-quotient c =
     simp (to_z-of_z, c.ranges.dividend, c.ranges.divisor, c.ranges.base, base_fits a, moved_fits a)
     (unsigned (c.args.dividend -ℤ c.args.divisor *ℤ c.args.base) (moved_low a) (moved_bound a))
 
-pub overflow_cast-result : goal.overflow_cast-result
-overflow_cast-result c =
-    let a = c.requires in
-    simp (to_z-of_z, c.ranges.dividend, c.ranges.divisor, c.ranges.base, base_fits a, moved_fits a)
-    (fits64 (quotient_near a) tt)
-
 pub overflow_add-result : goal.overflow_add-result
 overflow_add-result c =
     let a = c.requires in
-    simp (to_z-of_z, c.ranges.dividend, c.ranges.divisor, c.ranges.base, base_fits a, moved_fits a, wide a)
+    simp (to_z-of_z, c.from.ensures, c.ranges.dividend, c.ranges.divisor, c.ranges.base, base_fits a, moved_fits a, wide a)
     (back_fits a)
 
 pub returns : goal.returns
 returns c =
     let a = c.requires in
-    simp (to_z-of_z, c.ranges.dividend, c.ranges.divisor, c.ranges.base, base_fits a, moved_fits a, wide a, back_fits a)
+    simp (to_z-of_z, c.from.ensures, c.ranges.dividend, c.ranges.divisor, c.ranges.base, base_fits a, moved_fits a, wide a, back_fits a)
     (moved_back c.args.base c.args.dividend c.args.divisor a.divisor.low (moved_low a))

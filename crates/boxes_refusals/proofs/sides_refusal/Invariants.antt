@@ -4,7 +4,4 @@ use Rattle.boxes_spec.specs.Reach.{sides_refusal}
 use Rattle.boxes_refusals.proofs.sides_refusal.Given as goal
 
 abbrev pub invariant-loop-i : goal.invariant-loop-i
-invariant-loop-i l = record { below : l.i ≤ l.n; pass : sides_refusal l.i l.start ≡ 0 }
-
-abbrev pub decreases-loop-i : goal.decreases-loop-i
-decreases-loop-i l = l.n - l.i
+invariant-loop-i l = sides_refusal l.i l.start ≡ 0

@@ -7,12 +7,13 @@ use Rattle.machine_spec.proofs.InPlace.{trim_as}
 use Rattle.machine_spec.proofs.Facts.{room}
 use Rattle.machine_spec.proofs.Inside.{inside_refl, inside_within}
 use Rattle.machine_spec.proofs.Ranges.{near_less, near_as, rates_near}
+use Rattle.boxes_step.specs.Allowance.{is_limited, allowed}
 use Rattle.boxes_step.proofs.Bounds.{grown_near, grown_holds}
 use Rattle.boxes_step.proofs.Turn.{settles_first, rounding_starts, rounding_ends, rounding_exhausted, rounding_settles, rounding_on}
 use Rattle.boxes_step.proofs.rounds.Goals as goal
 
-pub loop-left-init : goal.loop-left-init
-loop-left-init c =
+pub loop-init : goal.loop-init
+loop-init c =
     let asked = c.requires in
     let a = c.args in
     record {
@@ -21,37 +22,19 @@ loop-left-init c =
       rates = asked.rates;
       holds = ap (within (vars a.sheet.now) a.start.now) asked.work ∙ inside_within (inside_refl a.start.now);
       near = near_as asked.work (near_less (omega arith) asked.start.near);
-      rounding = rounding_starts a.budget.limited a.budget.allowance _ a.ticks a.count asked.work;
+      rounding = rounding_starts (is_limited a.allowance) (allowed a.allowance) _ a.ticks a.count asked.work;
       first = λ one. asked.work;
     }
 
 -- no round is left
 pub returns-then-is_exhausted : goal.returns-then-is_exhausted
 returns-then-is_exhausted c =
-    let inv = c.loop-left.invariant in
+    let inv = c.loop.invariant in
     record {
-      same = rounding_exhausted inv.rounding c.loop-left-test.true _ c.is_exhausted.ensures _ c.if-is_exhausted.true;
+      same = rounding_exhausted inv.rounding (omega arith) _ c.is_exhausted.ensures _ c.if-is_exhausted.true;
       trimmed = inv.trimmed;
       rates = inv.rates;
     }
-
-pub round-settled-requires : goal.round-settled-requires
-round-settled-requires c =
-    let asked = c.requires in
-    let inv = c.loop-left.invariant in
-    record {
-      plant = asked.plant;
-      some = asked.some;
-      most = asked.most;
-      start = asked.start.ordered;
-      holds = inv.holds;
-      work = inv.near;
-      trimmed = inv.trimmed;
-      first = inv.first;
-    }
-
-pub overflow_add-counted : goal.overflow_add-counted
-overflow_add-counted c = omega (arith, c.requires.counts, c.loop-left.invariant.counts)
 
 -- the round settled
 pub returns-then-settled : goal.returns-then-settled
@@ -59,30 +42,30 @@ returns-then-settled c =
     let a = c.args in
     let done = c.round-settled.ensures in
     record {
-      same = rounding_settles c.loop-left.invariant.rounding c.loop-left-test.true _ c.is_exhausted.ensures c.if-is_exhausted.false _ done.settled _ done.rated c.if-settled.true;
+      same = rounding_settles c.loop.invariant.rounding (omega arith) _ c.is_exhausted.ensures c.if-is_exhausted.false _ done.settled _ done.rated c.if-settled.true;
       trimmed = done.trimmed;
-      rates = near_as done.rated (rates_near c.requires.plant.sheet a.plant.law a.start.now a.ticks c.loop-left.work);
+      rates = near_as done.rated (rates_near c.requires.plant.sheet a.plant.law a.start.now a.ticks c.loop.work);
     }
 
-pub loop-left-preserved : goal.loop-left-preserved
-loop-left-preserved c =
+pub loop-preserved : goal.loop-preserved
+loop-preserved c =
     let a = c.args in
     let asked = c.requires in
-    let inv = c.loop-left.invariant in
+    let inv = c.loop.invariant in
     let done = c.round-settled.ensures in
     let grew = done.grew c.if-settled.false in
     record {
       counts = omega (arith, inv.counts);
       trimmed = done.trimmed;
-      rates = near_as done.rated (rates_near asked.plant.sheet a.plant.law a.start.now a.ticks c.loop-left.work);
+      rates = near_as done.rated (rates_near asked.plant.sheet a.plant.law a.start.now a.ticks c.loop.work);
       holds = ap (within _ a.start.now) grew ∙ grown_holds _ asked.plant.sheet a.start.now _ a.ticks inv.holds;
       near = near_as grew (grown_near _ asked.plant.sheet a.ticks (omega (arith, asked.most)) asked.start.near inv.near);
-      rounding = rounding_on inv.rounding c.loop-left-test.true _ c.is_exhausted.ensures c.if-is_exhausted.false _ done.settled _ grew c.if-settled.false;
+      rounding = rounding_on inv.rounding (omega arith) _ c.is_exhausted.ensures c.if-is_exhausted.false _ done.settled _ grew c.if-settled.false;
       first = λ one. absurd (differ (done.settled ∙ settles_first _ a.start.now a.ticks (room asked.plant.sheet) one (inv.first one)) c.if-settled.false);
     }
 
 -- eight rounds did not settle
 pub returns : goal.returns
 returns c =
-    let inv = c.loop-left.invariant in
+    let inv = c.loop.invariant in
     record { same = rounding_ends inv.rounding _ (omega arith); trimmed = inv.trimmed; rates = inv.rates }

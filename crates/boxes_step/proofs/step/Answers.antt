@@ -1,6 +1,7 @@
 -- `step` does what the definition's step does. Assumes nothing.
-use Rattle.std.proofs.Common.{refl, arith}
-use Rattle.machine_spec.proofs.Ranges.{sized_less}
+use Rattle.std.proofs.Common.{rules, ◌≡◌, Err, refl, arith}
+use Rattle.boxes_step.specs.Allowance.{is_limited, allowed}
+use Rattle.boxes_step.specs.declared.StepFault.TheVariants.{Unsettled}
 use Rattle.boxes_step.proofs.Bounds.{halving_count}
 use Rattle.boxes_step.proofs.Turn.{halving_starts, halving_ends, halving_finest, halving_on}
 use Rattle.boxes_step.proofs.step.Goals as goal
@@ -14,22 +15,7 @@ loop-after-init c =
       counts = omega arith;
       work = asked.work;
       rates = asked.rates;
-      halving = halving_starts a.budget.limited a.budget.allowance _ _ a.width a.count asked.some;
-    }
-
-pub rounds-r-requires : goal.rounds-r-requires
-rounds-r-requires c =
-    let asked = c.requires in
-    let inv = c.loop-after.invariant in
-    record {
-      plant = asked.plant;
-      some = inv.halving.some;
-      most = omega (arith, inv.shorter, asked.most);
-      counts = omega (arith, inv.counts, inv.halving.some, asked.counts);
-      start = sized_less (omega (arith, inv.shorter)) asked.start;
-      trimmed = asked.trimmed;
-      work = inv.work;
-      rates = inv.rates;
+      halving = halving_starts (is_limited a.allowance) (allowed a.allowance) _ _ a.width a.count asked.some;
     }
 
 -- the rounds settled, or none was left
@@ -37,7 +23,16 @@ pub returns-in_default : goal.returns-in_default
 returns-in_default c =
     let done = c.rounds-r.ensures in
     record {
-      same = halving_ends c.loop-after.invariant.halving c.rounds-r.result _ done.same c.in_default.not-Unsettled;
+      same = halving_ends c.loop-after.invariant.halving c.rounds-r.result _ done.same (λ i q. search rules);
+      trimmed = done.trimmed;
+      rates = done.rates;
+    }
+
+pub returns-in_default-2 : goal.returns-in_default-2
+returns-in_default-2 c =
+    let done = c.rounds-r.ensures in
+    record {
+      same = halving_ends c.loop-after.invariant.halving c.rounds-r.result _ done.same (λ i q. search rules);
       trimmed = done.trimmed;
       rates = done.rates;
     }
@@ -47,23 +42,21 @@ pub returns-then-ticks-le1 : goal.returns-then-ticks-le1
 returns-then-ticks-le1 c =
     let done = c.rounds-r.ensures in
     record {
-      same = halving_finest c.loop-after.invariant.halving c.rounds-r.result _ done.same c.in-Unsettled.after c.in-Unsettled.is c.if-ticks-le1.true;
+      same = halving_finest c.loop-after.invariant.halving c.rounds-r.result _ done.same c.in-Err-Unsettled.after (search rules) c.if-ticks-le1.true;
       trimmed = done.trimmed;
       rates = done.rates;
     }
-
-pub loop-after-smaller : goal.loop-after-smaller
-loop-after-smaller c = omega arith
 
 pub loop-after-preserved : goal.loop-after-preserved
 loop-after-preserved c =
     let done = c.rounds-r.ensures in
     let inv = c.loop-after.invariant in
-    let counted = halving_count inv.halving c.rounds-r.result _ done.same c.in-Unsettled.after c.in-Unsettled.is in
+    let unsettled : c.rounds-r.result ≡ Err (Unsettled c.in-Err-Unsettled.after) = search rules in
+    let counted = halving_count inv.halving c.rounds-r.result _ done.same c.in-Err-Unsettled.after unsettled in
     record {
       shorter = omega (arith, inv.shorter);
       counts = omega (arith, counted, inv.counts);
       work = refl;
       rates = done.rates;
-      halving = halving_on inv.halving c.rounds-r.result _ done.same c.in-Unsettled.after c.in-Unsettled.is c.if-ticks-le1.false;
+      halving = halving_on inv.halving c.rounds-r.result _ done.same c.in-Err-Unsettled.after unsettled c.if-ticks-le1.false;
     }

@@ -5,6 +5,7 @@ use Rattle.sheet_spec.specs.Limits.{max_cap}
 use Rattle.sheet_spec.specs.Slots.{vars}
 use Rattle.machine_spec.specs.Box.{Near}
 use Rattle.machine_spec.specs.Machine.{machine}
+use Rattle.boxes_step.specs.Allowance.{is_limited, allowed}
 use Rattle.boxes_step.proofs.Turn.{Halving}
 use Rattle.boxes_step.proofs.step.Given as goal
 
@@ -14,7 +15,7 @@ invariant-loop-after l = record {
   counts : l.counted + 8 * l.ticks ≤ l.count + 8 * l.width;
   work : l.work ≡ l.start;
   rates : Near (vars l.sheet) max_cap l.face_rates;
-  halving : Halving l.budget.limited l.budget.allowance (machine l.sheet l.plant.law) l.start l.width l.count l.ticks l.counted;
+  halving : Halving (is_limited l.allowance) (allowed l.allowance) (machine l.sheet l.plant.law) l.start l.width l.count l.ticks l.counted;
 }
 
 abbrev pub decreases-loop-after : goal.decreases-loop-after

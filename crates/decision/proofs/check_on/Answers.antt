@@ -1,4 +1,4 @@
--- `check_on`: the attempts of the plan are the definition's, and no allowance stops them. Assumes nothing.
+-- `check_on`: the attempts of the phase are the definition's, and no allowance stops them. Assumes nothing.
 use Rattle.std.proofs.Common.{◌≡◌, ℕ, sym, ap, ◌∙◌, arith, List, ℤ}
 use Rattle.sheet_spec.specs.Slots.{vars, recovery_box}
 use Rattle.machine_spec.specs.Box.{trim}
@@ -7,6 +7,7 @@ use Rattle.machine_spec.proofs.Ranges.{sized_as}
 use Rattle.decision_spec.specs.Decision.{ticks_of}
 use Rattle.boxes_spec.proofs.Ranges.{recovery_sized}
 use Rattle.decision_spec.proofs.Allowance.{recovery_of_unspent}
+use Rattle.decision_answers.proofs.Unspent.{as_check_unspent}
 use Rattle.decision.proofs.Answer.{plan_checks}
 use Rattle.decision.proofs.check_on.Goals as goal
 
@@ -26,19 +27,14 @@ attempts-requires c =
       start = sized_as start_is (recovery_sized sheet);
       trimmed = trim_as _ start_is trimmed;
       phases = omega arith;
-      among = omega arith;
       laws = (tt, tt);
       ticks = omega (arith, ρ_is, sheet.ρ_high);
       some = omega (arith, ρ_is, sheet.ρ_low);
       most = omega (arith, ρ_is, sheet.ρ_high);
     }
 
-pub recovery_of-requires : goal.recovery_of-requires
-recovery_of-requires c = λ w d e.
-    let answered = c.attempts.ensures ∙ plan_checks c.args.sheet.now (start c.args.sheet.now c.box_at-recovery.ensures c.count.ensures ∙ c.requires.1) c.count-ticks.ensures in
-    recovery_of_unspent c.requires.0 (sym answered ∙ e)
-
 pub returns : goal.returns
 returns c =
-    c.recovery_of.ensures ∙ c.attempts.ensures
-    ∙ plan_checks c.args.sheet.now (start c.args.sheet.now c.box_at-recovery.ensures c.count.ensures ∙ c.requires.1) c.count-ticks.ensures
+    let start_is = start c.args.sheet.now c.box_at-recovery.ensures c.count.ensures ∙ c.requires.1 in
+    let answered = c.attempts.ensures ∙ plan_checks c.args.sheet.now start_is c.count-ticks.ensures in
+    c.from.ensures ∙ as_check_unspent _ (λ w d e. recovery_of_unspent c.requires.0 (sym answered ∙ e)) ∙ answered

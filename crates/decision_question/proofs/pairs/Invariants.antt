@@ -1,10 +1,7 @@
--- `pairs`: after i turns, the box of the first i pairs. Measure: the pairs left. Assumes nothing.
-use Rattle.std.proofs.Common.{◌≡◌, ◌≤◌, ◌-◌}
+-- `pairs`: after i turns, the box of the first i pairs. Assumes nothing.
+use Rattle.std.proofs.Common.{◌≡◌}
 use Rattle.decision_spec.specs.Question.{pairs}
 use Rattle.decision_question.proofs.pairs.Given as goal
 
 abbrev pub invariant-loop-i : goal.invariant-loop-i
-invariant-loop-i l = record { below : l.i ≤ l.n; read : l.sides ≡ pairs l.i l.bytes l.at }
-
-abbrev pub decreases-loop-i : goal.decreases-loop-i
-decreases-loop-i l = l.n - l.i
+invariant-loop-i l = l.sides ≡ pairs l.i l.bytes l.at

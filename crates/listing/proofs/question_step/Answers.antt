@@ -1,38 +1,35 @@
--- `question_step` is the next question's step: it ends the listing, or puts the line of the question's bytes. Assumes nothing.
-use Rattle.std.proofs.Common.{◌≡◌, Bool, ℕ, ◌-◌, take, refl, ap, ◌∙◌, add-one, arith}
-use mathlib.Core.Path.{ap₂}
-use borrow.Author.Tests.{lt-ltb, le-ltb}
-use Rattle.sheet_spec.specs.Slots.{vars}
-use Rattle.sheet_spec.specs.Sheet.{values}
-use Rattle.decision_spec.specs.Question.{kind_of, known, next_length}
+-- `question_step` is the next question's step: it puts the line of the question's bytes, or ends the listing. Assumes nothing.
+use Rattle.std.proofs.Common.{rules, ◌≡◌, true, false, length, refl, ap, ◌∙◌, arith}
+use lib.Dec.{ltb}
+use Rattle.std.proofs.lemmas.Bool.Decides.{nat_tests}
 use Rattle.decision_spec.specs.Listing.{question_line}
-use Rattle.listing_text.proofs.Puts.{put_as}
-use Rattle.listing.specs.ListingSteps.{question_step}
-use Rattle.listing.proofs.ListingSteps.{ended, step_closed, step_none, step_some, listed_as}
+use Rattle.listing.specs.ListingSteps.{ended, question_step}
+use Rattle.listing.proofs.ListingSteps.{step_closed, step_none, step_some, listed_as}
 use Rattle.listing.proofs.question_step.Goals as goal
-use Rattle.listing.proofs.question_step.Goals.{else-before-via-then-before+else-bytes-gt0, else-before-via-else-before}
+use Rattle.listing.proofs.question_step.Goals.{in_default-via-in-Some+else-not-is_empty, in_default-via-in_default}
 
-pub returns-then-bytes-gt0-clause-listed_as : goal.returns-then-bytes-gt0-clause-listed_as
-returns-then-bytes-gt0-clause-listed_as c =
+pub returns-in-Some-clause-listed_as : goal.returns-in-Some-clause-listed_as
+unfolding question_line
+returns-in-Some-clause-listed_as c =
     let args = c.args in
-    let size = c.question_length-taken.ensures in
-    let line = c.question_line-end.ensures in
-    let known_is : c.is_known.result ≡ known (kind_of args.bytes.now) = c.is_known.ensures ∙ ap known c.kind.ensures in
-    let part : c.question_length-taken.result - 0 ≡ next_length (vars (values args.sheet.now)) args.bytes.now = omega (arith, size.0) in
-    listed_as (step_some args.sheet.now args.before args.bytes.now c.if-before.true (lt-ltb 0 _ c.if-bytes-gt0.true))
+    let size = c.question_length-taken.ensures.0 in
+    let some : ltb 0 (length args.bytes.now) ≡ true = grind (arith, nat_tests) in
+    let step = ap (λ n. question_step args.sheet.now n args.bytes.now) c.in-Some.is in
+    listed_as (step ∙ step_some args.sheet.now c.in-Some.ordinal args.bytes.now some)
     (record {
-      line = put_as (ap (λ (n : ℕ). question_line args.sheet.now args.before.ordinal (take n args.bytes.now)) part) line.0;
-      room = line.1;
-      taken = size.0;
-      next = ap₂ (λ (i : ℕ) (more : Bool). record { ordinal = i; more = more }) (add-one args.before.ordinal) known_is;
+      line = rw (c.decide.ensures.result_value, size) at c.put_question_line.ensures;
+      taken = size;
+      next = search rules;
     })
 
-pub returns-clause-listed_as : goal.returns-clause-listed_as
-returns-clause-listed_as c =
+pub returns-in_default-clause-listed_as : goal.returns-in_default-clause-listed_as
+returns-in_default-clause-listed_as c =
     let args = c.args in
-    let e : question_step args.sheet.now args.before args.bytes.now ≡ ended args.before.ordinal =
-    elim c.else-before.branch [
-      | else-before-via-then-before+else-bytes-gt0 w ↦ step_none args.sheet.now args.before args.bytes.now w.if-before.true (le-ltb 0 _ w.if-bytes-gt0.false)
-      | else-before-via-else-before w ↦ step_closed args.sheet.now args.before args.bytes.now w.if-before.false
+    let e : question_step args.sheet.now args.next args.bytes.now ≡ ended =
+    elim c.in_default.branch [
+      | in_default-via-in-Some+else-not-is_empty w ↦
+          let none : ltb 0 (length args.bytes.now) ≡ false = grind (arith, nat_tests) in
+          ap (λ n. question_step args.sheet.now n args.bytes.now) w.in-Some.is ∙ step_none args.sheet.now w.in-Some.ordinal args.bytes.now none
+      | in_default-via-in_default w ↦ ap (λ n. question_step args.sheet.now n args.bytes.now) w.in_default.is ∙ step_closed args.sheet.now args.bytes.now
     ] in
-    listed_as e (record { line = record { ends = refl; is = refl }; room = omega arith; taken = refl; next = refl })
+    listed_as e (record { line = c.clear.ensures; taken = refl; next = refl })

@@ -4,4 +4,7 @@ use Rattle.listing_text.proofs.Puts.{then}
 use Rattle.listing_lines.proofs.put_verdict.Goals as goal
 
 pub returns : goal.returns
-returns c = (then c.put-first.ensures (then c.put_field-second.ensures.0 c.put_field.ensures.0), omega arith)
+returns c =
+    let width = rw c.from.ensures at c.put_field.ensures.0 in
+    let rounds = rw c.from-2.ensures at c.put_field-2.ensures.0 in
+    (then c.put.ensures (then width rounds), omega arith)

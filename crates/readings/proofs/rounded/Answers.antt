@@ -1,6 +1,6 @@
 -- `rounded`: floor or ceiling by the sign and the whole part, which is small enough to be negated. Assumes nothing.
-use Rattle.std.proofs.Common.{rules, ◌≡◌, ℕ, ◌<◌, ◌^◌, Bool, true, false, sym, ◌∙◌, arith, ℤ, pos, w64, to_z, of_z}
-use mir.Facts.{to_z-of_z, to_z_pos}
+use Rattle.std.proofs.Common.{rules, ◌≡◌, ℕ, ◌<◌, ◌^◌, Bool, true, false, sym, ◌∙◌, arith, ℤ, pos, neg_ℤ, ◌-ℤ◌, w64, to_z, of_z}
+use mir.Facts.{to_z-of_z}
 use Rattle.integers.proofs.Z.{told}
 use Rattle.readings.proofs.Rounding.{farther, up_positive, down_positive, up_negative, down_negative, minus_fits, minus_is}
 use Rattle.readings.proofs.rounded.Goals as goal
@@ -10,35 +10,36 @@ farther_small : (whole : ℕ) (exact : Bool) → whole < 2 ^ 32 → farther whol
 farther_small whole true h = omega arith
 farther_small whole false h = omega arith
 
--- what `away` gave, as the code reads it back
-far_read : (R : ℤ) (f : ℕ) → f < 2 ^ 33 → R ≡ pos f → to_z w64 (of_z w64 R) ≡ pos f
-far_read R f h e = rw e (told w64 (pos f) (omega arith))
+-- a part as the code reads it back, and its negative
+read : (R : ℤ) (f : ℕ) → f < 2 ^ 33 → R ≡ pos f → to_z w64 (of_z w64 R) ≡ pos f
+read R f h e = rw e (told w64 (pos f) (omega arith))
 
-pub returns-then-ceiling : goal.returns-then-ceiling
-returns-then-ceiling c =
-    let w = c.parts_of-p.result.whole in
-    let small : w < 2 ^ 32 = search rules in
-    rw (c.if-ceiling.true, to_z_pos w64 {n = w} (omega arith), to_z-of_z (minus_fits w (omega arith)))
-    (minus_is w ∙ sym (up_negative c.args.x c.parts_of-p.result c.parts_of-p.ensures c.if-p.true))
+negative : (R : ℤ) (f : ℕ) → f < 2 ^ 33 → R ≡ pos f → to_z w64 (of_z w64 (pos 0 -ℤ to_z w64 (of_z w64 R))) ≡ neg_ℤ (pos f)
+negative R f h e = rw (read R f h e, to_z-of_z (minus_fits f h)) (minus_is f)
 
-pub returns-then-p : goal.returns-then-p
-returns-then-p c =
-    let r = c.parts_of-p.result in
+pub returns-in-true-true : goal.returns-in-true-true
+returns-in-true-true c =
+    let r = c.parts_of-parts.result in
     let small : r.whole < 2 ^ 32 = search rules in
-    let few = farther_small r.whole r.exact small in
-    rw (c.if-ceiling.false, far_read c.away-far.result (farther r.whole r.exact) few c.away-far.ensures, to_z-of_z (minus_fits (farther r.whole r.exact) few))
-    (minus_is (farther r.whole r.exact) ∙ sym (down_negative c.args.x r c.parts_of-p.ensures c.if-p.true))
+    rw c.in-true-true.is-1 (negative c.near-near.result r.whole (omega arith) c.near-near.ensures ∙ sym (up_negative c.args.x r c.parts_of-parts.ensures c.in-true-true.is-0))
 
-pub returns-then-ceiling-2 : goal.returns-then-ceiling-2
-returns-then-ceiling-2 c =
-    let r = c.parts_of-p.result in
+pub returns-in-true-false : goal.returns-in-true-false
+returns-in-true-false c =
+    let r = c.parts_of-parts.result in
+    rw c.in-true-false.is-1
+    (negative c.far-far.result (farther r.whole r.exact) (farther_small r.whole r.exact (search rules)) c.far-far.ensures
+    ∙ sym (down_negative c.args.x r c.parts_of-parts.ensures c.in-true-false.is-0))
+
+pub returns-in-false-true : goal.returns-in-false-true
+returns-in-false-true c =
+    let r = c.parts_of-parts.result in
+    rw c.in-false-true.is-1
+    (read c.far-far.result (farther r.whole r.exact) (farther_small r.whole r.exact (search rules)) c.far-far.ensures
+    ∙ sym (up_positive c.args.x r c.parts_of-parts.ensures c.in-false-true.is-0))
+
+pub returns-in-false-false : goal.returns-in-false-false
+returns-in-false-false c =
+    let r = c.parts_of-parts.result in
     let small : r.whole < 2 ^ 32 = search rules in
-    rw c.if-ceiling-2.true
-    (far_read c.away-far.result (farther r.whole r.exact) (farther_small r.whole r.exact small) c.away-far.ensures
-    ∙ sym (up_positive c.args.x r c.parts_of-p.ensures c.if-p.false))
-
-pub returns : goal.returns
-returns c =
-    let w = c.parts_of-p.result.whole in
-    let small : w < 2 ^ 32 = search rules in
-    rw c.if-ceiling-2.false (to_z_pos w64 {n = w} (omega arith) ∙ sym (down_positive c.args.x c.parts_of-p.result c.parts_of-p.ensures c.if-p.false))
+    rw c.in-false-false.is-1
+    (read c.near-near.result r.whole (omega arith) c.near-near.ensures ∙ sym (down_positive c.args.x r c.parts_of-parts.ensures c.in-false-false.is-0))

@@ -1,39 +1,44 @@
--- `bad_file`: the record of each turn lies within the file, and its mark and its numbers are tested. Assumes nothing.
-use Rattle.std.proofs.Common.{◌<◌, refl, ap₂, ◌∙◌, arith}
+-- `bad_file`: each record lies within the file, and its mark and its numbers are tested. Assumes nothing.
+use Rattle.std.proofs.Common.{refl, sym, ◌∙◌, arith}
 use Rattle.sheet_spec.specs.Refusals.{first_refusal}
-use Rattle.sheet_spec.specs.File.{bad_all, marked, marked_at, records, record_start}
-use Rattle.sheet_encoding.proofs.RecordTurn.{bad_is, bad_more, has_room, record_room, start_more}
+use Rattle.sheet_spec.specs.File.{bad_all}
+use Rattle.sheet_spec.proofs.Laws.{refused}
+use Rattle.sheet_encoding.proofs.PlacesTurn.{placed}
+use Rattle.sheet_encoding.proofs.RecordTurn.{has_room, record_room}
+use Rattle.std.proofs.lemmas.Result.{err_from_is_err_and}
+use Rattle.sheet_reader.proofs.RecordTests.{passed, wrong_mark, wrong_numbers}
 use Rattle.sheet_reader.proofs.bad_file.Goals as goal
 
-pub loop-r-init : goal.loop-r-init
-unfolding record_start bad_all first_refusal
-loop-r-init c = (omega arith, (refl, refl))
+pub loop-record-init : goal.loop-record-init
+unfolding bad_all first_refusal
+loop-record-init c = rw (c.into_iter-record-iterator.ensures.into_iter_gives, c.record_places-record-items.ensures.first) (c.record_places-record-items.ensures.shape, refl)
 
-pub bad_record-numbers-requires : goal.bad_record-numbers-requires
-bad_record-numbers-requires c = (c.requires.0, has_room _ _ c.record_at-record.ensures c.requires.0 (omega (arith, c.record_count-count.ensures)))
+pub marked-requires : goal.marked-requires
+marked-requires c =
+    let p = placed c.loop-record.invariant.0 c.in-Some.ensures.steps.1.0 in
+    omega (arith, record_room _ _ _ _ p.is p.start p.below c.requires.1)
 
-pub marked-right-requires : goal.marked-right-requires
-marked-right-requires c =
-    let h : c.loop-r.r < records c.args.shape = omega (arith, c.record_count-count.ensures) in
-    let m = record_room _ _ _ _ c.record_at-record.ensures c.loop-r.invariant.1.0 h c.requires.1 in
-    omega (arith, m)
+pub returns-then-not-marked : goal.returns-then-not-marked
+returns-then-not-marked c =
+    let i = c.loop-record.invariant in
+    let p = placed i.0 c.in-Some.ensures.steps.1.0 in
+    wrong_mark _ _ _ _ p.is p.start i.1 p.below (sym c.marked.ensures ∙ c.if-not-marked.true)
 
-pub overflow_add-at : goal.overflow_add-at
-overflow_add-at c =
-    let h : c.loop-r.r < records c.args.shape = omega (arith, c.record_count-count.ensures) in
-    let m = record_room _ _ _ _ c.record_at-record.ensures c.loop-r.invariant.1.0 h c.requires.1 in
-    omega (arith, c.record_length-length.ensures, m)
+pub bad_record-requires : goal.bad_record-requires
+bad_record-requires c =
+    let p = placed c.loop-record.invariant.0 c.in-Some.ensures.steps.1.0 in
+    (c.requires.0, has_room _ _ p.is c.requires.0 p.below)
 
-pub loop-r-preserved : goal.loop-r-preserved
-loop-r-preserved c =
-    let a = c.args in
-    let is = c.record_at-record.ensures in
-    let i = c.loop-r.invariant.1 in
-    let right = c.marked-right.ensures ∙ ap₂ (marked a.f.now) i.0 is in (
-      omega arith,
-      (
-        start_more _ _ is c.record_length-length.ensures i.0 refl,
-        bad_more a.shape c.loop-r.r (marked_at a.shape a.f.now) a.v.now c.first-x.ensures i.1
-            (bad_is _ _ is (marked_at a.shape a.f.now) a.v.now right c.bad_record-numbers.ensures c.wrong.ensures),
-      ),
-    )
+pub returns-in_err-bad_record : goal.returns-in_err-bad_record
+returns-in_err-bad_record c =
+    let i = c.loop-record.invariant in
+    let p = placed i.0 c.in-Some.ensures.steps.1.0 in
+    let e = err_from_is_err_and c.from_residual.result c.from_residual.ensures.1 in
+    rw (e.1, e.2) (wrong_numbers _ _ _ _ p.is p.start i.1 p.below (sym c.marked.ensures ∙ c.if-not-marked.false) c.in_err-bad_record.ensures (refused _))
+
+pub loop-record-preserved : goal.loop-record-preserved
+loop-record-preserved c =
+    let i = c.loop-record.invariant in
+    let e = c.in-Some.ensures.steps in
+    let p = placed i.0 e.1.0 in
+    (e.0 ∙ i.0, rw e.1.1 (passed _ _ _ _ p.is p.start i.1 (sym c.marked.ensures ∙ c.if-not-marked.false) c.in_ok-bad_record.ensures))

@@ -3,12 +3,13 @@ use Rattle.std.proofs.Common.{◌≡◌, ℕ, ◌+◌, ◌<◌, Bool, true, fals
 use lib.ListN.{get_or-eq_default}
 use Rattle.sheet_spec.specs.declared.BandKind.TheVariants.{Feedback, Fixed}
 use Rattle.sheet_spec.specs.declared.Record.TheVariants.{Band}
-use Rattle.sheet_spec.specs.Sizes.{cap_bytes, caps_at, letters, vars_at}
+use Rattle.sheet_spec.specs.Sizes.{cap_bytes, caps_at, letters}
 use Rattle.sheet_spec.specs.File.{marked}
 use Rattle.sheet_spec.specs.Sheet.{kind_of}
 use Rattle.sheet_spec.proofs.BandKinds.{kind_by_mark}
 use Rattle.sheet_encoding.proofs.ReaderAnswer.{vars_read}
 use Rattle.sheet_reader.proofs.kind_of.Goals as goal
+use Rattle.sheet_reader.proofs.kind_of.Goals.{else-at-f-via-then-at-f+else-marked, else-at-f-via-else-at-f}
 
 never : (t : Bool) → t && false ≡ false
 never true = refl
@@ -25,17 +26,14 @@ unmarked : (f : List ℕ) (n : ℕ) → marked f (caps_at + cap_bytes n) (Band F
 unfolding kind_of
 unmarked f n e = rw (kind_of, e) refl
 
-pub returns-then-f-at : goal.returns-then-f-at
-returns-then-f-at c =
+pub returns-then-marked : goal.returns-then-marked
+returns-then-marked c =
     let f = c.args.f.now in
-    unmarked f (get_or f vars_at 0) (short _ _ c.if-f-at.true) ∙ ap (kind_of f) (sym (vars_read f c.requires))
+    sym (kind_by_mark f _ Feedback 0 (sym c.marked.ensures ∙ c.if-marked.true)) ∙ ap (kind_of f) (c.from.ensures ∙ sym (vars_read f c.requires))
 
-pub returns-then-follows : goal.returns-then-follows
-returns-then-follows c =
+pub returns-else-at-f : goal.returns-else-at-f
+returns-else-at-f c =
     let f = c.args.f.now in
-    sym (kind_by_mark f (get_or f vars_at 0) Feedback 0 (sym c.marked-follows.ensures ∙ c.if-follows.true)) ∙ ap (kind_of f) (sym (vars_read f c.requires))
-
-pub returns : goal.returns
-returns c =
-    let f = c.args.f.now in
-    unmarked f (get_or f vars_at 0) (sym c.marked-follows.ensures ∙ c.if-follows.false) ∙ ap (kind_of f) (sym (vars_read f c.requires))
+    let none : marked f (caps_at + cap_bytes c.from.result) (Band Feedback 0) ≡ false =
+    elim c.else-at-f.branch [ else-at-f-via-then-at-f+else-marked w ↦ sym w.marked.ensures ∙ w.if-marked.false | else-at-f-via-else-at-f w ↦ short _ _ w.if-at-f.false ] in
+    unmarked f _ none ∙ ap (kind_of f) (c.from.ensures ∙ sym (vars_read f c.requires))

@@ -2,6 +2,7 @@
 use Rattle.std.proofs.Common.{◌≡◌, ℕ, ◌*◌, ◌+◌, sym, ap, ◌∙◌, arith}
 use Rattle.sheet_spec.specs.Slots.{law_slot, row_slot, law_in_band}
 use Rattle.sheet_spec.specs.Fields.{filled}
+use Rattle.sheet_spec.specs.Sizes.{row_bytes}
 use Rattle.sheet_spec.specs.Layout.{band_fields, law_fields, law_count, row_fields, row_count}
 use Rattle.sheet_spec.proofs.FieldRuns.{filled_run}
 use Rattle.sheet_spec.proofs.FieldPlaces.{law_run, row_next, row_run}
@@ -15,13 +16,11 @@ loop-i-preserved c =
     let a = c.args in
     let n = a.n in
     let i = c.loop-i.i in
-    let f = a.f.now in (
-      omega arith,
-      λ b w r h.
-          filled_run (band_fields n b a.k) (row_fields n (row_slot a.k i)) (law_in_band + (law_count b n + i * row_count n)) (row_count n) (row_run n b a.k i) f a.at w c.read_row.ensures
-          (omega (arith, row_offset n b a.k i)) (c.loop-i.invariant.1 b w r h)
-          ∙ ap (λ (j : ℕ). filled (band_fields n b a.k) f a.at j w) (row_next n b i),
-    )
+    let f = a.f.now in
+    λ b w r h.
+    filled_run (band_fields n b a.k) (row_fields n (row_slot a.k i)) (law_in_band + (law_count b n + i * row_count n)) (row_count n) (row_run n b a.k i) f a.at w c.read_row.ensures
+    (omega (arith, row_offset n b a.k i, ap (λ (k : ℕ). i * row_bytes k) c.count.ensures.0)) (c.loop-i.invariant b w r h)
+    ∙ ap (λ (j : ℕ). filled (band_fields n b a.k) f a.at j w) (row_next n b i)
 
 pub returns : goal.returns
 returns c =
@@ -35,5 +34,5 @@ returns c =
     (rw (stored c.get_i32.ensures c.get_i32.type_inv, stored c.get_i32-2.ensures c.get_i32-2.type_inv, stored c.get_i32-3.ensures c.get_i32-3.type_inv)
     (sym (band_filled n b a.k f a.at v))) in
     let e : c.loop-i.i ≡ n = omega arith in
-    c.loop-i.invariant.1 b v (omega (arith, c.law_bytes.ensures)) law
+    c.loop-i.invariant b v (omega (arith, c.law_bytes.ensures)) law
     ∙ ap (λ (i : ℕ). filled (band_fields n b a.k) f a.at (law_in_band + (law_count b n + i * row_count n)) v) e

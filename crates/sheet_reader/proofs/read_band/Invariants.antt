@@ -1,6 +1,6 @@
 -- `read_band`: a band's edge and safety range, its law, and its rows. The invariant: the first i rows were read, whatever the kind of a band
--- whose rows start there. The measure: the rows left. Assumes nothing.
-use Rattle.std.proofs.Common.{◌≡◌, ◌+◌, ◌*◌, ◌-◌, ◌≤◌, List, ℤ}
+-- whose rows start there. Assumes nothing.
+use Rattle.std.proofs.Common.{◌≡◌, ◌+◌, ◌*◌, List, ℤ}
 use Rattle.sheet_spec.specs.declared.BandKind.{BandKind}
 use Rattle.sheet_spec.specs.Slots.{law_in_band}
 use Rattle.sheet_spec.specs.Sizes.{rows_at}
@@ -10,9 +10,5 @@ use Rattle.sheet_reader.proofs.read_band.Given as goal
 
 abbrev pub invariant-loop-i : goal.invariant-loop-i
 invariant-loop-i l =
-    (l.i ≤ l.n)
-    × ((b : BandKind) (w : List ℤ) → l.rows ≡ l.at + rows_at b l.n → l.initial.v ≡ filled (band_fields l.n b l.k) l.f l.at (law_in_band + law_count b l.n) w
-    → l.v ≡ filled (band_fields l.n b l.k) l.f l.at (law_in_band + (law_count b l.n + l.i * row_count l.n)) w)
-
-abbrev pub decreases-loop-i : goal.decreases-loop-i
-decreases-loop-i l = l.n - l.i
+    (b : BandKind) (w : List ℤ) → l.rows ≡ l.at + rows_at b l.n → l.initial.v ≡ filled (band_fields l.n b l.k) l.f l.at (law_in_band + law_count b l.n) w
+    → l.v ≡ filled (band_fields l.n b l.k) l.f l.at (law_in_band + (law_count b l.n + l.i * row_count l.n)) w

@@ -10,14 +10,12 @@ use Rattle.sheet_reader.proofs.read_coefficients.Goals as goal
 
 pub loop-j-init : goal.loop-j-init
 unfolding filled
-loop-j-init c = (omega arith, refl)
+loop-j-init c = refl
 
 pub loop-j-preserved : goal.loop-j-preserved
 loop-j-preserved c =
     let a = c.args in
     let j = c.loop-j.j in
-    let p = coefficient_field a.slot in (
-      omega arith,
-      filled_next p j (j + 1) refl (p j) refl a.f.now a.at a.v.now (a.at + coefficient_bytes j)
-          refl (stored c.get_i16.ensures c.get_i16.type_inv) (omega (arith, coefficient_place a.slot j)) c.loop-j.invariant.1,
-    )
+    let p = coefficient_field a.slot in
+    filled_next p j (j + 1) refl (p j) refl a.f.now a.at a.v.now (a.at + coefficient_bytes j)
+    refl (stored c.get_i16.ensures c.get_i16.type_inv) (omega (arith, coefficient_place a.slot j)) c.loop-j.invariant

@@ -13,9 +13,10 @@ unfolding law_rest ◌▸◌ offset
 returns c =
     let a = c.args in
     let n = a.n in
+    let k = c.count.result in
     let f = a.f.now in
     let v = a.v.now in
     let parts = law_parts n a.slot in
-    filled_rest parts divisor_in_law f a.at v (a.at + coefficient_bytes n + divisor_at) (omega arith) (stored c.get_u16.ensures c.get_u16.type_inv) (omega arith)
-    (filled_rest parts constant_in_law f a.at v (a.at + coefficient_bytes n) (omega arith) (stored c.get_i32.ensures c.get_i32.type_inv) (omega arith)
+    filled_rest parts divisor_in_law f a.at v (a.at + coefficient_bytes k + divisor_at) (omega (arith, c.count.ensures.0)) (stored c.get_u16.ensures c.get_u16.type_inv) (omega (arith, c.count.ensures.0))
+    (filled_rest parts constant_in_law f a.at v (a.at + coefficient_bytes k) (omega (arith, c.count.ensures.0)) (stored c.get_i32.ensures c.get_i32.type_inv) (omega (arith, c.count.ensures.0))
     (filled_coefficients parts f a.at v c.read_coefficients.ensures))

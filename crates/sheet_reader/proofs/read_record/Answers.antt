@@ -21,22 +21,22 @@ module _ {y x : Record} (is : y ≡ x) where
   those n f at v h = h ∙ ap (λ (z : Record). filled (fields n z) f at (field_count n z) v) (sym is)
 
 pub read_caps-requires : goal.read_caps-requires
-read_caps-requires c = (c.requires.small.0.vars, ends c.in-Head.is _ _ _ c.requires.record_in_bounds)
+read_caps-requires c = ends c.in-Head.is _ _ _ c.requires.record_in_bounds
 
 pub read_band-requires : goal.read_band-requires
 read_band-requires c =
     let h = ends c.in-Band.is _ _ _ c.requires.record_in_bounds in
-    (c.requires.small.0.vars, (room c.in-Band.is c.requires.small.1, omega (arith, h)))
+    (room c.in-Band.is c.requires.small.1, omega (arith, h))
 
 pub read_box-requires : goal.read_box-requires
 read_box-requires c =
     let h = ends c.in-Unsafe.is _ _ _ c.requires.record_in_bounds in
-    (c.requires.small.0.vars, (omega (arith, room c.in-Unsafe.is c.requires.small.1), omega (arith, h)))
+    (omega (arith, room c.in-Unsafe.is c.requires.small.1), omega (arith, h))
 
 pub read_box-requires-in-Recovery : goal.read_box-requires-in-Recovery
 read_box-requires-in-Recovery c =
     let h = ends c.in-Recovery.is _ _ _ c.requires.record_in_bounds in
-    (c.requires.small.0.vars, (omega arith, omega (arith, h)))
+    (omega arith, omega (arith, h))
 
 pub returns-in-Head : goal.returns-in-Head
 unfolding fields

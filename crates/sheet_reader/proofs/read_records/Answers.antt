@@ -1,31 +1,27 @@
--- `read_records`: the record of each turn lies within the file, and the next starts at its end. Assumes nothing.
-use Rattle.std.proofs.Common.{◌<◌, refl, arith}
-use Rattle.sheet_spec.specs.File.{filled_all, records, record_start}
-use Rattle.sheet_encoding.proofs.RecordTurn.{filled_more, has_room, record_room, start_more}
+-- `read_records`: each record lies within the file. Assumes nothing.
+use Rattle.std.proofs.Common.{refl, ◌∙◌}
+use Rattle.sheet_spec.specs.File.{filled_all}
+use Rattle.sheet_encoding.proofs.PlacesTurn.{placed}
+use Rattle.sheet_encoding.proofs.RecordTurn.{filled_more, has_room, record_room}
 use Rattle.sheet_reader.proofs.read_records.Goals as goal
 
-pub loop-r-init : goal.loop-r-init
-unfolding record_start filled_all
-loop-r-init c = (omega arith, (refl, refl))
+pub loop-record-init : goal.loop-record-init
+unfolding filled_all
+loop-record-init c = rw (c.into_iter-record-iterator.ensures.into_iter_gives, c.record_places-record-items.ensures.first) (c.record_places-record-items.ensures.shape, refl)
 
 pub read_record-requires-clause-small : goal.read_record-requires-clause-small
-read_record-requires-clause-small c = (c.requires.0, has_room _ _ c.record_at-record.ensures c.requires.0 (omega (arith, c.record_count-count.ensures)))
+read_record-requires-clause-small c =
+    let p = placed c.loop-record.invariant.0 c.in-Some.ensures.steps.1.0 in
+    (c.requires.0, has_room _ _ p.is c.requires.0 p.below)
 
 pub read_record-requires-clause-record_in_bounds : goal.read_record-requires-clause-record_in_bounds
 read_record-requires-clause-record_in_bounds c =
-    let h : c.loop-r.r < records c.args.shape = omega (arith, c.record_count-count.ensures) in
-    record_room _ _ _ _ c.record_at-record.ensures c.loop-r.invariant.1.0 h c.requires.1
+    let p = placed c.loop-record.invariant.0 c.in-Some.ensures.steps.1.0 in
+    record_room _ _ _ _ p.is p.start p.below c.requires.1
 
-pub overflow_add-at : goal.overflow_add-at
-overflow_add-at c =
-    let h : c.loop-r.r < records c.args.shape = omega (arith, c.record_count-count.ensures) in
-    let m = record_room _ _ _ _ c.record_at-record.ensures c.loop-r.invariant.1.0 h c.requires.1 in
-    omega (arith, c.record_length-at.ensures, m)
-
-pub loop-r-preserved : goal.loop-r-preserved
-loop-r-preserved c =
-    let is = c.record_at-record.ensures in
-    let i = c.loop-r.invariant.1 in (
-      omega arith,
-      (start_more _ _ is c.record_length-at.ensures i.0 refl, filled_more _ _ is c.args.f.now c.args.v.now c.read_record.ensures i.0 i.1),
-    )
+pub loop-record-preserved : goal.loop-record-preserved
+loop-record-preserved c =
+    let i = c.loop-record.invariant in
+    let e = c.in-Some.ensures.steps in
+    let p = placed i.0 e.1.0 in
+    (e.0 ∙ i.0, rw e.1.1 (filled_more _ _ p.is c.args.f.now c.args.v.now c.read_record.ensures p.start i.1))

@@ -13,11 +13,12 @@ unfolding row_rest ◌▸◌ offset
 returns c =
     let a = c.args in
     let n = a.n in
+    let k = c.count.result in
     let f = a.f.now in
     let v = a.v.now in
     let parts = row_parts n a.slot in
-    filled_rest parts q_in_rest f a.at v (a.at + coefficient_bytes n + q_at) (omega arith) (stored c.get_u16.ensures c.get_u16.type_inv) (omega arith)
-    (filled_rest parts d_in_rest f a.at v (a.at + coefficient_bytes n + d_at) (omega arith) (stored c.get_i32-2.ensures c.get_i32-2.type_inv) (omega arith)
-    (filled_rest parts c_in_rest f a.at v (a.at + coefficient_bytes n + c_at) (omega arith) (stored c.get_i32.ensures c.get_i32.type_inv) (omega arith)
-    (filled_rest parts b_in_rest f a.at v (a.at + coefficient_bytes n) (omega arith) (stored c.get_i16.ensures c.get_i16.type_inv) (omega arith)
+    filled_rest parts q_in_rest f a.at v (a.at + coefficient_bytes k + q_at) (omega (arith, c.count.ensures.0)) (stored c.get_u16.ensures c.get_u16.type_inv) (omega (arith, c.count.ensures.0))
+    (filled_rest parts d_in_rest f a.at v (a.at + coefficient_bytes k + d_at) (omega (arith, c.count.ensures.0)) (stored c.get_i32-2.ensures c.get_i32-2.type_inv) (omega (arith, c.count.ensures.0))
+    (filled_rest parts c_in_rest f a.at v (a.at + coefficient_bytes k + c_at) (omega (arith, c.count.ensures.0)) (stored c.get_i32.ensures c.get_i32.type_inv) (omega (arith, c.count.ensures.0))
+    (filled_rest parts b_in_rest f a.at v (a.at + coefficient_bytes k) (omega (arith, c.count.ensures.0)) (stored c.get_i16.ensures c.get_i16.type_inv) (omega (arith, c.count.ensures.0))
     (filled_coefficients parts f a.at v c.read_coefficients.ensures))))

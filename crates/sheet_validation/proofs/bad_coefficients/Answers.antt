@@ -1,22 +1,19 @@
 -- `bad_coefficients`: the coefficients of a law or of a row, one after another. Assumes nothing.
-use Rattle.std.proofs.Common.{◌≡◌, ◌∙◌, ◌+◌, ap, refl, arith}
-use Rattle.sheet_spec.proofs.FieldRuns.{bad_next}
-use Rattle.sheet_spec.specs.Fields.{bad}
+use Rattle.std.proofs.Common.{◌≡◌, ◌+◌, ℕ, List, ℤ, refl, rules}
+use Rattle.sheet_spec.proofs.FieldRuns.{bad_none, bad_next, bad_stop}
+use Rattle.sheet_spec.specs.Fields.{test, bad}
 use Rattle.sheet_spec.specs.Layout.{coefficient_field}
-use Rattle.sheet_spec.specs.Refusals.{first_refusal}
 use Rattle.sheet_validation.proofs.bad_coefficients.Goals as goal
 
+-- one coefficient more
+next : (v : List ℤ) (s j : ℕ) {y : ℕ} → 0 ≡ bad (coefficient_field s) v j → y ≡ test v (coefficient_field s j) → y ≡ bad (coefficient_field s) v (j + 1)
+next v s j = bad_next (coefficient_field s) j (j + 1) refl (coefficient_field s j) refl v
+
 pub loop-j-init : goal.loop-j-init
-unfolding bad first_refusal
-loop-j-init c = (omega arith, refl)
+loop-j-init c = search (rules, bad_none)
+
+pub returns-in_err-in_range : goal.returns-in_err-in_range
+returns-in_err-in_range c = search (rules, bad_stop (coefficient_field c.args.slot) c.args.v.now (c.loop-j.j + 1), next)
 
 pub loop-j-preserved : goal.loop-j-preserved
-loop-j-preserved c =
-    let j = c.loop-j.j in
-    let p = coefficient_field c.args.slot in
-    (omega arith, bad_next p j (j + 1) refl (p j) refl c.args.v.now (c.after-x.ensures (p j) refl refl refl refl) c.loop-j.invariant.1)
-
-pub returns : goal.returns
-returns c =
-    let e : c.loop-j.j ≡ c.args.n = omega arith in
-    c.loop-j.invariant.1 ∙ ap (bad (coefficient_field c.args.slot) c.args.v.now) e
+loop-j-preserved c = search (rules, next)

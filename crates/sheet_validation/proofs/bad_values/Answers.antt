@@ -1,31 +1,26 @@
 -- `bad_values`: the tests of every record. Assumes nothing.
-use Rattle.std.proofs.Common.{◌≡◌, ◌∙◌, ◌<◌, true, ap, refl, sym, arith}
-use Rattle.sheet_encoding.proofs.RecordTurn.{bad_is, bad_more, has_room}
+use Rattle.std.proofs.Common.{◌≡◌, ◌+◌, ◌<◌, ℕ, ℤ, List, true, refl, sym, arith, rules}
+use Rattle.sheet_encoding.proofs.RecordTurn.{bad_is, bad_none, bad_next, bad_stop, has_room}
 use Rattle.sheet_spec.proofs.Laws.{goes_on}
-use Rattle.sheet_spec.specs.File.{bad_all, records}
-use Rattle.sheet_spec.specs.Refusals.{first_refusal}
+use Rattle.sheet_spec.specs.File.{records, record_at, bad_numbers, bad_record}
+use Rattle.sheet_spec.specs.declared.Record.{Record}
+use Rattle.sheet_spec.specs.declared.Shape.{Shape}
 use Rattle.sheet_validation.proofs.bad_values.Goals as goal
 
+-- the marks are not in question
+unmarked : (v : List ℤ) (s : Shape) (r : ℕ) {x : Record} → x ≡ record_at s r → {y : ℕ} → y ≡ bad_numbers v s x → y ≡ bad_record (λ r. true) s v r
+unmarked v s r is e = bad_is s r is (λ r. true) v refl e (sym (goes_on (λ c. c) _ refl))
+
 pub loop-r-init : goal.loop-r-init
-unfolding bad_all first_refusal
-loop-r-init c = (omega arith, refl)
+loop-r-init c = search (rules, bad_none)
 
 pub bad_record-requires : goal.bad_record-requires
 bad_record-requires c =
-    let l : c.loop-r.r < records c.args.shape = omega (arith, c.record_count-count.ensures) in
+    let l : c.loop-r.r < records c.args.shape = omega (arith, c.record_count-r-end.ensures) in
     (c.requires, has_room _ _ c.record_at.ensures c.requires l)
 
-pub loop-r-preserved : goal.loop-r-preserved
-loop-r-preserved c =
-    let s = c.args.shape in
-    let v = c.args.v.now in
-    let r = c.loop-r.r in (
-      omega arith,
-      bad_more s r (λ r. true) v c.first-x.ensures c.loop-r.invariant.1
-          (bad_is s r c.record_at.ensures (λ r. true) v refl c.bad_record.ensures (sym (goes_on (λ c. c) _ refl))),
-    )
+pub returns-in_err-bad_record : goal.returns-in_err-bad_record
+returns-in_err-bad_record c = search (rules, bad_stop c.args.shape (λ r. true) c.args.v.now (c.loop-r.r + 1), bad_next, unmarked)
 
-pub returns : goal.returns
-returns c =
-    let e : c.loop-r.r ≡ records c.args.shape = omega (arith, c.record_count-count.ensures) in
-    c.loop-r.invariant.1 ∙ ap (bad_all (λ r. true) c.args.shape c.args.v.now) e
+pub loop-r-preserved : goal.loop-r-preserved
+loop-r-preserved c = search (rules, bad_next, unmarked)

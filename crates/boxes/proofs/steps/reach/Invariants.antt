@@ -4,6 +4,7 @@ use Rattle.std.proofs.Common.{◌≡◌, ◌≤◌, ◌+◌, ◌*◌}
 use Rattle.sheet_spec.specs.Slots.{vars}
 use Rattle.machine_spec.specs.Box.{Sized, trim}
 use Rattle.boxes_step.specs.Limits.{step_limit}
+use Rattle.boxes_step.specs.Allowance.{is_limited, allowed}
 use Rattle.boxes.specs.ReachPlan.{machine_on, clear_on}
 use Rattle.boxes.proofs.Turn.{Reaching}
 use Rattle.boxes.proofs.steps.reach.Given as goal
@@ -18,7 +19,7 @@ invariant-loop-left l = record {
   swept : trim (vars l.sheet) l.swept ≡ l.swept;
   path : trim (vars l.sheet) l.path ≡ l.path;
   sized : Sized (vars l.sheet) (step_limit l.left) l.end;
-  reaching : Reaching l.plan.budget.limited l.plan.budget.allowance (machine_on l.plan l.sheet) (clear_on l.plan l.sheet) l.plan.width l.fn.end l.ticks l.count l.end l.swept l.left l.counted;
+  reaching : Reaching (is_limited l.plan.allowance) (allowed l.plan.allowance) (machine_on l.plan l.sheet) (clear_on l.plan l.sheet) l.plan.width l.fn.end l.ticks l.count l.end l.swept l.left l.counted;
 }
 
 abbrev pub decreases-loop-left : goal.decreases-loop-left

@@ -26,7 +26,7 @@ returns-clause-baseline_term c =
     let end = c.end_over-command.ensures.feedback_end in
     let end_fits : FitsSigned w64 c.end_over-command.result = fits64 end.near tt in
     let product_near = c.product.ensures.1 in
-    let chosen : c.outer_is_greatest-end.result ≡ outer_end a.up b false true = c.outer_is_greatest-end.ensures ∙ simp (to_z-of_z, c.ranges.coefficient) in
+    let chosen : c.outer_end-end.result ≡ outer_end a.up b false true = c.outer_end-end.ensures ∙ simp (to_z-of_z, c.ranges.coefficient) in
     rw (to_z-of_z (fits64 product_near tt)) (record {
       same = λ k p.
           c.product.ensures.0

@@ -1,9 +1,10 @@
 -- `narrow` cuts the working box off at its reach from the start's face. Assumes nothing.
-use Rattle.std.proofs.Common.{rules, true, false, FitsSigned, w64, ◌+ℤ◌, ◌-ℤ◌}
+use Rattle.std.proofs.Common.{refl, rules, true, false, FitsSigned, w64, ◌+ℤ◌, ◌-ℤ◌}
 use mir.Facts.{to_z-of_z}
 use Rattle.integers.proofs.Z.{bound_sum, bound_sub, fits64}
 use Rattle.sheet_spec.specs.Box.{lo, hi}
 use Rattle.machine_spec.specs.Rate.{neighborhood}
+use Rattle.boxes_arithmetic.proofs.Order.{int_min_is, int_max_is}
 use Rattle.boxes_rates.proofs.rate.narrow.Goals as goal
 
 pub overflow_sub-start : goal.overflow_sub-start
@@ -26,7 +27,8 @@ returns-then-up c =
     let old : FitsSigned w64 (lo c.args.work.now c.args.i) = search rules in
     let cut : FitsSigned w64 (hi c.args.start.now c.args.i -ℤ c.args.reach) = fits64 (bound_sub (c.requires.start true) c.requires.near) tt in
     let new : FitsSigned w64 c.max.result = search rules in
-    rw (c.if-up.true, to_z-of_z new, c.max.ensures) (simp (to_z-of_z, c.ranges.reach, cut, side, old))
+    let is = simp (to_z-of_z, c.ranges.reach, cut, side, old) at c.max.ensures.value in
+    rw (c.if-up.true, to_z-of_z new, is, int_max_is (lo c.args.work.now c.args.i) (hi c.args.start.now c.args.i -ℤ c.args.reach)) refl
 
 -- a lower face
 pub returns-else-up : goal.returns-else-up
@@ -36,4 +38,5 @@ returns-else-up c =
     let old : FitsSigned w64 (hi c.args.work.now c.args.i) = search rules in
     let cut : FitsSigned w64 (lo c.args.start.now c.args.i +ℤ c.args.reach) = fits64 (bound_sum (c.requires.start false) c.requires.near) tt in
     let new : FitsSigned w64 c.min.result = search rules in
-    rw (c.if-up.false, to_z-of_z new, c.min.ensures) (simp (to_z-of_z, c.ranges.reach, cut, side, old))
+    let is = simp (to_z-of_z, c.ranges.reach, cut, side, old) at c.min.ensures.value in
+    rw (c.if-up.false, to_z-of_z new, is, int_min_is (hi c.args.work.now c.args.i) (lo c.args.start.now c.args.i +ℤ c.args.reach)) refl

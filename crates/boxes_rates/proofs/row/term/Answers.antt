@@ -6,13 +6,13 @@ use Rattle.integers.specs.Bound.{Bound}
 use Rattle.integers.proofs.Z.{up32, bound_of, bound_mul, fits64}
 use Rattle.sheet_spec.specs.Slots.{◌!◌, N, box_size}
 use Rattle.boxes_arithmetic.specs.Limits.{word}
-use Rattle.boxes_rates.specs.Limits.{TermAsked, outer_place}
+use Rattle.boxes_rates.specs.Limits.{TermAsked, outer_end}
 use Rattle.boxes_rates.proofs.Terms.{outer_end_one, outer_product}
 use Rattle.boxes_rates.proofs.row.term.Goals as goal
 
 -- the side at the place that is chosen
-module _ (up : Bool) {a : ℤ} (fits : FitsSigned w32 a) {B : List ℤ} {j place : ℕ} (asked : TermAsked B j) (chosen : place ≡ outer_place up (to_z w32 (of_z w32 a)) j) where
-  place_is : place ≡ outer_place up a j
+module _ (up : Bool) {a : ℤ} (fits : FitsSigned w32 a) {B : List ℤ} {j place : ℕ} (asked : TermAsked B j) (chosen : place ≡ outer_end up (to_z w32 (of_z w32 a)) j (j + N)) where
+  place_is : place ≡ outer_end up a j (j + N)
   place_is = rw (to_z-of_z fits) at chosen
 
   below : place < box_size
@@ -25,20 +25,20 @@ module _ (up : Bool) {a : ℤ} (fits : FitsSigned w32 a) {B : List ℤ} {j place
   product_fits = fits64 (bound_mul (bound_of fits) near) tt
 
 pub offset_bounds-over-place : goal.offset_bounds-over-place
-offset_bounds-over-place c = let room = below c.args.up c.ranges.coefficient c.requires c.outer_place-place.ensures in search rules
+offset_bounds-over-place c = let room = below c.args.up c.ranges.coefficient c.requires c.outer_end-place.ensures in search rules
 
 pub bounds-over-place : goal.bounds-over-place
-bounds-over-place c = below c.args.up c.ranges.coefficient c.requires c.outer_place-place.ensures
+bounds-over-place c = below c.args.up c.ranges.coefficient c.requires c.outer_end-place.ensures
 
 pub overflow_mul-result : goal.overflow_mul-result
 overflow_mul-result c =
-    let side : FitsSigned w64 (c.args.over.now ! c.outer_place-place.result) = search rules in
-    simp (to_z-of_z, c.ranges.coefficient, up32 c.ranges.coefficient, side) (product_fits c.args.up c.ranges.coefficient c.requires c.outer_place-place.ensures)
+    let side : FitsSigned w64 (c.args.over.now ! c.outer_end-place.result) = search rules in
+    simp (to_z-of_z, c.ranges.coefficient, up32 c.ranges.coefficient, side) (product_fits c.args.up c.ranges.coefficient c.requires c.outer_end-place.ensures)
 
 pub returns : goal.returns
 returns c =
-    let side : FitsSigned w64 (c.args.over.now ! c.outer_place-place.result) = search rules in
-    let chosen = c.outer_place-place.ensures in
+    let side : FitsSigned w64 (c.args.over.now ! c.outer_end-place.result) = search rules in
+    let chosen = c.outer_end-place.ensures in
     simp (to_z-of_z, c.ranges.coefficient, up32 c.ranges.coefficient, side, product_fits c.args.up c.ranges.coefficient c.requires chosen)
     (ap (λ (k : ℕ). c.args.coefficient *ℤ (c.args.over.now ! k)) (place_is c.args.up c.ranges.coefficient c.requires chosen)
     ∙ outer_product c.args.coefficient (λ (k : ℕ). c.args.over.now ! k) c.args.j (c.args.j + N) c.requires.ordered c.args.up)

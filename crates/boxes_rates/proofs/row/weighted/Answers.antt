@@ -14,7 +14,7 @@ use Rattle.boxes_rates.proofs.row.weighted.Goals as goal
 
 pub loop-j-init : goal.loop-j-init
 unfolding weighted sum
-loop-j-init c = record { turns = omega arith; same = refl; near = bound_lit (pos 0) }
+loop-j-init c = record { same = refl; near = bound_lit (pos 0) }
 
 -- the term of variable j, and the sum with it
 module _ (up : Bool) {a : ℤ} (fits : FitsSigned w32 a) {n j : ℕ} {B : List ℤ} (sides : Sized n limit B) (more : j < n) where
@@ -33,7 +33,7 @@ pub overflow_add-sum : goal.overflow_add-sum
 overflow_add-sum c =
     let x = c.args.sheet.now ! (c.args.row + c.loop-j.j) in
     let a : FitsSigned w32 x = search rules in
-    let more : c.loop-j.j < c.args.n = c.loop-j-test.true in
+    let more : c.loop-j.j < c.args.n = omega arith in
     let term_is : c.term-sum.result ≡ outer c.args.up (x *ℤ lo c.args.over.now c.loop-j.j) (x *ℤ hi c.args.over.now c.loop-j.j) = c.term-sum.ensures ∙ simp (to_z-of_z, a) in
     simp (c.loop-j.invariant.same, term_is, to_z-of_z, term_fits c.args.up a c.requires.sides more)
     (fits_by (sum_bound c.args.up a c.requires.sides more c.loop-j.invariant.near) (omega arith))
@@ -43,21 +43,20 @@ unfolding weighted
 loop-j-preserved c =
     let x = c.args.sheet.now ! (c.args.row + c.loop-j.j) in
     let a : FitsSigned w32 x = search rules in
-    let more : c.loop-j.j < c.args.n = c.loop-j-test.true in
+    let more : c.loop-j.j < c.args.n = omega arith in
     let term_is : c.term-sum.result ≡ outer c.args.up (x *ℤ lo c.args.over.now c.loop-j.j) (x *ℤ hi c.args.over.now c.loop-j.j) = c.term-sum.ensures ∙ simp (to_z-of_z, a) in
     let bound = sum_bound c.args.up a c.requires.sides more c.loop-j.invariant.near in
     record {
-      turns = omega arith;
       same = simp (c.loop-j.invariant.same, term_is, to_z-of_z, term_fits c.args.up a c.requires.sides more, fits_by {w = w64} bound (omega arith), sum_more);
       near = rw sum_more bound;
     }
 
-pub returns-after-loop-j-clause-value : goal.returns-after-loop-j-clause-value
-returns-after-loop-j-clause-value c =
+pub returns-clause-value : goal.returns-clause-value
+returns-clause-value c =
     let all : c.loop-j.j ≡ c.args.n = omega arith in
     rw all at c.loop-j.invariant.same
 
-pub returns-after-loop-j-clause-bound : goal.returns-after-loop-j-clause-bound
-returns-after-loop-j-clause-bound c =
+pub returns-clause-bound : goal.returns-clause-bound
+returns-clause-bound c =
     let inv = c.loop-j.invariant in
     bound_less {B = c.loop-j.j * (word * limit)} (rw inv.same inv.near) (omega arith)

@@ -1,40 +1,24 @@
 -- `within` tests whether a box lies in another. Assumes nothing.
-use mir.Facts.{to_z-of_z}
-use Rattle.std.proofs.Common.{◌≡◌, refl, sym, ◌∙◌, rules, arith, w64, FitsSigned}
-use Rattle.sheet_spec.specs.Box.{lo, hi, all}
-use Rattle.sheet_spec.proofs.Box.{all_more, all_stop}
+use borrow.Author.Tests.{tests}
+use Rattle.std.proofs.Common.{◌≡◌, refl, ◌&&◌, ℕ, ℤ, Bool, rules, arith, w64, to_z, of_z, true, false}
+use Rattle.std.specs.Int.Signed.{le_z}
+use Rattle.std.proofs.lemmas.Iterator.{cases_from_all, YieldsList-from_range}
+use Rattle.sheet_spec.specs.Box.{lo, hi}
 use Rattle.machine_spec.specs.Box.{within}
+use Rattle.boxes_shape.proofs.Passing.{all_is}
 use Rattle.boxes_shape.proofs.compare.within.Goals as goal
 
-pub loop-i-init : goal.loop-i-init
-unfolding within all
-loop-i-init c = record { turns = omega arith; lies = refl }
+-- a side, as the code reads it
+abbrev read : ℤ → ℤ
+read z = to_z w64 (of_z w64 z)
 
--- a variable does not
-pub returns-then-not-both_le : goal.returns-then-not-both_le
-unfolding within
-returns-then-not-both_le c =
-    let i = c.loop-i.i in
-    let low : FitsSigned w64 (lo c.args.inner.now i) = search rules in
-    let high : FitsSigned w64 (hi c.args.inner.now i) = search rules in
-    let least : FitsSigned w64 (lo c.args.whole.now i) = search rules in
-    let most : FitsSigned w64 (hi c.args.whole.now i) = search rules in
-    let test = simp (to_z-of_z, low, high, least, most) at c.both_le.ensures in
-    sym (all_stop _ _ i (omega arith) (sym test ∙ c.if-not-both_le.true))
-
-pub loop-i-preserved : goal.loop-i-preserved
-unfolding within
-loop-i-preserved c =
-    let i = c.loop-i.i in
-    let low : FitsSigned w64 (lo c.args.inner.now i) = search rules in
-    let high : FitsSigned w64 (hi c.args.inner.now i) = search rules in
-    let least : FitsSigned w64 (lo c.args.whole.now i) = search rules in
-    let most : FitsSigned w64 (hi c.args.whole.now i) = search rules in
-    let test = simp (to_z-of_z, low, high, least, most) at c.both_le.ensures in
-    record { turns = omega arith; lies = all_more i _ c.loop-i.invariant.lies (sym test ∙ c.if-not-both_le.false) }
-
--- all do
 pub returns : goal.returns
+unfolding within
 returns c =
-    let all : c.loop-i.i ≡ c.args.n = omega arith in
-    sym (rw all at c.loop-i.invariant.lies)
+    let A = c.args.inner.now in
+    let B = c.args.whole.now in
+    let n = c.args.n in
+    let test : ℕ → Bool = λ (i : ℕ). le_z (lo B i) (lo A i) && le_z (hi A i) (hi B i) in
+    all_is n test c.all.result
+    (cases_from_all _ _ _ (λ i. test i ≡ true) (λ i. test i ≡ false) c.all.ensures.ran (YieldsList-from_range 0 n n refl (omega arith))
+    (λ x q k. search (rules, tests)) (λ x q k. search (rules, tests)))

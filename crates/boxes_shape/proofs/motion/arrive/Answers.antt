@@ -8,31 +8,31 @@ use Rattle.boxes_shape.proofs.Arrival.{path_is, low_was, high_was, turn}
 use Rattle.boxes_shape.proofs.motion.arrive.Goals as goal
 
 pub loop-i-init : goal.loop-i-init
-loop-i-init c = record { turns = omega arith; at = with_none _ _ _; work = with_none _ _ _; path = with_none _ _ _ }
+loop-i-init c = record { at = with_none _ _ _; work = with_none _ _ _; path = with_none _ _ _ }
 
 pub arrive_side-requires : goal.arrive_side-requires
 arrive_side-requires c =
-    let more = c.loop-i-test.true in
+    let more : c.loop-i.i < c.args.n = omega arith in
     let room : c.loop-i.i < N = omega arith in
-    (omega arith, side_movable c.requires.0 false c.loop-i.i more (low_was c.loop-i.invariant more room) refl)
+    (omega arith, side_movable c.requires.0 false c.loop-i.i more (low_was c.loop-i.invariant room) refl)
 
 pub arrive_side-requires-in-loop-i : goal.arrive_side-requires-in-loop-i
 arrive_side-requires-in-loop-i c =
-    let more = c.loop-i-test.true in
+    let more : c.loop-i.i < c.args.n = omega arith in
     let room : c.loop-i.i < N = omega arith in
-    (omega arith, side_movable c.requires.0 true c.loop-i.i more (high_was c.loop-i.invariant more room c.arrive_side.ensures) refl)
+    (omega arith, side_movable c.requires.0 true c.loop-i.i more (high_was c.loop-i.invariant room c.arrive_side.ensures) refl)
 
 pub loop-i-preserved : goal.loop-i-preserved
 loop-i-preserved c =
     let room : c.loop-i.i < N = omega arith in
-    turn c.loop-i.invariant c.loop-i-test.true room c.arrive_side.ensures c.arrive_side-in-loop-i.ensures
+    turn c.loop-i.invariant room c.arrive_side.ensures c.arrive_side-in-loop-i.ensures
 
-pub returns-after-loop-i : goal.returns-after-loop-i
+pub returns : goal.returns
 unfolding moved
-returns-after-loop-i c =
+returns c =
     let inv = c.loop-i.invariant in
     let a = c.args in
-    let all : c.loop-i.i ≡ a.n = omega (arith, inv.turns) in
+    let all : c.loop-i.i ≡ a.n = omega (arith, c.requires.0.room) in
     let room = c.requires.0.room in
     let end = (rw all at inv.at) ∙ with_all _ _ a.n _ room c.requires.1.at in
     record {

@@ -37,21 +37,21 @@ module _ (M E : List ℤ) {F : List ℤ} {inside : Bool} {i : ℕ} (test : insid
 
 pub loop-i-init : goal.loop-i-init
 unfolding within all
-loop-i-init c = record { turns = omega arith; test = refl; joined = with_none _ _ _ }
+loop-i-init c = record { test = refl; joined = with_none _ _ _ }
 
 pub swept_side-low-requires : goal.swept_side-low-requires
 swept_side-low-requires c =
     let i = c.loop-i.i in
     let s : FitsSigned w64 (lo c.args.start.now i) = search rules in
     let r : FitsSigned w64 (lo c.args.rates.now i) = search rules in
-    side_movable c.requires.0 false i c.loop-i-test.true (to_z-of_z s) (to_z-of_z r)
+    side_movable c.requires.0 false i (omega arith) (to_z-of_z s) (to_z-of_z r)
 
 pub swept_side-high-requires : goal.swept_side-high-requires
 swept_side-high-requires c =
     let i = c.loop-i.i in
     let s : FitsSigned w64 (hi c.args.start.now i) = search rules in
     let r : FitsSigned w64 (hi c.args.rates.now i) = search rules in
-    side_movable c.requires.0 true i c.loop-i-test.true (to_z-of_z s) (to_z-of_z r)
+    side_movable c.requires.0 true i (omega arith) (to_z-of_z s) (to_z-of_z r)
 
 pub loop-i-preserved : goal.loop-i-preserved
 unfolding outer
@@ -62,6 +62,7 @@ loop-i-preserved c =
     let i = c.loop-i.i in
     let inv = c.loop-i.invariant in
     let M = hull a.n A (moved a.n A a.ticks R) in
+    let more : i < a.n = omega arith in
     let room : i < N = omega arith in
     let low_side : FitsSigned w64 (lo A i) = search rules in
     let low_rate : FitsSigned w64 (lo R i) = search rules in
@@ -70,12 +71,11 @@ loop-i-preserved c =
     let low_fits : FitsSigned w64 c.swept_side-low.result = search rules in
     let high_fits : FitsSigned w64 c.swept_side-high.result = search rules in
     let low : to_z w64 (of_z w64 c.swept_side-low.result) ≡ lo M i =
-    to_z-of_z low_fits ∙ ((simp (to_z-of_z, low_side, low_rate) at c.swept_side-low.ensures) ∙ sym (swept_lo a.n i c.requires.0.room c.loop-i-test.true A a.ticks R)) in
+    to_z-of_z low_fits ∙ ((simp (to_z-of_z, low_side, low_rate) at c.swept_side-low.ensures) ∙ sym (swept_lo a.n i c.requires.0.room more A a.ticks R)) in
     let high : to_z w64 (of_z w64 c.swept_side-high.result) ≡ hi M i =
-    to_z-of_z high_fits ∙ ((simp (to_z-of_z, high_side, high_rate) at c.swept_side-high.ensures) ∙ sym (swept_hi a.n i c.requires.0.room c.loop-i-test.true A a.ticks R)) in
+    to_z-of_z high_fits ∙ ((simp (to_z-of_z, high_side, high_rate) at c.swept_side-high.ensures) ∙ sym (swept_hi a.n i c.requires.0.room more A a.ticks R)) in
     let took = c.take_in-right.ensures in
     record {
-      turns = omega arith;
       test = elim c.if-inside.branch [
         | then-inside w ↦ w.inside-is ∙ sym (passed M a.work.now inv.test inv.joined room low high took w.if-inside.true)
         | else-inside w ↦ w.inside-is ∙ w.if-inside.false ∙ sym (failed M a.work.now inv.test inv.joined room low high took w.if-inside.false)
@@ -83,13 +83,13 @@ loop-i-preserved c =
       joined = joined_more a.work.now M i room inv.joined low high took;
     }
 
-pub returns-after-loop-i-clause-value : goal.returns-after-loop-i-clause-value
-returns-after-loop-i-clause-value c =
-    let all : c.loop-i.i ≡ c.args.n = omega arith in
+pub returns-clause-value : goal.returns-clause-value
+returns-clause-value c =
+    let all : c.loop-i.i ≡ c.args.n = omega (arith, c.requires.0.room) in
     rw all at c.loop-i.invariant.test
 
-pub returns-after-loop-i-clause-work_after : goal.returns-after-loop-i-clause-work_after
+pub returns-clause-work_after : goal.returns-clause-work_after
 unfolding hull
-returns-after-loop-i-clause-work_after c =
-    let all : c.loop-i.i ≡ c.args.n = omega arith in
+returns-clause-work_after c =
+    let all : c.loop-i.i ≡ c.args.n = omega (arith, c.requires.0.room) in
     (rw all at c.loop-i.invariant.joined) ∙ with_all _ _ c.args.n _ c.requires.0.room c.requires.1

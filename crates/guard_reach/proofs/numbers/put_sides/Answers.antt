@@ -6,7 +6,7 @@ use Rattle.guard_reach.proofs.numbers.put_sides.Goals as goal
 
 pub loop-i-init : goal.loop-i-init
 unfolding sides_of
-loop-i-init c = (omega arith, refl)
+loop-i-init c = refl
 
 pub overflow_cast-v : goal.overflow_cast-v
 overflow_cast-v c = side_fits (c.requires.1.1.at false c.loop-i.i (omega arith))
@@ -18,4 +18,4 @@ pub loop-i-preserved : goal.loop-i-preserved
 loop-i-preserved c =
     let near = c.requires.1.1 in
     let i = c.loop-i.i in
-    (omega arith, sides_more _ _ i _ c.loop-i.invariant.1 (side_is (near.at false i (omega arith))) (side_is (near.at true i (omega arith))))
+    sides_more _ _ i _ c.loop-i.invariant (side_is (near.at false i (omega arith))) (side_is (near.at true i (omega arith)))

@@ -1,6 +1,8 @@
 -- `record_length`: the letters and what follows them. Assumes nothing.
 use Rattle.std.proofs.Common.{◌≡◌, ℕ, sym, ap, ◌∙◌}
+use mathlib.Core.Logic.{⊎_elim}
 use Rattle.sheet_spec.specs.declared.Record.{Record}
+use Rattle.sheet_spec.specs.declared.Record.TheVariants.{Unsafe, Recovery}
 use Rattle.sheet_spec.specs.File.{record_length}
 use Rattle.sheet_spec.proofs.Length.{record_size, record_size_lem}
 use Rattle.sheet_encoding.proofs.records.record_length.Goals as goal
@@ -16,7 +18,4 @@ pub returns-in-Band : goal.returns-in-Band
 returns-in-Band c = c.band_length.ensures ∙ length_is _ c.in-Band.is
 
 pub returns-in-Unsafe : goal.returns-in-Unsafe
-returns-in-Unsafe c = length_is _ c.in-Unsafe.is
-
-pub returns-in-Recovery : goal.returns-in-Recovery
-returns-in-Recovery c = length_is _ c.in-Recovery.is
+returns-in-Unsafe c = ⊎_elim (λ (box : (j : ℕ) × (c.args.record ≡ Unsafe j)). length_is _ box.1) (λ (recovery : c.args.record ≡ Recovery). length_is _ recovery) c.in-Unsafe.is

@@ -1,44 +1,28 @@
 -- `meet`: whether two boxes of a sheet share a state, variable by variable. Assumes nothing.
-use Rattle.std.proofs.Common.{◌≡◌, ◌∙◌, ◌+◌, ◌<◌, Bool, List, ℤ, ℕ, ap₂, refl, sym, arith}
+use Rattle.std.proofs.Common.{rules, ◌≡◌, ◌∙◌, ◌+◌, ◌<◌, ℕ, ℤ, List, Bool, ap, ap₂, refl, sym, arith}
+use Rattle.std.proofs.lemmas.Iterator.{YieldsList-from_range}
+use Rattle.std.proofs.lemmas.Iterator.Search.{all_from_yields_List}
 use Rattle.std.specs.Prelude.{◌&&◌}
 use Rattle.std.specs.Int.Signed.{le_z}
 use Rattle.sheet_spec.specs.Slots.{◌!◌, N, box_at}
-use Rattle.sheet_spec.specs.Box.{lo, hi, all, meets}
-use Rattle.sheet_spec.proofs.Box.{all_more, all_stop, box_lo, box_hi}
+use Rattle.sheet_spec.specs.Box.{lo, hi, meets}
+use Rattle.sheet_spec.proofs.Box.{all_same, box_lo, box_hi}
+use Rattle.sheet_validation.proofs.Ranges.{all_range}
 use Rattle.sheet_validation.proofs.overlap.meet.Goals as goal
+use borrow.Author.Tests.{tests}
 
--- the two tests of variable i, by the definition
-module _ (v : List ℤ) (a b i : ℕ) (room : i < N) where
-  abbrev A : List ℤ
-  A = box_at v a
+-- the tests of variable i
+abbrev both : List ℤ → ℕ → ℕ → ℕ → Bool
+both v a b i = le_z (v ! (a + i)) (v ! (b + i + N)) && le_z (v ! (b + i)) (v ! (a + i + N))
 
-  abbrev B : List ℤ
-  B = box_at v b
+both_are : (v : List ℤ) (a b i : ℕ) → i < N → both v a b i ≡ (le_z (lo (box_at v a) i) (hi (box_at v b) i) && le_z (lo (box_at v b) i) (hi (box_at v a) i))
+both_are v a b i room = ap₂ ◌&&◌ (ap₂ le_z (sym (box_lo v a i room)) (sym (box_hi v b i room))) (ap₂ le_z (sym (box_lo v b i room)) (sym (box_hi v a i room)))
 
-  both_are : {s t : Bool} → s ≡ le_z (v ! (a + i)) (v ! (b + i + N)) → t ≡ le_z (v ! (b + i)) (v ! (a + i + N)) → (le_z (lo A i) (hi B i) && le_z (lo B i) (hi A i)) ≡ (s && t)
-  both_are s t = ap₂ ◌&&◌ (ap₂ le_z (box_lo v a i room) (box_hi v b i room) ∙ sym s) (ap₂ le_z (box_lo v b i room) (box_hi v a i room) ∙ sym t)
-
-pub loop-i-init : goal.loop-i-init
-unfolding meets all
-loop-i-init c = (omega arith, refl)
-
--- a variable's first test fails
-pub returns-then-not-at_most : goal.returns-then-not-at_most
-unfolding meets
-returns-then-not-at_most c = sym (all_stop _ _ c.loop-i.i (omega arith) (both_are c.args.v.now c.args.a c.args.b c.loop-i.i (omega arith) c.if-not-at_most.ensures refl))
-
--- or its second
-pub returns-then-not-at_most-2 : goal.returns-then-not-at_most-2
-unfolding meets
-returns-then-not-at_most-2 c = sym (all_stop _ _ c.loop-i.i (omega arith) (both_are c.args.v.now c.args.a c.args.b c.loop-i.i (omega arith) c.if-not-at_most.ensures c.if-not-at_most-2.ensures))
-
-pub loop-i-preserved : goal.loop-i-preserved
-unfolding meets
-loop-i-preserved c =
-    (omega arith, all_more c.loop-i.i _ c.loop-i.invariant.1 (both_are c.args.v.now c.args.a c.args.b c.loop-i.i (omega arith) c.if-not-at_most.ensures c.if-not-at_most-2.ensures))
-
--- all hold
 pub returns : goal.returns
+unfolding meets
 returns c =
-    let e : c.loop-i.i ≡ c.args.n = omega arith in
-    sym (rw e at c.loop-i.invariant.1)
+    let a = c.args in
+    let n = c.count.result in
+    all_from_yields_List (both a.v.now a.a a.b) _ _ _ c.all.ensures.ran (YieldsList-from_range 0 n n refl (omega arith)) (λ x b q k. search (rules, tests))
+    ∙ all_range n (both a.v.now a.a a.b) ∙ all_same n _ _ (λ i l. both_are a.v.now a.a a.b i (omega (arith, c.count.ensures.1)))
+    ∙ ap (λ (k : ℕ). meets k (box_at a.v.now a.a) (box_at a.v.now a.b)) c.count.ensures.0

@@ -4,7 +4,7 @@ use Rattle.std.proofs.lemmas.List.Edits.{sets}
 use Rattle.sheet_spec.specs.Slots.{band_slot, law_slot, row_slot, safety_least_slot, safety_greatest_slot, edge_in_band, least_in_band, greatest_in_band, law_in_band}
 use Rattle.sheet_spec.specs.Fields.{i32, coded, offset}
 use Rattle.sheet_spec.specs.Layout.{◌▸◌, band_fields, law_fields, law_count, row_fields, row_count}
-use Rattle.sheet_spec.specs.Sizes.{letters, safety_least_at, safety_greatest_at, band_head}
+use Rattle.sheet_spec.specs.Sizes.{letters, safety_least_at, safety_greatest_at, band_head, row_bytes}
 use Rattle.sheet_spec.proofs.FieldPlaces.{law_run, row_next, row_run}
 use Rattle.sheet_spec.proofs.Length.{law_offset, row_offset}
 use Rattle.sheet_spec.proofs.Places.{edge_slot}
@@ -20,14 +20,12 @@ loop-i-init c =
     let p = band_fields n b k in
     let s = c.args.s.now in
     let v = c.args.v.now in
-    let e : law_in_band + law_count b n ≡ law_in_band + (law_count b n + 0 * row_count n) = omega arith in (
-      omega arith,
-      coded_run p v s letters law_in_band (law_fields n (law_slot k)) (law_count b n) (law_run n b k) band_head c.write_law.ensures (omega (arith, law_offset n b k))
-          (coded_field p v s letters greatest_in_band i32 (safety_greatest_slot k) (letters + safety_greatest_at) c.put_i32-3.ensures refl refl (omega (arith, edge_bytes k))
-          (coded_field p v s letters least_in_band i32 (safety_least_slot k) (letters + safety_least_at) c.put_i32-2.ensures refl refl (omega (arith, edge_bytes k))
-          (coded_field p v s letters edge_in_band i32 (band_slot k) letters c.put_i32.ensures (edge_bytes k) (sym (edge_slot k)) refl refl)))
-          ∙ ap (λ (j : ℕ). sets s letters (coded p v j)) e,
-    )
+    let e : law_in_band + law_count b n ≡ law_in_band + (law_count b n + 0 * row_count n) = omega arith in
+    coded_run p v s letters law_in_band (law_fields n (law_slot k)) (law_count b n) (law_run n b k) band_head c.write_law.ensures (omega (arith, law_offset n b k))
+    (coded_field p v s letters greatest_in_band i32 (safety_greatest_slot k) (letters + safety_greatest_at) c.put_i32-3.ensures refl refl (omega (arith, edge_bytes k))
+    (coded_field p v s letters least_in_band i32 (safety_least_slot k) (letters + safety_least_at) c.put_i32-2.ensures refl refl (omega (arith, edge_bytes k))
+    (coded_field p v s letters edge_in_band i32 (band_slot k) letters c.put_i32.ensures (edge_bytes k) (sym (edge_slot k)) refl refl)))
+    ∙ ap (λ (j : ℕ). sets s letters (coded p v j)) e
 
 pub loop-i-preserved : goal.loop-i-preserved
 loop-i-preserved c =
@@ -37,9 +35,7 @@ loop-i-preserved c =
     let p = band_fields n b k in
     let s = c.args.s.now in
     let v = c.args.v.now in
-    let i = c.loop-i.i in (
-      omega arith,
-      coded_run p v s letters (law_in_band + (law_count b n + i * row_count n)) (row_fields n (row_slot k i)) (row_count n) (row_run n b k i) _ c.write_row.ensures
-          (omega (arith, row_offset n b k i)) c.loop-i.invariant.1
-          ∙ ap (λ (j : ℕ). sets s letters (coded p v j)) (row_next n b i),
-    )
+    let i = c.loop-i.i in
+    coded_run p v s letters (law_in_band + (law_count b n + i * row_count n)) (row_fields n (row_slot k i)) (row_count n) (row_run n b k i) _ c.write_row.ensures
+    (omega (arith, row_offset n b k i, ap (λ (m : ℕ). i * row_bytes m) c.count.ensures.0)) c.loop-i.invariant
+    ∙ ap (λ (j : ℕ). sets s letters (coded p v j)) (row_next n b i)

@@ -13,7 +13,7 @@ use Rattle.sheet_writer.proofs.record.write_box.Goals as goal
 
 pub loop-i-init : goal.loop-i-init
 unfolding coded
-loop-i-init c = (omega arith, λ h. refl)
+loop-i-init c = λ h. refl
 
 pub loop-i-preserved : goal.loop-i-preserved
 unfolding side_fields ◌▸◌
@@ -22,10 +22,8 @@ loop-i-preserved c =
     let k = c.args.slot in
     let s = c.args.s.now in
     let v = c.args.v.now in
-    let z : i * pair_size + 0 ≡ i * pair_size = omega arith in (
-      omega arith,
-      λ h.
-          coded_next (box_fields h k) v s letters (i * pair_size + 1) ((i + 1) * pair_size) (omega arith) _ ((side_run h k i).at 1 (omega arith)) i32 (k + i + N) (letters + box_bytes i + upper_at) c.put_i32-in-loop-i.ensures refl refl (omega (arith, upper_offset h k i))
-          (coded_next (box_fields h k) v s letters (i * pair_size + 0) (i * pair_size + 1) (omega arith) _ ((side_run h k i).at 0 (omega arith)) i32 (k + i) (letters + box_bytes i) c.put_i32.ensures refl refl (omega (arith, side_offset h k i, ap (offset (box_fields h k)) z))
-          (c.loop-i.invariant.1 h ∙ ap (λ (j : ℕ). sets s letters (coded (box_fields h k) v j)) (omega arith))),
-    )
+    let z : i * pair_size + 0 ≡ i * pair_size = omega arith in
+    λ h.
+    coded_next (box_fields h k) v s letters (i * pair_size + 1) ((i + 1) * pair_size) (omega arith) _ ((side_run h k i).at 1 (omega arith)) i32 (k + i + N) (letters + box_bytes i + upper_at) c.put_i32-in-loop-i.ensures refl refl (omega (arith, upper_offset h k i))
+    (coded_next (box_fields h k) v s letters (i * pair_size + 0) (i * pair_size + 1) (omega arith) _ ((side_run h k i).at 0 (omega arith)) i32 (k + i) (letters + box_bytes i) c.put_i32.ensures refl refl (omega (arith, side_offset h k i, ap (offset (box_fields h k)) z))
+    (c.loop-i.invariant h ∙ ap (λ (j : ℕ). sets s letters (coded (box_fields h k) v j)) (omega arith)))

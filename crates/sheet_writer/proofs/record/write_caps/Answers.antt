@@ -11,8 +11,6 @@ use Rattle.sheet_writer.proofs.record.write_caps.Goals as goal
 
 pub loop-i-preserved : goal.loop-i-preserved
 loop-i-preserved c =
-    let i = c.loop-i.i in (
-      omega arith,
-      coded_next head_fields c.args.v.now c.args.s.now letters (head_size + i) (head_size + (i + 1)) (omega arith) _ (cap_at i) u16 (cap_slot i) (caps_at + cap_bytes i) c.put_u16.ensures
-          refl refl (omega (arith, cap_offset i)) c.loop-i.invariant.1,
-    )
+    let i = c.loop-i.i in
+    coded_next head_fields c.args.v.now c.args.s.now letters (head_size + i) (head_size + (i + 1)) (omega arith) _ (cap_at i) u16 (cap_slot i) (caps_at + cap_bytes i) c.put_u16.ensures
+    refl refl (omega (arith, cap_offset i)) c.loop-i.invariant

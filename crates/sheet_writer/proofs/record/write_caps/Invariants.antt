@@ -1,5 +1,5 @@
 -- `write_caps`: the head and the first i caps are written. Assumes nothing.
-use Rattle.std.proofs.Common.{◌-◌, ◌+◌, ◌≡◌, ◌≤◌}
+use Rattle.std.proofs.Common.{◌+◌, ◌≡◌}
 use Rattle.std.proofs.lemmas.List.Edits.{sets}
 use Rattle.sheet_spec.specs.Slots.{head_size}
 use Rattle.sheet_spec.specs.Fields.{coded}
@@ -8,7 +8,4 @@ use Rattle.sheet_spec.specs.Layout.{head_fields}
 use Rattle.sheet_writer.proofs.record.write_caps.Given as goal
 
 abbrev pub invariant-loop-i : goal.invariant-loop-i
-invariant-loop-i l = (l.i ≤ l.n) × (l.s ≡ sets l.fn.s letters (coded head_fields l.v (head_size + l.i)))
-
-abbrev pub decreases-loop-i : goal.decreases-loop-i
-decreases-loop-i l = l.n - l.i
+invariant-loop-i l = l.s ≡ sets l.fn.s letters (coded head_fields l.v (head_size + l.i))

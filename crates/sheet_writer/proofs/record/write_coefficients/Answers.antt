@@ -9,14 +9,12 @@ use Rattle.sheet_writer.proofs.record.write_coefficients.Goals as goal
 
 pub loop-j-init : goal.loop-j-init
 unfolding coded
-loop-j-init c = (omega arith, refl)
+loop-j-init c = refl
 
 pub loop-j-preserved : goal.loop-j-preserved
 loop-j-preserved c =
     let a = c.args in
     let j = c.loop-j.j in
-    let p = coefficient_field a.slot in (
-      omega arith,
-      coded_next p a.v.now a.s.now a.at j (j + 1) refl (p j) refl u16 (a.slot + j) (a.at + coefficient_bytes j) c.put_u16.ensures
-          refl refl (omega (arith, coefficient_place a.slot j)) c.loop-j.invariant.1,
-    )
+    let p = coefficient_field a.slot in
+    coded_next p a.v.now a.s.now a.at j (j + 1) refl (p j) refl u16 (a.slot + j) (a.at + coefficient_bytes j) c.put_u16.ensures
+    refl refl (omega (arith, coefficient_place a.slot j)) c.loop-j.invariant

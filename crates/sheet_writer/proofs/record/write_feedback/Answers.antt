@@ -13,10 +13,11 @@ unfolding law_rest ◌▸◌ offset
 returns c =
     let a = c.args in
     let n = a.n in
+    let k = c.count.result in
     let i = a.slot in
     let s = a.s.now in
     let v = a.v.now in
     let parts = law_parts n i in
-    coded_rest parts v s a.at divisor_in_law u16 (i + (N + divisor_in_law)) (a.at + coefficient_bytes n + divisor_at) c.put_u16.ensures refl (omega arith) (omega arith)
-    (coded_rest parts v s a.at constant_in_law i32 (i + N) (a.at + coefficient_bytes n) c.put_i32.ensures refl (omega arith) (omega arith)
+    coded_rest parts v s a.at divisor_in_law u16 (i + (N + divisor_in_law)) (a.at + coefficient_bytes k + divisor_at) c.put_u16.ensures refl (omega (arith, c.count.ensures.0)) (omega (arith, c.count.ensures.0))
+    (coded_rest parts v s a.at constant_in_law i32 (i + N) (a.at + coefficient_bytes k) c.put_i32.ensures refl (omega (arith, c.count.ensures.0)) (omega (arith, c.count.ensures.0))
     (coded_coefficients parts v s a.at c.write_coefficients.ensures))

@@ -9,27 +9,27 @@ pub write_caps-requires : goal.write_caps-requires
 write_caps-requires c =
     let ends = rw c.in-Head.is at c.requires.record_in_bounds in
     let size = rw c.in-Head.is at (record_size_lem c.args.shape.vars c.args.«record») in
-    (c.requires.small.0.vars, omega (arith, ends, size))
+    omega (arith, ends, size)
 
 pub write_band-requires : goal.write_band-requires
 write_band-requires c =
     let ends = rw c.in-Band.is at c.requires.record_in_bounds in
     let size = rw c.in-Band.is at (record_size_lem c.args.shape.vars c.args.«record») in
     let room = rw c.in-Band.is at c.requires.small.1 in
-    (c.requires.small.0.vars, (room, omega (arith, ends, size)))
+    (room, omega (arith, ends, size))
 
 pub write_box-requires : goal.write_box-requires
 write_box-requires c =
     let ends = rw c.in-Unsafe.is at c.requires.record_in_bounds in
     let size = rw c.in-Unsafe.is at (record_size_lem c.args.shape.vars c.args.«record») in
     let room = rw c.in-Unsafe.is at c.requires.small.1 in
-    (c.requires.small.0.vars, (omega (arith, room), omega (arith, ends, size)))
+    (omega (arith, room), omega (arith, ends, size))
 
 pub write_box-requires-in-Recovery : goal.write_box-requires-in-Recovery
 write_box-requires-in-Recovery c =
     let ends = rw c.in-Recovery.is at c.requires.record_in_bounds in
     let size = rw c.in-Recovery.is at (record_size_lem c.args.shape.vars c.args.«record») in
-    (c.requires.small.0.vars, (omega arith, omega (arith, ends, size)))
+    (omega arith, omega (arith, ends, size))
 
 pub returns-in-Head : goal.returns-in-Head
 unfolding fields

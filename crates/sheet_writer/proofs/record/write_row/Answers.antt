@@ -13,12 +13,13 @@ unfolding row_rest ◌▸◌ offset
 returns c =
     let a = c.args in
     let n = a.n in
+    let k = c.count.result in
     let i = a.slot in
     let s = a.s.now in
     let v = a.v.now in
     let parts = row_parts n i in
-    coded_rest parts v s a.at q_in_rest u16 (i + (N + q_in_rest)) (a.at + coefficient_bytes n + q_at) c.put_u16-2.ensures refl (omega arith) (omega arith)
-    (coded_rest parts v s a.at d_in_rest i32 (i + (N + d_in_rest)) (a.at + coefficient_bytes n + d_at) c.put_i32-2.ensures refl (omega arith) (omega arith)
-    (coded_rest parts v s a.at c_in_rest i32 (i + (N + c_in_rest)) (a.at + coefficient_bytes n + c_at) c.put_i32.ensures refl (omega arith) (omega arith)
-    (coded_rest parts v s a.at b_in_rest u16 (i + N) (a.at + coefficient_bytes n) c.put_u16.ensures refl (omega arith) (omega arith)
+    coded_rest parts v s a.at q_in_rest u16 (i + (N + q_in_rest)) (a.at + coefficient_bytes k + q_at) c.put_u16-2.ensures refl (omega (arith, c.count.ensures.0)) (omega (arith, c.count.ensures.0))
+    (coded_rest parts v s a.at d_in_rest i32 (i + (N + d_in_rest)) (a.at + coefficient_bytes k + d_at) c.put_i32-2.ensures refl (omega (arith, c.count.ensures.0)) (omega (arith, c.count.ensures.0))
+    (coded_rest parts v s a.at c_in_rest i32 (i + (N + c_in_rest)) (a.at + coefficient_bytes k + c_at) c.put_i32.ensures refl (omega (arith, c.count.ensures.0)) (omega (arith, c.count.ensures.0))
+    (coded_rest parts v s a.at b_in_rest u16 (i + N) (a.at + coefficient_bytes k) c.put_u16.ensures refl (omega (arith, c.count.ensures.0)) (omega (arith, c.count.ensures.0))
     (coded_coefficients parts v s a.at c.write_coefficients.ensures))))

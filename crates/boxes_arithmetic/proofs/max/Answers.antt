@@ -1,9 +1,0 @@
--- `max` gives the greater. Assumes nothing.
-use Rattle.integers.proofs.Z.{ints, max_is}
-use Rattle.boxes_arithmetic.proofs.max.Goals as goal
-
-pub returns-then-a-b : goal.returns-then-a-b
-returns-then-a-b c = omega (ints, max_is c.args.a c.args.b)
-
-pub returns-else-a-b : goal.returns-else-a-b
-returns-else-a-b c = omega (ints, max_is c.args.a c.args.b)
