@@ -141,7 +141,7 @@ pub fn read_head(
 // The question on a sheet of n variables.
 #[tactic(auto, unfolding(decision_spec::specs::Question::question_refusal, decision_spec::specs::Question::head_refusal, decision_spec::specs::Question::measured, sheet_spec::specs::Refusals::first_of, sheet_spec::specs::Refusals::unless_refused), using(decision_spec::proofs::Passes::form_passes))]
 pub fn read(n: Vars, sheet: &[i32; SLOTS], question: &[u8]) -> Result<Question, Refusal>
-    requires { (n ≡ slots.vars sheet.now) × (n ≤ slots.N) }
+    requires { n ≡ slots.vars sheet.now }
     ensures { QuestionReads sheet.now question.now result }
 {
     let kind = form(PAIR_BYTES * n.count(), question)?;
