@@ -42,7 +42,7 @@ def functions():
     """(file, line, name, parameters, clauses, body) of each function."""
     for path in FILES:
         text = open(path, encoding="utf-8").read()
-        for m in re.finditer(r"^( *)(?:pub(?:\(crate\))? )?(?:extern \"C\" )?fn (\w+)(?:<[^>]*>)?\(", text, re.M):
+        for m in re.finditer(r"^( *)(?:pub(?:\(crate\))? )?(?:extern \"C\" )?fn (\w+)(?:<[^\n]*?>)?\(", text, re.M):
             end = text.find(f"\n{m[1]}}}\n", m.end())
             whole = text[m.end() : end]
             depth, i = 1, 0
