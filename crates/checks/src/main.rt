@@ -21,16 +21,21 @@ const BUFFER: usize = 80;
 
 const FILLER: u8 = 7;
 
-// A line that cannot be written is left out, here and below.
+// A part of a line that cannot be written is left out, here and below, and the next part is tried.
 fn answer<T>(to: &impl Print, label: impl Display + Drop, answered: &Result<T, Refusal>) {
-    let _ = match answered {
-        Ok(_) => println!(to; "{label}: accepted"),
-        Err(refusal) => println!(to; "{label}: refused {}", u8::from(*refusal)),
+    let _ = print!(to; "{label}");
+    let Err(refusal) = answered else {
+        let _ = print!(to; ": accepted\n");
+        return;
     };
+    let _ = print!(to; ": refused ");
+    let _ = print!(to; "{}", u8::from(*refusal));
+    let _ = print!(to; "\n");
 }
 
 fn verdict(to: &impl Print, label: impl Display + Drop, same: bool) {
-    let _ = println!(to; "{label}: {}", if same { "same" } else { "other" });
+    let _ = print!(to; "{label}");
+    let _ = print!(to; "{}", if same { ": same\n" } else { ": other\n" });
 }
 
 // Reads a file.
