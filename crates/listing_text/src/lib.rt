@@ -15,13 +15,14 @@ const WORD: usize = 11;
 
 const REPLY: usize = WORD + 2 * (1 + NUMBER);
 
-const LINE: usize = NUMBER + 1 + REPLY + 1;
+pub const LINE: usize = NUMBER + 1 + REPLY + 1;
 
-// A line's text is its first `end` bytes. They are in an array and not in a String, since nothing here allocates.
+// A line's text is its first `end` bytes. They are in an array and not in a String, since nothing here allocates. It can be any array of
+// the caller's.
 #[derive(Drop)]
 pub struct Line {
-    bytes: [u8; LINE],
-    end: usize,
+    pub bytes: [u8; LINE],
+    pub end: usize,
     ghost in_room: { end ≤ line_room },
 }
 
@@ -63,6 +64,7 @@ impl Line {
     }
 
     // Puts a number's digits at the line's end.
+    #[tactic(auto, using(crate::proofs::Puts::put_as, crate::proofs::Digits::digits_decimal))]
     pub fn put_decimal(&mut self, x: u64)
         requires { HasRoom number_room self.old }
         ensures { AddsWithin number_room (digits x) self.old self.new }
