@@ -1,6 +1,6 @@
 #!/usr/bin/env bash
 # archives.sh: builds what C callers link, target/staticlib/libguard.a, libsheet.a and libreadings.a, over what `rt` has proved, and
-# the program crates/floor_listing/out/floor_listing. The crates sheet_c and readings_c export functions of the libraries sheet and readings.
+# the program crates/floor_listing/out/floor_listing. The crates sheet_c and readings_c export what the libraries sheet and readings have.
 # What an earlier run built goes first. The last line is 'N passed, M failed'.
 set -u
 cd "$(dirname "$0")/.." || exit 1
