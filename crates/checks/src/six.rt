@@ -1,6 +1,6 @@
 // Checks on sheets of six variables (document 02, paper 9).
 
-use crate::{answer, numbers, sheet_a, sheet_f, verdict};
+use crate::{answer, sheet_a, sheet_f, verdict};
 use sheet::slots::*;
 
 // The lengths of sheets with one band and one no-go box.
@@ -8,19 +8,22 @@ const FIXED: usize = 290;
 
 const FEEDBACK: usize = 308;
 
-// A sheet of one variable with five more, of which none changes; their sides are 0.
-fn six(mut v: [i32; SLOTS]) -> [i32; SLOTS] {
+// Gives a sheet of one variable five more, of which none changes; their sides are 0.
+fn six(v: &mut [i32; SLOTS]) {
     v[VARS] = 6;
     for i in 1..6 {
         v[FIRST_CAP + i] = 1;
         v[FIRST_BAND + FIRST_ROW + i * ROW_SIZE + ROW_Q] = 1;
     }
-    v
 }
 
-// Writes a file's sheet with six variables to a buffer of just its length, and reads that.
+// Writes a file's sheet with six variables to a buffer of just its length, and reads that. A file that is refused leaves zeros. The numbers
+// have one array, which is changed in place: each copy would be 3 KiB of stack.
 fn both_ways(to: &impl Print, label: &str, f: &[u8], buffer: &mut [u8]) {
-    let written = sheet::write(&six(numbers(f)), buffer, 0);
+    let mut v = [0; SLOTS];
+    let _ = sheet::read_into(f, &mut v);
+    six(&mut v);
+    let written = sheet::write(&v, buffer, 0);
     answer(to, format_args!("write {label}"), &written);
     let whole = written == Ok(buffer.len());
     verdict(to, format_args!("length of {label}"), whole);

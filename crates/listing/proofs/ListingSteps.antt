@@ -2,14 +2,15 @@
 use mathlib.Core.Path.{◌≡◌, refl, sym, ap, ap₂, subst, ◌∙◌}
 use mathlib.Core.Bool.{Bool, true, false, false≢true}
 use mathlib.Core.List.{List, [], ◌∷◌, ◌++◌}
-use Prim.Native.Nat.{ℕ, zero, suc, ◌≤◌, ◌<◌}
+use Prim.Native.Nat.{ℕ, zero, suc, ◌+◌, ◌≤◌, ◌<◌}
+use native.Mathlib.Numerals.{add-one}
 use native.Mathlib.Omega.{arith}
 use lib.Dec.{ltb, eqb}
 use lib.ListN.{length, take, drop, length-drop}
 use lib.Seq.{take-take, take-length, drop-length, take-nil}
 use borrow.Author.Tests.{lt-ltb, ne_eqb}
 use Rattle.std.specs.Bool.{then_some}
-use Rattle.std.specs.Prelude.{is_some}
+use Rattle.std.specs.Prelude.{is_some, IfSome}
 use Rattle.std.specs.declared.option.Option.{Option}
 use Rattle.std.specs.declared.option.Option.TheVariants.{None, Some}
 use Rattle.integers.proofs.Tests.{pick_no}
@@ -39,6 +40,11 @@ asked f i more taken question = record { line = question_line f i question; take
 abbrev step_by : List ℕ → ℕ → Bool → Bool → ℕ → List ℕ → ListingStep
 step_by f i some more taken question = elim some [ true ↦ asked f i more taken question | false ↦ ended ]
 
+counts : (f : List ℕ) (i : ℕ) (some more : Bool) (taken : ℕ) (question : List ℕ) → IfSome (step_by f i some more taken question).next (λ j. j ≡ i + 1)
+counts f i true true taken question = sym (add-one i)
+counts f i true false taken question = tt
+counts f i false more taken question = tt
+
 module _ (f : List ℕ) (i : ℕ) (g : List ℕ) where
   abbrev size : ℕ
   size = next_length (vars (values f)) g
@@ -52,6 +58,11 @@ module _ (f : List ℕ) (i : ℕ) (g : List ℕ) where
 
   pub step_some : ltb 0 (length g) ≡ true → question_step f (Some i) g ≡ asked f i (known (kind_of g)) size (take size g)
   step_some n = by true n
+
+  -- if the listing goes on, the next number is one more
+  pub step_counts : IfSome (question_step f (Some i) g).next (λ j. j ≡ i + 1)
+  unfolding question_step
+  step_counts = counts f i (ltb 0 (length g)) (known (kind_of g)) size (take size g)
 
 pub step_closed : (f g : List ℕ) → question_step f None g ≡ ended
 unfolding question_step
