@@ -5,14 +5,14 @@ use Prim.Native.Nat.{◌*◌}
 use lib.Dec.{lit≤}
 use lib.IntN.{ℤ, neg_ℤ, nat_abs, ◌*ℤ◌}
 use Rattle.integers.specs.Bound.{Bound}
-use Rattle.integers.proofs.Z.{ints, le_true, le_false, mul_mono, mul_neg, bound_less, bound_neg, bound_mul}
+use Rattle.integers.proofs.Z.{ints, le_true, le_false, mul_neg, bound_less, bound_neg, bound_mul}
 use Rattle.sheet_spec.specs.Limits.{max_cap, max_divisor}
 use Rattle.machine_spec.specs.Machine.{clamp, outward_div}
 use Rattle.machine_spec.specs.Rate.{neutral}
 use Rattle.boxes_arithmetic.specs.Limits.{CommandAsked, QuotientAsked, WithinAsked}
 use Rattle.boxes_arithmetic.specs.Outward.{no_further}
 use Rattle.boxes_arithmetic.proofs.Command.{compared}
-use Rattle.boxes_arithmetic.proofs.Quotient.{divisor_bound, turned}
+use Rattle.boxes_arithmetic.proofs.Quotient.{divisor_bound, below_most, above_least}
 
 -- either cap
 pub neutral_bound : (up : Bool) {cap : ℤ} → Bound cap max_cap → Bound (neutral up cap) max_cap
@@ -42,17 +42,13 @@ module _ {cap q z : ℤ} (asked : QuotientAsked cap q z) where
   -- one before it that is further out than the outermost so far lies strictly between the ends
   pub strictly_within : (up : Bool) (x : ℤ) → no_further up (z *ℤ q) x ≡ false → no_further up x (neutral (not up) (q *ℤ cap)) ≡ false → WithinAsked (neg_ℤ cap) cap x q
   unfolding no_further neutral
-  strictly_within false x out before =
-      let far = mul_mono q z cap (omega (ints, asked.divisor.low)) asked.capped.between.high in
-      record {
-        range = range;
-        above = omega (ints, le_false x (neg_ℤ (q *ℤ cap)) before, mul_neg q cap);
-        below = omega (ints, le_false (z *ℤ q) x out, far, turned z q);
-      }
-  strictly_within true x out before =
-      let far = mul_mono q (neg_ℤ cap) z (omega (ints, asked.divisor.low)) asked.capped.between.low in
-      record {
-        range = range;
-        above = omega (ints, le_false x (z *ℤ q) out, far, turned z q);
-        below = le_false (q *ℤ cap) x before;
-      }
+  strictly_within false x out before = record {
+    range = range;
+    above = omega (ints, le_false x (neg_ℤ (q *ℤ cap)) before, mul_neg q cap);
+    below = below_most asked.capped x q asked.divisor.low (le_false (z *ℤ q) x out);
+  }
+  strictly_within true x out before = record {
+    range = range;
+    above = rw (mul_neg q cap) (above_least asked.capped x q asked.divisor.low (le_false x (z *ℤ q) out));
+    below = le_false (q *ℤ cap) x before;
+  }

@@ -1,4 +1,5 @@
 -- A quotient that is clamped to a range of commands l..h: what is asked of the division where x lies strictly between q·l and q·h. Assumes nothing.
+use mathlib.Core.Path.{◌≡◌}
 use mathlib.Core.Bool.{Bool, true, false}
 use Prim.Native.Nat.{ℕ, ◌*◌}
 use lib.IntN.{ℤ, pos, neg_ℤ, nat_abs, ◌*ℤ◌}
@@ -9,7 +10,7 @@ use Rattle.sheet_spec.specs.Limits.{max_command, max_divisor}
 use Rattle.machine_spec.specs.Machine.{outward_div}
 use Rattle.machine_spec.specs.Clamped.{ByComparison}
 use Rattle.machine_spec.proofs.Clamped.{clamped_by_comparison}
-use Rattle.boxes_arithmetic.specs.Limits.{AboveAsked, CommandAsked}
+use Rattle.boxes_arithmetic.specs.Limits.{AboveAsked, CommandAsked, WithinAsked}
 use Rattle.boxes_arithmetic.proofs.Quotient.{divisor_bound}
 
 -- a command times the divisor
@@ -49,3 +50,11 @@ module _ {l h q : ℤ} (asked : CommandAsked l h q) where
       above = omega (ints, mul_neg q h, neg (q *ℤ h), neg x, b);
       below = omega (ints, sub (neg_ℤ x) (q *ℤ neg_ℤ h), mul_neg q h, neg (q *ℤ h), neg x, a, least_near.at_most, greatest_near.at_most);
     }
+
+-- ---- the dividend x that the division is given, however the code comes by it
+
+pub given : {l h y q : ℤ} (x : ℤ) → WithinAsked l h x q → y ≡ x → WithinAsked l h y q
+given x asked e = rw e asked
+
+pub divided : (up v : Bool) (r x y p q : ℤ) → r ≡ outward_div v y (nat_abs p) → v ≡ up → y ≡ x → p ≡ q → r ≡ outward_div up x (nat_abs q)
+divided up v r x y p q is d e f = rw (d, e, f) at is

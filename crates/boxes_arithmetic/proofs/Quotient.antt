@@ -6,13 +6,13 @@ use native.Mathlib.Omega.{arith}
 use native.Mathlib.Nat.{div-le_self}
 use lib.Dec.{T}
 use lib.IntN.{ℤ, pos, negsuc, neg_ℤ, nat_abs, ◌+ℤ◌, ◌-ℤ◌, ◌*ℤ◌}
-use lib.Signed.{non_neg, yes_non_neg, ◌≤ℤ◌}
+use lib.Signed.{non_neg, yes_non_neg, ◌≤ℤ◌, ◌<ℤ◌}
 use mir.Syntax.{w32}
 use mir.Val.{Fits}
 use Rattle.integers.specs.Bound.{Bound}
 use Rattle.integers.specs.Order.{min_z}
 use Rattle.integers.specs.Division.{floor_div}
-use Rattle.integers.proofs.Z.{ints, flat, le_true, le_false, neg, min_is, max_is, bound_in, bound_mul}
+use Rattle.integers.proofs.Z.{ints, flat, le_true, le_false, neg, mul_mono, mul_neg, min_is, max_is, bound_in, bound_mul}
 use Rattle.integers.proofs.Rounding.{Close, floor_moved, floor_close, ceil_close, close_most, close_least}
 use Rattle.sheet_spec.specs.Limits.{max_command, max_divisor}
 use Rattle.sheet_spec.specs.Valid.{Between}
@@ -77,9 +77,17 @@ outward_close true x q h = ceil_close x q h
 pub turned : (z q : ℤ) → z *ℤ q ≡ q *ℤ z
 turned z q = simp flat (omega ints)
 
--- ---- z, the outermost so far, lies within the cap: what it says of a clamped number
+-- ---- z, the outermost so far, lies within the cap: what z·q says of ±q·cap, and z of a clamped number
 
 module _ {cap z : ℤ} (capped : Capped cap z) where
+  pub below_most : (x q : ℤ) → pos 1 ≤ℤ q → x <ℤ (z *ℤ q) → x <ℤ (q *ℤ cap)
+  below_most x q one h = let far = mul_mono q z cap (omega (ints, one)) capped.between.high in omega (ints, turned z q)
+
+  pub above_least : (x q : ℤ) → pos 1 ≤ℤ q → (z *ℤ q) <ℤ x → neg_ℤ (q *ℤ cap) <ℤ x
+  above_least x q one h =
+      let far = mul_mono q (neg_ℤ cap) z (omega (ints, one)) capped.between.low in
+      omega (ints, far, mul_neg q cap, turned z q)
+
   clamp_least : (y : ℤ) → z ≤ℤ y → z ≤ℤ clamp cap y
   unfolding clamp
   clamp_least y h = omega (ints, capped.between.low, capped.between.high, max_is (neg_ℤ cap) (min_z y cap), min_is y cap)

@@ -30,8 +30,8 @@ fn quotient_above(base: i64, dividend: i64, divisor: i64) -> i64
     i64::from(quotient) + base
 }
 
-// The quotient, rounded outward, of a dividend strictly between divisor·least and divisor·greatest.
-fn outward_div(up: bool, least: i64, greatest: i64, dividend: i64, divisor: i64) -> i64
+// The quotient, rounded outward (down for a lower face, up for an upper), of a dividend strictly between divisor·least and divisor·greatest.
+pub fn outward_div(up: bool, least: i64, greatest: i64, dividend: i64, divisor: i64) -> i64
     requires { WithinAsked least greatest dividend divisor }
     ensures { result ≡ outward_div up dividend (nat_abs divisor) }
 {
@@ -89,7 +89,7 @@ pub fn outer_quotient(up: bool, cap: i64, dividend: i64, divisor: i64, outermost
     let most = divisor * cap;
     if is_clamped(up, most, dividend) {
         return Outermost {
-            change: neutral(!up, cap),
+            change: if up { cap } else { -cap },
             capped: true,
         };
     }

@@ -15,6 +15,10 @@ unfolding outer_end
 outer_end_one P false a l h = cond_one P (lt_z a (pos 0)) h l
 outer_end_one P true a l h = cond_one P (lt_z a (pos 0)) l h
 
+-- the end that is chosen, however the code comes by the two
+pub same_end : {A : Type 0} (up : Bool) (r : A) (a b : ℤ) (l x h y : A) → r ≡ outer_end up b x y → b ≡ a → x ≡ l → y ≡ h → r ≡ outer_end up a l h
+same_end up r a b l x h y is d e f = rw (d, e, f) at is
+
 module _ {A : Type 0} (a : ℤ) (f : A → ℤ) (x y : A) (o : f x ≤ℤ f y) where
   negative : lt_z a (pos 0) ≡ true → (a *ℤ f y) ≤ℤ (a *ℤ f x)
   negative e = mul_anti a (f x) (f y) (let h = lt_true a (pos 0) e in omega (ints, h)) o

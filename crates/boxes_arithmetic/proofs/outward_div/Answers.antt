@@ -28,9 +28,6 @@ turned x q r e = ap neg_ℤ e
 pub overflow_sub-greatest : goal.overflow_sub-greatest
 overflow_sub-greatest c = simp (to_z-of_z, c.ranges.greatest, zero_less) (greatest_fits c.requires)
 
-pub overflow_sub-dividend : goal.overflow_sub-dividend
-overflow_sub-dividend c = simp (to_z-of_z, c.ranges.dividend, zero_less) (negative_fits c.requires)
-
 pub quotient_above-requires : goal.quotient_above-requires
 quotient_above-requires c =
     let a = c.requires in
