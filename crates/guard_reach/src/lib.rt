@@ -40,6 +40,7 @@ fn start_box(n: usize, start: &[u8]) -> [i64; BOX_SIZE]
 }
 
 // Law 0 is the plain law, any other the command: both are the C interface's numbers (include/guard.h).
+#[tactic(auto, unfolding(decision_spec::specs::ReachCall::law_of), using(integers::proofs::Z::from32))]
 fn law_of(law: u32, command: i32) -> Law
     ensures { result ≡ law_of law command }
 {

@@ -32,6 +32,14 @@ tells x y nx ny = by (le x y) (lt y x) refl refl
     by false true e f = refl
     by false false e f = absurd (subst T f (lt_of_not-le x y nx ny (T_from_false (le x y) e)))
 
+-- no float is less than itself
+pub not_below : (x : Float) → lt x x ≡ false
+not_below x = by (lt x x) refl
+  where
+    by : (b : Bool) → lt x x ≡ b → b ≡ false
+    by true e = absurd (lt_irrefl x (T_from_true (lt x x) e))
+    by false e = refl
+
 finite_number : (x : Float) → T (finite x) → NotNan x
 unfolding finite is_nan
 finite_number nan k = absurd k
