@@ -27,6 +27,7 @@ fn refused(refusal: Refusal) -> u64
     pack_refusal(u8::from(refusal))
 }
 
+#[tactic(auto, unfolding(decision_spec::specs::Calls::sheet_call, sheet_spec::specs::Refusals::unless_refused), using(sheet_spec::proofs::Valid::zeros_are))]
 #[unsafe(no_mangle)]
 pub extern "C" fn guard_sheet(sheet: &[u8]) -> u64
     ensures { result ≡ sheet_call sheet.now }
@@ -73,6 +74,7 @@ pub extern "C" fn guard_numbers() -> u64
     SLOTS as u64
 }
 
+#[tactic(auto, unfolding(decision_spec::specs::Calls::read_call, decision_spec::specs::Calls::read_out, sheet_spec::specs::Refusals::unless_refused))]
 #[unsafe(no_mangle)]
 pub extern "C" fn guard_sheet_read(sheet: &[u8], numbers: &mut [i32; SLOTS]) -> u64
     ensures value { result ≡ read_call sheet.now }
@@ -84,6 +86,7 @@ pub extern "C" fn guard_sheet_read(sheet: &[u8], numbers: &mut [i32; SLOTS]) -> 
     }
 }
 
+#[tactic(auto, unfolding(decision_spec::specs::Calls::write_call, decision_spec::specs::Calls::write_out, sheet_spec::specs::Refusals::unless_refused))]
 #[unsafe(no_mangle)]
 pub extern "C" fn guard_sheet_write(numbers: &[i32; SLOTS], buffer: &mut [u8], place: u64) -> u64
     ensures value { result ≡ write_call numbers.now buffer.old place }
