@@ -5,9 +5,10 @@ use lib.Dec.{lit≤}
 use mir.Facts.{to_z-of_z}
 use Rattle.integers.proofs.Z.{bits_is, bound_lit, bound_less, fits64}
 use Rattle.sheet_spec.specs.declared.BandKind.TheVariants.{Feedback}
-use Rattle.boxes_rates.specs.Limits.{end_over}
+use Rattle.boxes_rates.proofs.Terms.{same_end}
+use Rattle.boxes_rates.specs.Limits.{end_over, outer_end}
 use Rattle.boxes_rates.proofs.Ends.{band_among, ends_ordered, no_term}
-use Rattle.boxes_rates.proofs.Terms.{same_end, outer_product}
+use Rattle.boxes_rates.proofs.Terms.{outer_product}
 use Rattle.boxes_rates.proofs.commands.feedback_term.Goals as goal
 
 -- a coefficient of 0
@@ -26,7 +27,7 @@ returns-clause-baseline_term c =
     let end = c.end_over-command.ensures.feedback_end in
     let end_fits : FitsSigned w64 c.end_over-command.result = fits64 end.near tt in
     let product_near = c.product.ensures.1 in
-    let chosen = same_end a.up _ b _ false _ true _ c.outer_end-end.ensures (to_z-of_z c.ranges.coefficient) (grind arith) (grind arith) in
+    let chosen : c.outer_end-end.result ≡ outer_end a.up b false true = same_end a.up _ b _ false _ true _ c.outer_end-end.ensures (to_z-of_z c.ranges.coefficient) (grind arith) (grind arith) in
     rw (to_z-of_z (fits64 product_near tt)) (record {
       same = λ k p.
           c.product.ensures.0
