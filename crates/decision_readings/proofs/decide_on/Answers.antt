@@ -23,12 +23,12 @@ use Rattle.decision.specs.Limits.{DecisionAsked}
 use Rattle.decision_answers.specs.Decision.{reply_of}
 use Rattle.decision_readings.proofs.decide_on.Goals as goal
 
--- the refusal of n readings and their box, where n are the sheet's variables
+-- the refusal of n readings and their box, where n are the sheet's variables, however the code came to n
 refusal_at : (rs : List Reading) {r n m : ℕ} → r ≡ readings_refusal n rs → n ≡ m → r ≡ readings_refusal m rs
 refusal_at rs e n_is = e ∙ ap (λ (n : ℕ). readings_refusal n rs) n_is
 
-sides_at : (rs : List Reading) {B : List ℤ} {r n m : ℕ} → r ≡ sides_refusal n B → B ≡ readings_box n rs → n ≡ m → r ≡ sides_refusal m (readings_box m rs)
-sides_at rs e box n_is = e ∙ ap₂ sides_refusal n_is (box ∙ ap (λ (n : ℕ). readings_box n rs) n_is)
+sides_at : (rs : List Reading) {B : List ℤ} {r n k m : ℕ} → r ≡ sides_refusal n B → B ≡ readings_box k rs → n ≡ m → k ≡ m → r ≡ sides_refusal m (readings_box m rs)
+sides_at rs e box n_is k_is = e ∙ ap₂ sides_refusal n_is (box ∙ ap (λ (k : ℕ). readings_box k rs) k_is)
 
 -- head and readings passed
 module _ (v : List ℤ) (valid : ValidNumbers v) (h : List ℕ) (rs : List Reading) (head_none : 0 ≡ head_refusal v 0 h) (readings_none : 0 ≡ readings_refusal (vars v) rs) where
@@ -66,8 +66,8 @@ returns-in_err-sides_refusal c =
     let box = c.in_ok-measured.ensures in
     let p = err_from_is_err_and c.from_residual-in_err-sides_refusal.result c.from_residual-in_err-sides_refusal.ensures.1 in
     rw (p.1, p.2)
-    (found_stops refused _ (sides_at rs c.in_err-sides_refusal.ensures box.measured n_is) (laws.refused c.in_err-sides_refusal.field-0.0)
-    ∙ left c.args.sheet.now c.requires c.args.head.now rs c.in_ok-head.ensures.refusal (refusal_at rs box.refusal n_is))
+    (found_stops refused _ (sides_at rs c.in_err-sides_refusal.ensures box.measured n_is (omega (arith, n_is))) (laws.refused c.in_err-sides_refusal.field-0.0)
+    ∙ left c.args.sheet.now c.requires c.args.head.now rs c.in_ok-head.ensures.refusal (refusal_at rs box.refusal (omega (arith, n_is))))
 
 pub decision_to-requires : goal.decision_to-requires
 decision_to-requires c =
@@ -76,8 +76,8 @@ decision_to-requires c =
     let n_is = c.vars-n.ensures in
     let head = c.in_ok-head.ensures in
     let box = c.in_ok-measured.ensures in
-    subst (DecisionAsked v) (sym (read c.args.head.now rs head.head box.measured n_is))
-    (asked v c.requires c.args.head.now rs head.refusal (refusal_at rs box.refusal n_is) (sides_at rs c.in_ok-sides_refusal.ensures box.measured n_is))
+    subst (DecisionAsked v) (sym (read c.args.head.now rs head.head box.measured (omega (arith, n_is))))
+    (asked v c.requires c.args.head.now rs head.refusal (refusal_at rs box.refusal (omega (arith, n_is))) (sides_at rs c.in_ok-sides_refusal.ensures box.measured n_is (omega (arith, n_is))))
 
 pub returns : goal.returns
 returns c =
@@ -87,6 +87,6 @@ returns c =
     let n_is = c.vars-n.ensures in
     let head = c.in_ok-head.ensures in
     let box = c.in_ok-measured.ensures in
-    c.decision_to.ensures ∙ ap (decision_to v) (read h rs head.head box.measured n_is)
-    ∙ found_none refused _ (sides_at rs c.in_ok-sides_refusal.ensures box.measured n_is) refl
-    ∙ left v c.requires h rs head.refusal (refusal_at rs box.refusal n_is)
+    c.decision_to.ensures ∙ ap (decision_to v) (read h rs head.head box.measured (omega (arith, n_is)))
+    ∙ found_none refused _ (sides_at rs c.in_ok-sides_refusal.ensures box.measured n_is (omega (arith, n_is))) refl
+    ∙ left v c.requires h rs head.refusal (refusal_at rs box.refusal (omega (arith, n_is)))
